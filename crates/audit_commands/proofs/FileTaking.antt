@@ -73,8 +73,8 @@ hosts_of_logs [] = refl
 hosts_of_logs (l ∷ logs) = ap (λ hs. l.node.here ∷ hs) (hosts_of_logs logs)
 
 module _ (links : Cables) (all : List (List ℕ)) (i : ℕ) (n : ℕ) (name : List ℕ) (old mid new : FilesState) (r : Reckoning) (k : Along links all i old mid r) (less : i < length all) (is : name ≡ get_or all i name) (number : n ≡ i + 1) where
-  left : drop i all ≡ name ∷ drop (i + 1) all
-  left = drop_more all i name less ∙ ap (λ m. m ∷ drop (i + 1) all) (sym is)
+  left_from_here : drop i all ≡ name ∷ drop (i + 1) all
+  left_from_here = drop_more all i name less ∙ ap (λ m. m ∷ drop (i + 1) all) (sym is)
 
   names : take (i + 1) all ≡ take i all ++ name ∷ []
   names = (take_at_read all i name less).1 ∙ ap (λ m. take i all ++ m ∷ []) (sym is)
@@ -88,7 +88,7 @@ module _ (links : Cables) (all : List (List ℕ)) (i : ℕ) (n : ℕ) (name : Li
   -- what is said of the names that are left, by the first of them
   next_said : IsTrue old.observable → logs_said all [] old.held ≡ said_then (log_said n r.hosts name mid.held) (λ l. logs_said (drop (i + 1) all) (k.logs ++ l ∷ []) old.held)
   next_said seen =
-      k.said seen ∙ ap (λ ns. logs_said ns k.logs old.held) left
+      k.said seen ∙ ap (λ ns. logs_said ns k.logs old.held) left_from_here
       ∙ ap (λ m. said_then (log_said m (hosts_in k.logs) name old.held) (λ l. logs_said (drop (i + 1) all) (k.logs ++ l ∷ []) old.held)) log_is
       ∙ ap (λ hs. said_then (log_said n hs name old.held) (λ l. logs_said (drop (i + 1) all) (k.logs ++ l ∷ []) old.held)) (sym hosts)
       ∙ ap (λ f. said_then (log_said n r.hosts name f) (λ l. logs_said (drop (i + 1) all) (k.logs ++ l ∷ []) old.held)) (sym k.only.held)
@@ -115,23 +115,23 @@ module _ (links : Cables) (all : List (List ℕ)) (i : ℕ) (n : ℕ) (name : Li
   rest_named : MayNames (take (i + 1) all) old.asked new.asked → MayNames all old.asked new.asked
   rest_named m = subst (λ ns. MayNames ns old.asked new.asked) (take-append-drop (i + 1) all) (named_then (take (i + 1) all) (drop (i + 1) all) old.asked new.asked new.asked m (stays (drop (i + 1) all) new.asked))
 
-  stopped : (c : Cause) → Untaken (log_said n r.hosts name) mid new c → Untaken (logs_said all []) old new c
-  stopped (Refused q) u = (u.0, λ seen. next_said seen ∙ ap (λ s. said_then s (λ x. logs_said (drop (i + 1) all) (k.logs ++ x ∷ []) old.held)) (u.1 (seen_too seen)))
-  stopped ReadFault u = later_rose u
+  stop_is_untaken : (c : Cause) → Untaken (log_said n r.hosts name) mid new c → Untaken (logs_said all []) old new c
+  stop_is_untaken (Refused q) u = (u.0, λ seen. next_said seen ∙ ap (λ s. said_then s (λ x. logs_said (drop (i + 1) all) (k.logs ++ x ∷ []) old.held)) (u.1 (seen_too seen)))
+  stop_is_untaken ReadFault u = later_rose u
     where
       later_rose : HasRisen mid.read_faults new.read_faults → HasRisen old.read_faults new.read_faults
       later_rose h = omega (arith, h, k.only.later)
-  stopped NoMemory u = tt
-  stopped Done u = elim u [ ]
-  stopped Usage u = elim u [ ]
-  stopped WriteFault u = elim u [ ]
-  stopped LinkFault u = elim u [ ]
-  stopped SpawnFault u = elim u [ ]
-  stopped (NodesFailed h s) u = elim u [ ]
+  stop_is_untaken NoMemory u = tt
+  stop_is_untaken Done u = elim u [ ]
+  stop_is_untaken Usage u = elim u [ ]
+  stop_is_untaken WriteFault u = elim u [ ]
+  stop_is_untaken LinkFault u = elim u [ ]
+  stop_is_untaken SpawnFault u = elim u [ ]
+  stop_is_untaken (NodesFailed h s) u = elim u [ ]
 
   -- it wasn't taken
   pub along_stopped : (c : Cause) → Takes (log_said n r.hosts name) name mid new (Err c) → TakesLogs links all old new (Err c)
-  along_stopped c t = record { only = reads_both old mid new k.only t.only; asked = rest_named (grew t.asked); did = stopped c t.did }
+  along_stopped c t = record { only = reads_both old mid new k.only t.only; asked = rest_named (grew t.asked); did = stop_is_untaken c t.did }
 
   -- it was taken, and found no memory
   pub along_poor : (l : Log) → Takes (log_said n r.hosts name) name mid new (Ok l) → TakesLogs links all old new (Err NoMemory)

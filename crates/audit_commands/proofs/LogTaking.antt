@@ -55,17 +55,17 @@ module _ {A B : Type 0} (said : FileMap → Said A) (more : FileMap → A → Sa
   untaken_then (NodesFailed h s) u = elim u [ ]
 
 module _ (k : ℕ) (hosts : List Host) (said : FileMap → Said Log) (name : List ℕ) (old new : FilesState) where
-  judged : (l : Log) (b : Bool) → is_listed l.node.here hosts ≡ b → of_new_host k hosts l ≡ (if b then outside (OfLog k 2 TwiceNamed) else says l)
-  judged l b e = ap (λ t. if t then outside (OfLog k 2 TwiceNamed) else says l) e
+  host_is_judged : (l : Log) (b : Bool) → is_listed l.node.here hosts ≡ b → of_new_host k hosts l ≡ (if b then outside (OfLog k 2 TwiceNamed) else says l)
+  host_is_judged l b e = ap (λ t. if t then outside (OfLog k 2 TwiceNamed) else says l) e
 
   -- a log of a host that none before it has
   pub takes_new : (l : Log) → Takes said name old new (Ok l) → is_listed l.node.here hosts ≡ false → Takes (λ held. said_then (said held) (of_new_host k hosts)) name old new (Ok l)
-  takes_new l t e = record { only = t.only; asked = t.asked; did = λ seen. ap (λ s. said_then s (of_new_host k hosts)) (t.did seen) ∙ judged l false e }
+  takes_new l t e = record { only = t.only; asked = t.asked; did = λ seen. ap (λ s. said_then s (of_new_host k hosts)) (t.did seen) ∙ host_is_judged l false e }
 
   -- one of a host that a log before it has
   pub takes_twice : (l : Log) → Takes said name old new (Ok l) → is_listed l.node.here hosts ≡ true
       → Takes (λ held. said_then (said held) (of_new_host k hosts)) name old new (Err (Refused (OfLog k 2 TwiceNamed)))
-  takes_twice l t e = record { only = t.only; asked = t.asked; did = (tt, λ seen. ap (λ s. said_then s (of_new_host k hosts)) (t.did seen) ∙ judged l true e) }
+  takes_twice l t e = record { only = t.only; asked = t.asked; did = (tt, λ seen. ap (λ s. said_then s (of_new_host k hosts)) (t.did seen) ∙ host_is_judged l true e) }
 
   -- none
   pub takes_unread : (c : Cause) → Takes said name old new (Err c) → Takes (λ held. said_then (said held) (of_new_host k hosts)) name old new (Err c)

@@ -18,7 +18,7 @@ use Rattle.network_plan.specs.Rules.{IsLinkDevice, LinksApart}
 use Rattle.line_files.specs.declared.fault.LineReason.TheVariants.{BadHeader, BadWord, BadArgument, TwiceNamed, TooMany}
 use Rattle.line_files.specs.declared.fault.LineFault.{LineFault}
 use Rattle.line_files.specs.Lines.{lines}
-use Rattle.line_files.specs.Reads.{word_at, end_at, allowed, FileGives}
+use Rattle.line_files.specs.Reads.{word_at, end_at, allowed_or_reason, FileGives}
 use Rattle.line_files.specs.Numbers.{number_at}
 use Rattle.line_files.specs.FileNames.{file_name_at}
 use Rattle.line_files.proofs.FileLaws.{is_keeping}
@@ -65,9 +65,9 @@ record Keeps (s : AuditReading) : Type 0 where
 log_keeps : (ws : List (List ℕ)) (s : AuditReading) → Keeps s → IfRead Keeps (log_line ws s)
 unfolding log_line
 log_keeps ws s k =
-    then_keeps Keeps (allowed (ltb (length s.logs) 16) TooMany) _ (λ u hu.
+    then_keeps Keeps (allowed_or_reason (ltb (length s.logs) 16) TooMany) _ (λ u hu.
     then_keeps Keeps (file_name_at ws) _ (λ file hf.
-    then_keeps Keeps (allowed (not (is_named file.0 s.logs)) TwiceNamed) _ (λ v hv.
+    then_keeps Keeps (allowed_or_reason (not (is_named file.0 s.logs)) TwiceNamed) _ (λ v hv.
     then_keeps Keeps (end_at file.1) _ (λ w hw.
     done_keeps Keeps _ (record {
       few = omega (arith, length-append s.logs (file.0 ∷ []), allowed_below (length s.logs) 16 TooMany u hu);
@@ -93,7 +93,7 @@ device_is : (links : List Cable) (h : Host) (ws : List (List ℕ)) → IfRead (I
 unfolding device_end
 device_is links h ws =
     then_keeps (IsFree links h) (number_at 1 8 ws) _ (λ d hd.
-    then_keeps (IsFree links h) (allowed (not (has_link h (dev_of d.0) links)) TwiceNamed) _ (λ u hu.
+    then_keeps (IsFree links h) (allowed_or_reason (not (has_link h (dev_of d.0) links)) TwiceNamed) _ (λ u hu.
     done_keeps (IsFree links h) (dev_of d.0, d.1) (number_is 1 8 ws d hd, allowed_not (has_link h (dev_of d.0) links) TwiceNamed u hu)))
 
 link_keeps : (ws : List (List ℕ)) (s : AuditReading) → Keeps s → IfRead Keeps (link_line ws s)
@@ -102,7 +102,7 @@ link_keeps ws s k =
     then_keeps Keeps (host_end ws) _ (λ n hn.
     then_keeps Keeps (device_end s.links n.0 n.1) _ (λ d hd.
     then_keeps Keeps (host_end d.1) _ (λ m hm.
-    then_keeps Keeps (allowed (not (eqb m.0.0 n.0.0)) BadArgument) _ (λ u apart.
+    then_keeps Keeps (allowed_or_reason (not (eqb m.0.0 n.0.0)) BadArgument) _ (λ u apart.
     then_keeps Keeps (device_end s.links m.0 m.1) _ (λ e he.
     then_keeps Keeps (end_at e.1) _ (λ v hv.
     done_keeps Keeps (record s { links = s.links ++ (record { from = n.0; from_dev = d.0; to = m.0; to_dev = e.0 }) ∷ [] }) (record {

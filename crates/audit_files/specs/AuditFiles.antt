@@ -12,7 +12,7 @@ use Rattle.line_files.specs.declared.fault.LineReason.TheVariants.{BadHeader, Ba
 use Rattle.line_files.specs.declared.fault.LineFault.{LineFault}
 use Rattle.line_files.specs.declared.fault.LineFault.TheVariants as faults
 use Rattle.line_files.specs.Files.{Format, file_of}
-use Rattle.line_files.specs.Reads.{◌>>=◌, Part, word_at, end_at, allowed}
+use Rattle.line_files.specs.Reads.{◌>>=◌, Part, word_at, end_at, allowed_or_reason}
 use Rattle.line_files.specs.Numbers.{number_at}
 use Rattle.line_files.specs.FileNames.{file_name_at}
 use Rattle.node_files.specs.Parts.{header_line, usual_line}
@@ -29,9 +29,9 @@ audit_word w = if bytes_eq w (codes "log") then Some word.Log else (if bytes_eq 
 -- `log FILE` behind its first word: a log more, of at most 16
 unfoldable pub log_line : List (List ℕ) → AuditReading → Result AuditReading LineReason
 log_line ws s = do
-  _ ← allowed (nat_lt (length s.logs) 16) TooMany
+  _ ← allowed_or_reason (nat_lt (length s.logs) 16) TooMany
   file ← file_name_at ws
-  _ ← allowed (not (is_named file.0 s.logs)) TwiceNamed
+  _ ← allowed_or_reason (not (is_named file.0 s.logs)) TwiceNamed
   _ ← end_at file.1
   Ok (record s { logs = s.logs ++ file.0 ∷ [] })
 
@@ -45,7 +45,7 @@ host_end ws = do
 unfoldable pub device_end : List Cable → Host → List (List ℕ) → Part Dev
 device_end links h ws = do
   d ← number_at 1 8 ws
-  _ ← allowed (not (has_link h (dev_of d.0) links)) TwiceNamed
+  _ ← allowed_or_reason (not (has_link h (dev_of d.0) links)) TwiceNamed
   Ok (dev_of d.0, d.1)
 
 -- `link N D M E` behind its first word
@@ -54,7 +54,7 @@ link_line ws s = do
   n ← host_end ws
   d ← device_end s.links n.0 n.1
   m ← host_end d.1
-  _ ← allowed (not (m.0.0 == n.0.0)) BadArgument
+  _ ← allowed_or_reason (not (m.0.0 == n.0.0)) BadArgument
   e ← device_end s.links m.0 m.1
   _ ← end_at e.1
   Ok (record s { links = s.links ++ (record { from = n.0; from_dev = d.0; to = m.0; to_dev = e.0 }) ∷ [] })

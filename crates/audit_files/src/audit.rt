@@ -152,7 +152,7 @@ impl AuditReading {
 
     /// A line by its words.
     #[tactic(auto, unfolding(crate::specs::AuditFiles::audit_line))]
-    fn said(&mut self, alloc: Global, words: &mut Words<'_>) -> Result<(), LineStop>
+    fn line_by_words(&mut self, alloc: Global, words: &mut Words<'_>) -> Result<(), LineStop>
         ensures { Leaves result self.new (audit_line words.old self.old) }
     {
         let word = words.next()?;
@@ -181,7 +181,7 @@ impl AuditReading {
             return Ok(());
         }
         let mut words = Words::of(line);
-        match self.said(alloc, &mut words) {
+        match self.line_by_words(alloc, &mut words) {
             Ok(()) => Ok(()),
             Err(stop) => Err(stopped_at(number, stop)),
         }

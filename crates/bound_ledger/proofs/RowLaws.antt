@@ -174,11 +174,11 @@ grant_other f g n rows h = by (row_of g rows) refl
 pub families_changed : (move : Row → Row) (f : Family) (rows : List FamilyRow) → families_in (changed_rows move f rows) ≡ families_in rows
 unfolding changed_rows
 families_changed move f [] = refl
-families_changed move f (e ∷ es) = λ i. kept (same_family f e.0) refl i ∷ families_changed move f es i
+families_changed move f (e ∷ es) = λ i. family_is_kept (same_family f e.0) refl i ∷ families_changed move f es i
   where
-    kept : (b : Bool) → same_family f e.0 ≡ b → (change move f e).0 ≡ e.0
-    kept true t = ap (λ x. x.0) (change_own move f e t)
-    kept false t = ap (λ x. x.0) (change_other move f e t)
+    family_is_kept : (b : Bool) → same_family f e.0 ≡ b → (change move f e).0 ≡ e.0
+    family_is_kept true t = ap (λ x. x.0) (change_own move f e t)
+    family_is_kept false t = ap (λ x. x.0) (change_other move f e t)
 
 pub length_changed : (move : Row → Row) (f : Family) (rows : List FamilyRow) → length (changed_rows move f rows) ≡ length rows
 unfolding changed_rows

@@ -11,8 +11,8 @@ abbrev pub more : ℕ → Row → Row
 more n r = record { granted = r.granted + n; hops = r.hops; evals = r.evals; live = r.live + n; left = r.left }
 
 -- 1 of what is live pays a hop
-abbrev pub hopped : Row → Row
-hopped r = record { granted = r.granted; hops = r.hops + 1; evals = r.evals; live = r.live - 1; left = r.left }
+abbrev pub hop_paid : Row → Row
+hop_paid r = record { granted = r.granted; hops = r.hops + 1; evals = r.evals; live = r.live - 1; left = r.left }
 
 -- n of what is live pay evals
 abbrev pub paid : ℕ → Row → Row

@@ -1,5 +1,5 @@
 ghost use Rattle.std.specs.Prelude.{◌≡◌, ◌+◌, ◌-◌, ◌≤◌, ◌<◌, ◌^◌, [], ◌∷◌, ◌++◌, length, slice_get, Some, None, IfOk, IfSome, OnOk, OnErr};
-ghost use Rattle.bound_ledger.specs.Counts.{InBalance, hopped, paid, quit};
+ghost use Rattle.bound_ledger.specs.Counts.{InBalance, hop_paid, paid, quit};
 ghost use Rattle.bound_ledger.specs.Rows.{OneEach, row_of, counts_of, changed_rows, with_grant};
 
 use crate::key::FamilyKey;
@@ -104,7 +104,7 @@ impl Ledger {
                 Ok(())
             }
             None => {
-                self.push(f, Row::begun().with_grant(n))?;
+                self.push(f, Row::without_counts().with_grant(n))?;
                 Ok(())
             }
         }
@@ -113,7 +113,7 @@ impl Ledger {
     /// Moves 1 of what a family still has to its hops. Takes no memory. Condition: it still has 1.
     pub fn hop(&mut self, f: Family)
         requires live { 1 ≤ (counts_of f self.old).live }
-        ensures { self.new ≡ changed_rows hopped f self.old }
+        ensures { self.new ≡ changed_rows hop_paid f self.old }
     {
         let Some(place) = self.rows.get_mut(&FamilyKey::of(f)) else {
             return;

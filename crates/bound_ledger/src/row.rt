@@ -18,7 +18,7 @@ pub struct Row {
 
 impl Row {
     /// A row without counts.
-    pub fn begun() -> Row
+    pub fn without_counts() -> Row
         ensures row { result ≡ spec.nothing }
         ensures balanced { spec.InBalance result }
     {
@@ -49,7 +49,7 @@ impl Row {
     pub fn with_hop(self) -> Row
         requires balanced { spec.InBalance self }
         requires live { 1 ≤ self.live }
-        ensures row { result ≡ spec.hopped self }
+        ensures row { result ≡ spec.hop_paid self }
         ensures balanced { spec.InBalance result }
     {
         Row {

@@ -20,7 +20,7 @@ use Rattle.plan_base.specs.WellFormed.{formed_type, formed_type_level, well_form
 use Rattle.typing_rules.specs.Typing.{literal_type, HasTy, HaveTys, ClausesHaveTy}
 use Rattle.typing_rules.specs.Typing as y
 use Rattle.typing_rules.specs.TypingFills.{Fills}
-use Rattle.typing_rules.specs.TypingOrder.{annotated}
+use Rattle.typing_rules.specs.TypingOrder.{annotated_program}
 use Rattle.plan_base.proofs.SizeLaws.{type_depth_out}
 use Rattle.plan_base.proofs.FormLaws.{formed_type_out, formed_expr_out}
 use Rattle.typing_laws.proofs.Programs.{annotated_complete, fills_itself, depths_kept}
@@ -32,7 +32,7 @@ use Rattle.text_laws.specs.Proper as p
 use Rattle.text_laws.proofs.ProgramTokens.{program_lexes}
 use Rattle.round_trip.proofs.Within.{within_limits}
 use Rattle.round_trip.proofs.Declarations.{program_reads}
-use Rattle.program_text.specs.Texts.{placed, typed_of, program_of, Says}
+use Rattle.program_text.specs.Texts.{placed_result, typed_of, program_of, Says}
 use Rattle.program_text.proofs.Readings.{read_by}
 use Rattle.chunk_ranges.specs.Ranges.{catch_ranged, param_ranged, service_ranged}
 use Rattle.chunk_ranges.proofs.TestLaws.{between, int_fits, max_parts, fold_within, no_depth, clause_named, body_formed, named_rest}
@@ -129,8 +129,8 @@ join_clause c (d ∷ ds) n r b h = by_name c.name refl (named_first c d ds n) r
     by_name (Some x) e s k = p.and_clause x e k b h
 
 -- a call by its arguments, and two operands with what joins them
-called : (g : List ℕ) (es : List Expr) (e : Expr) → out-Expr e ≡ Expr-F.Call g es → formed_expr e ≡ true → exact e ≡ true → (list_all formed_expr es ≡ true → list_all exact es ≡ true → AreProper es) → IsProper e
-called g es e o f r k =
+call_is_proper : (g : List ℕ) (es : List Expr) (e : Expr) → out-Expr e ≡ Expr-F.Call g es → formed_expr e ≡ true → exact e ≡ true → (list_all formed_expr es ≡ true → list_all exact es ≡ true → AreProper es) → IsProper e
+call_is_proper g es e o f r k =
     let l = level_of e (Expr-F.Call g es) o f r in
     p.call g es o (left _ _ l.exact) (leb-true (length es) 8 (left _ _ l.formed)) (k (right (nat_le (length es) 8) _ l.formed) (right (is_name g) _ l.exact))
 
@@ -153,9 +153,9 @@ module _ (code : Program) where
     proper {e = e} (y.of_items g a q u o i k w) f r =
         let l = level_of e (Expr-F.Call g (a ∷ [])) o f r in
         p.call g (a ∷ []) o (left _ _ l.exact) (omega arith) (p.and_part (proper k (left _ _ (right (nat_le 1 8) _ l.formed)) (left _ _ (right (is_name g) _ l.exact))) p.no_parts)
-    proper {e = e} (y.primitive g es q ts o i k n w) f r = called g es e o f r (λ u v. propers n u v)
-    proper {e = e} (y.serving g es d o i k n w) f r = called g es e o f r (λ u v. propers n u v)
-    proper {e = e} (y.call g es at d o i j k m n w) f r = called g es e o f r (λ u v. propers n u v)
+    proper {e = e} (y.primitive g es q ts o i k n w) f r = call_is_proper g es e o f r (λ u v. propers n u v)
+    proper {e = e} (y.serving g es d o i k n w) f r = call_is_proper g es e o f r (λ u v. propers n u v)
+    proper {e = e} (y.call g es at d o i j k m n w) f r = call_is_proper g es e o f r (λ u v. propers n u v)
     proper {e = e} (y.choice a b d o i j k) f r =
         let l = level_of e (Expr-F.If a b d) o f r in
         p.choice a b d o (proper i (left _ _ l.formed) (left _ _ l.exact)) (proper j (left _ _ (right (formed_expr a) _ l.formed)) (left _ _ (right (exact a) _ l.exact))) (proper k (right _ _ (right (formed_expr a) _ l.formed)) (right _ _ (right (exact a) _ l.exact)))
@@ -275,5 +275,5 @@ program_found p k r =
     let h = program_proper p k r in
     let l = program_lexes p h 0 in
     let d = program_reads p l.0 (length (program_text p)) h (within_limits p k.formed) l.2 in
-    let found : annotated d.draft.program ≡ Ok p = ap annotated d.same ∙ annotated_complete p p (depths_kept p k.formed) (fills_itself p k.typed) k.typed in
-    read_by (program_text p) l.0 l.1 (Ok p) (ap typed_of d.is ∙ ap (placed d.draft.decl_at d.draft.node_at) found)
+    let found : annotated_program d.draft.program ≡ Ok p = ap annotated_program d.same ∙ annotated_complete p p (depths_kept p k.formed) (fills_itself p k.typed) k.typed in
+    read_by (program_text p) l.0 l.1 (Ok p) (ap typed_of d.is ∙ ap (placed_result d.draft.decl_at d.draft.node_at) found)

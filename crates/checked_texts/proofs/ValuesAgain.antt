@@ -208,8 +208,8 @@ pub arguments_again : (k : Chunk) → IsCheckedChunk k → list_all value_exact 
 unfolding well_formed_chunk
 arguments_again k c x = by_typing c.typed
   where
-    formed : (well_formed_program k.code && (nat_le (length k.args) 8 && list_all shallow k.args)) ≡ true
-    formed = sym (formed_chunk_is k) ∙ left _ _ c.formed
+    parts_are_formed : (well_formed_program k.code && (nat_le (length k.args) 8 && list_all shallow k.args)) ≡ true
+    parts_are_formed = sym (formed_chunk_is k) ∙ left _ _ c.formed
 
     by_typing : IsTypedChunk k → (i : ℕ) (v : Value) → slice_get k.args i ≡ Some v → IsReadBack v → Reads value_of (value_text v) v
-    by_typing (y.within at d t q s h n w) = arg_back h (right (nat_le (length k.args) 8) _ (right (well_formed_program k.code) _ formed)) x
+    by_typing (y.within at d t q s h n w) = arg_back h (right (nat_le (length k.args) 8) _ (right (well_formed_program k.code) _ parts_are_formed)) x

@@ -8,7 +8,7 @@ use Rattle.chunk_spelling.specs.declared.fault.SpellFault.{SpellFault}
 use Rattle.chunk_spelling.specs.declared.fault.SpellFault.TheVariants.{OverLimit}
 use Rattle.chunk_spelling.specs.declared.tags.ExprTag.{ExprTag}
 use Rattle.chunk_spelling.specs.declared.tags.TheConstants.{EXPR_TAGS}
-use Rattle.chunk_spelling.specs.Scan.{Scan, whole, number_field, table_field, tag_of, allowed}
+use Rattle.chunk_spelling.specs.Scan.{Scan, whole, number_field, table_field, tag_of, allowed_or_fault}
 use Rattle.chunk_spelling.specs.Exprs.{expr_tag_at}
 use Rattle.chunk_spelling.proofs.FieldLaws.{known_is, allowed_is}
 
@@ -21,8 +21,8 @@ nodes_kept : (s t : Scan) (b : ℕ) → number_field w8 s ≡ Ok (b, t) → t.no
 unfolding number_field
 nodes_kept s t b h = whole_nodes (number_at w8 s.front) s t b h
 
-allowed_not : {A : Type 0} (b : Bool) (e : SpellFault) (x : A × Scan) → b ≡ false → allowed b e x ≡ Err e
-allowed_not b e x h = ap (λ c. allowed c e x) h
+allowed_not : {A : Type 0} (b : Bool) (e : SpellFault) (x : A × Scan) → b ≡ false → allowed_or_fault b e x ≡ Err e
+allowed_not b e x h = ap (λ c. allowed_or_fault c e x) h
 
 module _ (room : ℕ) (s t : Scan) (b : ℕ) (tag : ExprTag) (read : number_field w8 s ≡ Ok (b, t)) (known : tag_of 0x20 EXPR_TAGS b ≡ Some tag) where
   table_is : table_field 0x20 EXPR_TAGS s ≡ Ok (tag, t)

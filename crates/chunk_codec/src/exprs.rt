@@ -22,7 +22,7 @@ pub fn expr_of(alloc: Global, s: &mut Source<'_>, room: u32) -> Result<Expr, Spe
 
 /// An expression in a box.
 #[cycle(exprs)]
-fn boxed(alloc: Global, s: &mut Source<'_>, room: u32) -> Result<Boxed<Expr>, SpellFault>
+fn boxed_expr(alloc: Global, s: &mut Source<'_>, room: u32) -> Result<Boxed<Expr>, SpellFault>
     ensures { Gives result s.new (expr_at room s.old) }
 {
     let expr = expr_of(alloc, s, room)?;
@@ -59,7 +59,7 @@ fn expr_with_tag(
         ExprTag::Then => sequence_behind(alloc, s, room),
         ExprTag::And => both_behind(alloc, s, room),
         ExprTag::Or => either_behind(alloc, s, room),
-        ExprTag::Not => Ok(Expr::Not(boxed(alloc, s, room - 1)?)),
+        ExprTag::Not => Ok(Expr::Not(boxed_expr(alloc, s, room - 1)?)),
         ExprTag::Binary => operation_behind(alloc, s, room),
         ExprTag::Part => part_behind(alloc, s, room),
         ExprTag::Raise => {
@@ -71,7 +71,7 @@ fn expr_with_tag(
         ExprTag::Foldl => fold_left_behind(alloc, s, room),
         ExprTag::Foldr => fold_right_behind(alloc, s, room),
         ExprTag::ChunkOf => packing_behind(alloc, s, room),
-        ExprTag::Eval => Ok(Expr::Eval(boxed(alloc, s, room - 1)?)),
+        ExprTag::Eval => Ok(Expr::Eval(boxed_expr(alloc, s, room - 1)?)),
         ExprTag::OnRemote => remote_behind(alloc, s, room),
         ExprTag::OnNeighbor => neighbour_behind(alloc, s, room),
     }
@@ -109,9 +109,9 @@ fn choice_behind(alloc: Global, s: &mut Source<'_>, room: u32) -> Result<Expr, S
     requires { 0 < room }
     ensures { Gives result s.new (expr_behind (expr_at (room - 1)) (clauses_at (clause_at (expr_at (room - 1)))) ExprTag.If s.old) }
 {
-    let first = boxed(alloc, s, room - 1)?;
-    let second = boxed(alloc, s, room - 1)?;
-    let third = boxed(alloc, s, room - 1)?;
+    let first = boxed_expr(alloc, s, room - 1)?;
+    let second = boxed_expr(alloc, s, room - 1)?;
+    let third = boxed_expr(alloc, s, room - 1)?;
     Ok(Expr::If(first, second, third))
 }
 
@@ -124,8 +124,8 @@ fn binding_behind(alloc: Global, s: &mut Source<'_>, room: u32) -> Result<Expr, 
 {
     let name = s.name(alloc)?;
     let ty = type_of(alloc, s, 8)?;
-    let first = boxed(alloc, s, room - 1)?;
-    let second = boxed(alloc, s, room - 1)?;
+    let first = boxed_expr(alloc, s, room - 1)?;
+    let second = boxed_expr(alloc, s, room - 1)?;
     Ok(Expr::Let(name, ty, first, second))
 }
 
@@ -136,8 +136,8 @@ fn sequence_behind(alloc: Global, s: &mut Source<'_>, room: u32) -> Result<Expr,
     requires { 0 < room }
     ensures { Gives result s.new (expr_behind (expr_at (room - 1)) (clauses_at (clause_at (expr_at (room - 1)))) ExprTag.Then s.old) }
 {
-    let first = boxed(alloc, s, room - 1)?;
-    let second = boxed(alloc, s, room - 1)?;
+    let first = boxed_expr(alloc, s, room - 1)?;
+    let second = boxed_expr(alloc, s, room - 1)?;
     Ok(Expr::Then(first, second))
 }
 
@@ -148,8 +148,8 @@ fn both_behind(alloc: Global, s: &mut Source<'_>, room: u32) -> Result<Expr, Spe
     requires { 0 < room }
     ensures { Gives result s.new (expr_behind (expr_at (room - 1)) (clauses_at (clause_at (expr_at (room - 1)))) ExprTag.And s.old) }
 {
-    let first = boxed(alloc, s, room - 1)?;
-    let second = boxed(alloc, s, room - 1)?;
+    let first = boxed_expr(alloc, s, room - 1)?;
+    let second = boxed_expr(alloc, s, room - 1)?;
     Ok(Expr::And(first, second))
 }
 
@@ -160,8 +160,8 @@ fn either_behind(alloc: Global, s: &mut Source<'_>, room: u32) -> Result<Expr, S
     requires { 0 < room }
     ensures { Gives result s.new (expr_behind (expr_at (room - 1)) (clauses_at (clause_at (expr_at (room - 1)))) ExprTag.Or s.old) }
 {
-    let first = boxed(alloc, s, room - 1)?;
-    let second = boxed(alloc, s, room - 1)?;
+    let first = boxed_expr(alloc, s, room - 1)?;
+    let second = boxed_expr(alloc, s, room - 1)?;
     Ok(Expr::Or(first, second))
 }
 
@@ -173,8 +173,8 @@ fn operation_behind(alloc: Global, s: &mut Source<'_>, room: u32) -> Result<Expr
     ensures { Gives result s.new (expr_behind (expr_at (room - 1)) (clauses_at (clause_at (expr_at (room - 1)))) ExprTag.Binary s.old) }
 {
     let op = s.operator()?;
-    let first = boxed(alloc, s, room - 1)?;
-    let second = boxed(alloc, s, room - 1)?;
+    let first = boxed_expr(alloc, s, room - 1)?;
+    let second = boxed_expr(alloc, s, room - 1)?;
     Ok(Expr::Binary(op, first, second))
 }
 
@@ -186,7 +186,7 @@ fn part_behind(alloc: Global, s: &mut Source<'_>, room: u32) -> Result<Expr, Spe
     ensures { Gives result s.new (expr_behind (expr_at (room - 1)) (clauses_at (clause_at (expr_at (room - 1)))) ExprTag.Part s.old) }
 {
     let number = s.count(Limit::Parts, 1, 8)?;
-    let first = boxed(alloc, s, room - 1)?;
+    let first = boxed_expr(alloc, s, room - 1)?;
     Ok(Expr::Part(number, first))
 }
 
@@ -197,7 +197,7 @@ fn handling_behind(alloc: Global, s: &mut Source<'_>, room: u32) -> Result<Expr,
     requires { 0 < room }
     ensures { Gives result s.new (expr_behind (expr_at (room - 1)) (clauses_at (clause_at (expr_at (room - 1)))) ExprTag.Try s.old) }
 {
-    let first = boxed(alloc, s, room - 1)?;
+    let first = boxed_expr(alloc, s, room - 1)?;
     let count = s.count(Limit::Clauses, 1, 8)?;
     let clauses = clauses_of(alloc, s, room - 1, count)?;
     Ok(Expr::Try(first, clauses))
@@ -211,8 +211,8 @@ fn fold_left_behind(alloc: Global, s: &mut Source<'_>, room: u32) -> Result<Expr
     ensures { Gives result s.new (expr_behind (expr_at (room - 1)) (clauses_at (clause_at (expr_at (room - 1)))) ExprTag.Foldl s.old) }
 {
     let name = s.name(alloc)?;
-    let first = boxed(alloc, s, room - 1)?;
-    let second = boxed(alloc, s, room - 1)?;
+    let first = boxed_expr(alloc, s, room - 1)?;
+    let second = boxed_expr(alloc, s, room - 1)?;
     Ok(Expr::Foldl(name, first, second))
 }
 
@@ -224,8 +224,8 @@ fn fold_right_behind(alloc: Global, s: &mut Source<'_>, room: u32) -> Result<Exp
     ensures { Gives result s.new (expr_behind (expr_at (room - 1)) (clauses_at (clause_at (expr_at (room - 1)))) ExprTag.Foldr s.old) }
 {
     let name = s.name(alloc)?;
-    let first = boxed(alloc, s, room - 1)?;
-    let second = boxed(alloc, s, room - 1)?;
+    let first = boxed_expr(alloc, s, room - 1)?;
+    let second = boxed_expr(alloc, s, room - 1)?;
     Ok(Expr::Foldr(name, first, second))
 }
 
@@ -249,9 +249,9 @@ fn remote_behind(alloc: Global, s: &mut Source<'_>, room: u32) -> Result<Expr, S
     requires { 0 < room }
     ensures { Gives result s.new (expr_behind (expr_at (room - 1)) (clauses_at (clause_at (expr_at (room - 1)))) ExprTag.OnRemote s.old) }
 {
-    let first = boxed(alloc, s, room - 1)?;
-    let second = boxed(alloc, s, room - 1)?;
-    let third = boxed(alloc, s, room - 1)?;
+    let first = boxed_expr(alloc, s, room - 1)?;
+    let second = boxed_expr(alloc, s, room - 1)?;
+    let third = boxed_expr(alloc, s, room - 1)?;
     let name = s.name(alloc)?;
     Ok(Expr::OnRemote(first, second, third, name))
 }
@@ -263,10 +263,10 @@ fn neighbour_behind(alloc: Global, s: &mut Source<'_>, room: u32) -> Result<Expr
     requires { 0 < room }
     ensures { Gives result s.new (expr_behind (expr_at (room - 1)) (clauses_at (clause_at (expr_at (room - 1)))) ExprTag.OnNeighbor s.old) }
 {
-    let first = boxed(alloc, s, room - 1)?;
-    let second = boxed(alloc, s, room - 1)?;
-    let third = boxed(alloc, s, room - 1)?;
-    let fourth = boxed(alloc, s, room - 1)?;
+    let first = boxed_expr(alloc, s, room - 1)?;
+    let second = boxed_expr(alloc, s, room - 1)?;
+    let third = boxed_expr(alloc, s, room - 1)?;
+    let fourth = boxed_expr(alloc, s, room - 1)?;
     Ok(Expr::OnNeighbor(first, second, third, fourth))
 }
 

@@ -212,10 +212,10 @@ called_fits : (room : ℕ) (f : List ℕ) (es : List Expr) → GoodLevel (suc ro
 called_fits room f es l h = (above room, (left _ _ l.ranged, ((nothing (length es), leb-true (length es) 8 (left _ _ l.formed), h), tt)))
 
 -- an expression by its outermost level
-rolled : (room : ℕ) (e : Expr) (x : Expr-F Expr Clause) → out-Expr e ≡ x → Good room e → ((r : ℕ) → GoodLevel (suc r) x → LevelFits r x) → (expr_core room).Fits e
+fits_by_level : (room : ℕ) (e : Expr) (x : Expr-F Expr Clause) → out-Expr e ≡ x → Good room e → ((r : ℕ) → GoodLevel (suc r) x → LevelFits r x) → (expr_core room).Fits e
 unfolding expr_core
-rolled zero e x o g h = absurd (no_expr_depth (out-Expr e) (let a = expr_depth_out e in let d = g.within in omega (arith, a, d)))
-rolled (suc r) e x o g h = subst (LevelFits r) (sym o) (h r (level_of e x o g))
+fits_by_level zero e x o g h = absurd (no_expr_depth (out-Expr e) (let a = expr_depth_out e in let d = g.within in omega (arith, a, d)))
+fits_by_level (suc r) e x o g h = subst (LevelFits r) (sym o) (h r (level_of e x o g))
 
 -- how deep the parts of an expression with a list of them may be
 parts_depth : (n r : ℕ) → 1 + n ≤ suc r → n ≤ r
@@ -224,49 +224,49 @@ parts_depth n r h = omega (arith, h)
 module _ (code : Program) where
   mutual
     pub expr_fits : {seen : ℕ} {c : List Param} {e : Expr} {t : Ty} → HasTy code seen c e t → (room : ℕ) → Good room e → (expr_core room).Fits e
-    expr_fits {e = e} {t = t} (y.literal o) room g = rolled room e (out-Expr e) refl g (λ r l. literal_fits r (out-Expr e) t o l)
-    expr_fits {e = e} (y.variable x o b) room g = rolled room e (Expr-F.Var x) o g (λ r l. (above r, (l.ranged, tt)))
-    expr_fits {e = e} (y.empty u o q s) room g = rolled room e (Expr-F.Nil (Some u)) o g (λ r l. (above r, (inner_type u l.formed (subst (λ z. type_depth z ≤ 8) q s), tt)))
-    expr_fits {e = e} {t = t} (y.raising x o i s) room g = rolled room e (Expr-F.Raise x (Some t)) o g (λ r l. (above r, (l.ranged, (whole_type t l.formed, tt))))
+    expr_fits {e = e} {t = t} (y.literal o) room g = fits_by_level room e (out-Expr e) refl g (λ r l. literal_fits r (out-Expr e) t o l)
+    expr_fits {e = e} (y.variable x o b) room g = fits_by_level room e (Expr-F.Var x) o g (λ r l. (above r, (l.ranged, tt)))
+    expr_fits {e = e} (y.empty u o q s) room g = fits_by_level room e (Expr-F.Nil (Some u)) o g (λ r l. (above r, (inner_type u l.formed (subst (λ z. type_depth z ≤ 8) q s), tt)))
+    expr_fits {e = e} {t = t} (y.raising x o i s) room g = fits_by_level room e (Expr-F.Raise x (Some t)) o g (λ r l. (above r, (l.ranged, (whole_type t l.formed, tt))))
     expr_fits {e = e} (y.tuple es ts o k q s) room g =
-        rolled room e (Expr-F.Tuple es) o g
+        fits_by_level room e (Expr-F.Tuple es) o g
         (λ r l. let n = between 2 8 (length es) (left _ _ l.formed) in (above r, ((n.0, n.1, parts_fit k r 0 (right _ _ l.formed) (parts_depth _ r l.within) l.ranged), tt)))
     expr_fits {e = e} (y.part i a ts o k q) room g =
-        rolled room e (Expr-F.Part i a) o g (λ r l. (above r, (between 1 8 i (left _ _ l.formed), (expr_fits k r (one r a (right _ _ l.formed) l.within l.ranged), tt))))
+        fits_by_level room e (Expr-F.Part i a) o g (λ r l. (above r, (between 1 8 i (left _ _ l.formed), (expr_fits k r (one r a (right _ _ l.formed) l.within l.ranged), tt))))
     expr_fits {e = e} (y.of_items f a p u o i k q) room g =
-        rolled room e (Expr-F.Call f (a ∷ [])) o g
+        fits_by_level room e (Expr-F.Call f (a ∷ [])) o g
         (λ r l. called_fits r f (a ∷ []) l (expr_fits k r (only r a (right (nat_le 1 8) _ l.formed) (parts_depth (max 0 (expr_depth a)) r l.within) (right (is_name f) _ l.ranged)), tt))
     expr_fits {e = e} (y.primitive f es p ts o i k n q) room g =
-        rolled room e (Expr-F.Call f es) o g (λ r l. called_fits r f es l (parts_fit n r 0 (right _ _ l.formed) (parts_depth _ r l.within) (right _ _ l.ranged)))
+        fits_by_level room e (Expr-F.Call f es) o g (λ r l. called_fits r f es l (parts_fit n r 0 (right _ _ l.formed) (parts_depth _ r l.within) (right _ _ l.ranged)))
     expr_fits {e = e} (y.serving f es d o i k n q) room g =
-        rolled room e (Expr-F.Call f es) o g (λ r l. called_fits r f es l (parts_fit n r 0 (right _ _ l.formed) (parts_depth _ r l.within) (right _ _ l.ranged)))
+        fits_by_level room e (Expr-F.Call f es) o g (λ r l. called_fits r f es l (parts_fit n r 0 (right _ _ l.formed) (parts_depth _ r l.within) (right _ _ l.ranged)))
     expr_fits {e = e} (y.call f es at d o i j k m n q) room g =
-        rolled room e (Expr-F.Call f es) o g (λ r l. called_fits r f es l (parts_fit n r 0 (right _ _ l.formed) (parts_depth _ r l.within) (right _ _ l.ranged)))
+        fits_by_level room e (Expr-F.Call f es) o g (λ r l. called_fits r f es l (parts_fit n r 0 (right _ _ l.formed) (parts_depth _ r l.within) (right _ _ l.ranged)))
     expr_fits {e = e} (y.choice a b d o i j k) room g =
-        rolled room e (Expr-F.If a b d) o g
+        fits_by_level room e (Expr-F.If a b d) o g
         (λ r l. let z = three r a b d l.formed l.within l.ranged in (above r, (expr_fits i r z.0, (expr_fits j r z.1, (expr_fits k r z.2, tt)))))
     expr_fits {e = e} (y.binder x u a b o i j) room g =
-        rolled room e (Expr-F.Let x u a b) o g
+        fits_by_level room e (Expr-F.Let x u a b) o g
         (λ r l. let z = two r a b (right _ _ l.formed) l.within (right _ _ l.ranged) in (above r, (left _ _ l.ranged, (whole_type u (left _ _ l.formed), (expr_fits i r z.0, (expr_fits j r z.1, tt))))))
     expr_fits {e = e} (y.sequence a b o i j) room g =
-        rolled room e (Expr-F.Then a b) o g (λ r l. let z = two r a b l.formed l.within l.ranged in (above r, (expr_fits i r z.0, (expr_fits j r z.1, tt))))
+        fits_by_level room e (Expr-F.Then a b) o g (λ r l. let z = two r a b l.formed l.within l.ranged in (above r, (expr_fits i r z.0, (expr_fits j r z.1, tt))))
     expr_fits {e = e} (y.both a b o i j q) room g =
-        rolled room e (Expr-F.And a b) o g (λ r l. let z = two r a b l.formed l.within l.ranged in (above r, (expr_fits i r z.0, (expr_fits j r z.1, tt))))
+        fits_by_level room e (Expr-F.And a b) o g (λ r l. let z = two r a b l.formed l.within l.ranged in (above r, (expr_fits i r z.0, (expr_fits j r z.1, tt))))
     expr_fits {e = e} (y.either a b o i j q) room g =
-        rolled room e (Expr-F.Or a b) o g (λ r l. let z = two r a b l.formed l.within l.ranged in (above r, (expr_fits i r z.0, (expr_fits j r z.1, tt))))
-    expr_fits {e = e} (y.negation a o i q) room g = rolled room e (Expr-F.Not a) o g (λ r l. (above r, (expr_fits i r (one r a l.formed l.within l.ranged), tt)))
+        fits_by_level room e (Expr-F.Or a b) o g (λ r l. let z = two r a b l.formed l.within l.ranged in (above r, (expr_fits i r z.0, (expr_fits j r z.1, tt))))
+    expr_fits {e = e} (y.negation a o i q) room g = fits_by_level room e (Expr-F.Not a) o g (λ r l. (above r, (expr_fits i r (one r a l.formed l.within l.ranged), tt)))
     expr_fits {e = e} (y.calculation op a b o k i j q) room g =
-        rolled room e (Expr-F.Binary op a b) o g (λ r l. let z = two r a b l.formed l.within l.ranged in (above r, (tt, (expr_fits i r z.0, (expr_fits j r z.1, tt)))))
+        fits_by_level room e (Expr-F.Binary op a b) o g (λ r l. let z = two r a b l.formed l.within l.ranged in (above r, (tt, (expr_fits i r z.0, (expr_fits j r z.1, tt)))))
     expr_fits {e = e} (y.join op a b o k i n j) room g =
-        rolled room e (Expr-F.Binary op a b) o g (λ r l. let z = two r a b l.formed l.within l.ranged in (above r, (tt, (expr_fits i r z.0, (expr_fits j r z.1, tt)))))
+        fits_by_level room e (Expr-F.Binary op a b) o g (λ r l. let z = two r a b l.formed l.within l.ranged in (above r, (tt, (expr_fits i r z.0, (expr_fits j r z.1, tt)))))
     expr_fits {e = e} (y.comparison op a b u o k i j q) room g =
-        rolled room e (Expr-F.Binary op a b) o g (λ r l. let z = two r a b l.formed l.within l.ranged in (above r, (tt, (expr_fits i r z.0, (expr_fits j r z.1, tt)))))
+        fits_by_level room e (Expr-F.Binary op a b) o g (λ r l. let z = two r a b l.formed l.within l.ranged in (above r, (tt, (expr_fits i r z.0, (expr_fits j r z.1, tt)))))
     expr_fits {e = e} (y.order op a b u o k i n j q) room g =
-        rolled room e (Expr-F.Binary op a b) o g (λ r l. let z = two r a b l.formed l.within l.ranged in (above r, (tt, (expr_fits i r z.0, (expr_fits j r z.1, tt)))))
+        fits_by_level room e (Expr-F.Binary op a b) o g (λ r l. let z = two r a b l.formed l.within l.ranged in (above r, (tt, (expr_fits i r z.0, (expr_fits j r z.1, tt)))))
     expr_fits {e = e} (y.prefix op a b u o k i j q s) room g =
-        rolled room e (Expr-F.Binary op a b) o g (λ r l. let z = two r a b l.formed l.within l.ranged in (above r, (tt, (expr_fits i r z.0, (expr_fits j r z.1, tt)))))
+        fits_by_level room e (Expr-F.Binary op a b) o g (λ r l. let z = two r a b l.formed l.within l.ranged in (above r, (tt, (expr_fits i r z.0, (expr_fits j r z.1, tt)))))
     expr_fits {e = e} (y.handling a ks o i j) room g =
-        rolled room e (Expr-F.Try a ks) o g
+        fits_by_level room e (Expr-F.Try a ks) o g
         (λ r l.
         let m = max_parts (expr_depth a) (largest_by clause_depth ks) r (parts_depth _ r l.within) in
         let n = between 1 8 (length ks) (left _ _ (left _ _ (right _ _ l.formed))) in (
@@ -274,18 +274,18 @@ module _ (code : Program) where
           (expr_fits i r (record { formed = left _ _ l.formed; within = m.0; ranged = left _ _ l.ranged }), ((n.0, n.1, clauses_fit j r 0 (right _ _ (left _ _ (right _ _ l.formed))) (right _ _ (right _ _ l.formed)) m.1 (right _ _ l.ranged)), tt)),
         ))
     expr_fits {e = e} (y.fold_left f a b at d u o p n k q i j) room g =
-        rolled room e (Expr-F.Foldl f a b) o g (λ r l. let z = two r a b l.formed l.within (right _ _ l.ranged) in (above r, (left _ _ l.ranged, (expr_fits i r z.0, (expr_fits j r z.1, tt)))))
+        fits_by_level room e (Expr-F.Foldl f a b) o g (λ r l. let z = two r a b l.formed l.within (right _ _ l.ranged) in (above r, (left _ _ l.ranged, (expr_fits i r z.0, (expr_fits j r z.1, tt)))))
     expr_fits {e = e} (y.fold_right f a b at d u o p n k q i j) room g =
-        rolled room e (Expr-F.Foldr f a b) o g (λ r l. let z = two r a b l.formed l.within (right _ _ l.ranged) in (above r, (left _ _ l.ranged, (expr_fits i r z.0, (expr_fits j r z.1, tt)))))
+        fits_by_level room e (Expr-F.Foldr f a b) o g (λ r l. let z = two r a b l.formed l.within (right _ _ l.ranged) in (above r, (left _ _ l.ranged, (expr_fits i r z.0, (expr_fits j r z.1, tt)))))
     expr_fits {e = e} (y.packing f es at d o p n k q) room g =
-        rolled room e (Expr-F.ChunkOf f es) o g
+        fits_by_level room e (Expr-F.ChunkOf f es) o g
         (λ r l. (above r, (left _ _ l.ranged, ((nothing (length es), leb-true (length es) 8 (left _ _ l.formed), parts_fit k r 0 (right _ _ l.formed) (parts_depth _ r l.within) (right _ _ l.ranged)), tt))))
-    expr_fits {e = e} (y.evaluation a o i q) room g = rolled room e (Expr-F.Eval a) o g (λ r l. (above r, (expr_fits i r (one r a l.formed l.within l.ranged), tt)))
+    expr_fits {e = e} (y.evaluation a o i q) room g = fits_by_level room e (Expr-F.Eval a) o g (λ r l. (above r, (expr_fits i r (one r a l.formed l.within l.ranged), tt)))
     expr_fits {e = e} (y.remote a b n x o i j k q) room g =
-        rolled room e (Expr-F.OnRemote a b n x) o g
+        fits_by_level room e (Expr-F.OnRemote a b n x) o g
         (λ r l. let z = three r a b n l.formed l.within (right _ _ l.ranged) in (above r, (expr_fits i r z.0, (expr_fits j r z.1, (expr_fits k r z.2, (left _ _ l.ranged, tt))))))
     expr_fits {e = e} (y.neighbour a b n d o i j k m q) room g =
-        rolled room e (Expr-F.OnNeighbor a b n d) o g
+        fits_by_level room e (Expr-F.OnNeighbor a b n d) o g
         (λ r l. let z = four r a b n d l.formed l.within l.ranged in (above r, (expr_fits i r z.0, (expr_fits j r z.1, (expr_fits k r z.2, (expr_fits m r z.3, tt))))))
 
     parts_fit : {seen : ℕ} {c : List Param} {es : List Expr} {ts : List Ty} → HaveTys code seen c es ts → (room m : ℕ) → list_all formed_expr es ≡ true

@@ -8,7 +8,7 @@ use Rattle.std.proofs.lemmas.Bool.{ltb-true, lt-ltb, leb-true, le-leb}
 use Rattle.wire_bytes.specs.Fields.{IsBytes}
 use Rattle.read_laws.specs.Reading.{◌>>=◌}
 use Rattle.read_laws.proofs.Binds.{ok_inj, some_inj, bind_ok, bind_is}
-use Rattle.read_laws.proofs.Agendas.{Goes, chain, one_step, made, idle}
+use Rattle.read_laws.proofs.Agendas.{Goes, chain, one_step, making_goes_on, idle}
 use Rattle.plan_base.specs.declared.limit.Limit.{Limit}
 use denote.Hole.Carrier.{roll, out}
 use Rattle.chunk_spelling.specs.declared.fault.SpellFault.{SpellFault}
@@ -27,8 +27,8 @@ use Rattle.plan_base.specs.declared.tree.Clause.{Clause, fold-Clause, fold_out-C
 use Rattle.chunk_spelling.specs.declared.tags.ExprTag.{ExprTag}
 use Rattle.chunk_spelling.specs.declared.tags.TheConstants.{EXPR_TAGS}
 use Rattle.chunk_spelling.specs.Items.{ChunkItem, an_expr, a_clause, several_clauses}
-use Rattle.chunk_spelling.specs.Scan.{Scan, Reader, flags, table_field, count_field, tag_of, allowed}
-use Rattle.chunk_spelling.specs.Parts.{Part, Core, Parts, PartValues, items_of_parts, bytes_of_parts, nodes_of_parts, FormFits, several, formed, tagged_at}
+use Rattle.chunk_spelling.specs.Scan.{Scan, Reader, flags, table_field, count_field, tag_of, allowed_or_fault}
+use Rattle.chunk_spelling.specs.Parts.{Part, Core, Parts, PartValues, items_of_parts, bytes_of_parts, nodes_of_parts, FormFits, several, tagged_part, tagged_at}
 use Rattle.chunk_spelling.specs.Fields.{flag_byte, sized_bytes, name_bytes, op_byte}
 use Rattle.chunk_spelling.specs.Types.{type_bytes, type_part}
 use Rattle.chunk_spelling.specs.Exprs.{expr_bytes, expr_bytes_level, clause_bytes, clause_bytes_level, catch_bytes, one_more, expr_tag_at, clause_tag_at, clause_forms, clause_of_parts, clause_parts_by, clause_part, is_none_left, clauses_from, clauses_at, ClausesFit, clauses_part, expr_forms, expr_of_parts, expr_parts, expr_from, expr_within, no_expr, expr_core, expr_part, expr_inner, one_below}
@@ -120,13 +120,13 @@ unfolding expr_tag_at
 expr_tag room = record {
   may = λ f g t e.
       let b = bind_ok (table_field 0x20 EXPR_TAGS f) _ _ e in
-      let c = bind_ok (allowed (nat_lt f.nodes 4096) (OverLimit Limit.Nodes f.front.at) b.first) _ _ b.then_read in
-      let d = bind_ok (allowed (nat_lt 0 room) (OverLimit Limit.Depth f.front.at) c.first) _ _ c.then_read in
+      let c = bind_ok (allowed_or_fault (nat_lt f.nodes 4096) (OverLimit Limit.Nodes f.front.at) b.first) _ _ b.then_read in
+      let d = bind_ok (allowed_or_fault (nat_lt 0 room) (OverLimit Limit.Depth f.front.at) c.first) _ _ c.then_read in
       ltb-true 0 room (allowed_ok _ _ c.first d.first d.read).0;
   takes = λ f g t h k e.
       let b = bind_ok (table_field 0x20 EXPR_TAGS f) _ _ e in
-      let c = bind_ok (allowed (nat_lt f.nodes 4096) (OverLimit Limit.Nodes f.front.at) b.first) _ _ b.then_read in
-      let d = bind_ok (allowed (nat_lt 0 room) (OverLimit Limit.Depth f.front.at) c.first) _ _ c.then_read in
+      let c = bind_ok (allowed_or_fault (nat_lt f.nodes 4096) (OverLimit Limit.Nodes f.front.at) b.first) _ _ b.then_read in
+      let d = bind_ok (allowed_or_fault (nat_lt 0 room) (OverLimit Limit.Depth f.front.at) c.first) _ _ c.then_read in
       let few = allowed_ok _ _ b.first c.first c.read in
       let there = allowed_ok _ _ c.first d.first d.read in
       let small = ltb-true f.nodes 4096 few.0 in
@@ -227,7 +227,7 @@ module _ (room : ℕ) (lawful : Lawful (expr_part room)) where
   from_goes (suc n) more f =
       chain step (a_clause (is_none_left n) room ∷ clause_items n room more) f (λ _. clause_items n room more) (λ _. more) ((clause_part (is_none_left n) room (expr_part room)).read f) _
       ((clause_lawful (is_none_left n)).goes (clause_items n room more) f)
-      (λ x _. made step (λ cs. x.0 ∷ cs) (clause_items n room more) x.1 more (clauses_from (λ last. (clause_part last room (expr_part room)).read) n x.1) (from_goes n more x.1))
+      (λ x _. making_goes_on step (λ cs. x.0 ∷ cs) (clause_items n room more) x.1 more (clauses_from (λ last. (clause_part last room (expr_part room)).read) n x.1) (from_goes n more x.1))
 
   pub clauses_lawful : Lawful (clauses_part room (expr_part room))
   unfolding clauses_at

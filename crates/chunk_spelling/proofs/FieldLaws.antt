@@ -6,7 +6,7 @@ use Rattle.std.proofs.lemmas.Bool.{ltb-true, ltb-false, le-ltb, lt-ltb}
 use Rattle.std.proofs.lemmas.Nat.{be_bytes_2, be_bytes_4, be_bytes_8, from_be_bytes-to_be_bytes_2, from_be_bytes-to_be_bytes_4, from_be_bytes-to_be_bytes_8}
 use Rattle.wire_bytes.specs.Fields.{Front, IsBytes, after, number_at, bytes_at, int_at}
 use Rattle.chunk_spelling.specs.declared.fault.SpellFault.{SpellFault}
-use Rattle.chunk_spelling.specs.Scan.{Scan, Reader, whole, number_field, bytes_field, int_field, known, allowed}
+use Rattle.chunk_spelling.specs.Scan.{Scan, Reader, whole, number_field, bytes_field, int_field, known_tag, allowed_or_fault}
 use mir.Val.{bits}
 use mir.ValLaws as laws
 use Rattle.std.proofs.lemmas.Int.{of_z-to_z, to_z-of_z}
@@ -164,16 +164,16 @@ bytes_again f g bs t = cut_again (length bs) (λ xs. xs) f g bs refl t
 
 -- ---- judgements
 
-pub known_ok : {T : Type 0} (o : Option T) (at : ℕ) (s g : Scan) (t : T) → known o at s ≡ Ok (t, g) → (o ≡ Some t) × (s ≡ g)
+pub known_ok : {T : Type 0} (o : Option T) (at : ℕ) (s g : Scan) (t : T) → known_tag o at s ≡ Ok (t, g) → (o ≡ Some t) × (s ≡ g)
 known_ok (Some u) at s g t e = let p = ok_inj e in (ap (λ q. Some q.0) p, ap (λ q. q.1) p)
 known_ok None at s g t e = cc
 
-pub known_is : {T : Type 0} (o : Option T) (at : ℕ) (s : Scan) (t : T) → o ≡ Some t → known o at s ≡ Ok (t, s)
-known_is o at s t e = ap (λ p. known p at s) e
+pub known_is : {T : Type 0} (o : Option T) (at : ℕ) (s : Scan) (t : T) → o ≡ Some t → known_tag o at s ≡ Ok (t, s)
+known_is o at s t e = ap (λ p. known_tag p at s) e
 
-pub allowed_ok : {A : Type 0} (b : Bool) (e : SpellFault) (x y : A × Scan) → allowed b e x ≡ Ok y → (b ≡ true) × (x ≡ y)
+pub allowed_ok : {A : Type 0} (b : Bool) (e : SpellFault) (x y : A × Scan) → allowed_or_fault b e x ≡ Ok y → (b ≡ true) × (x ≡ y)
 allowed_ok true e x y h = (refl, ok_inj h)
 allowed_ok false e x y h = cc
 
-pub allowed_is : {A : Type 0} (b : Bool) (e : SpellFault) (x : A × Scan) → b ≡ true → allowed b e x ≡ Ok x
-allowed_is b e x h = ap (λ c. allowed c e x) h
+pub allowed_is : {A : Type 0} (b : Bool) (e : SpellFault) (x : A × Scan) → b ≡ true → allowed_or_fault b e x ≡ Ok x
+allowed_is b e x h = ap (λ c. allowed_or_fault c e x) h

@@ -10,7 +10,7 @@ use Rattle.read_laws.specs.Reading.{◌>>=◌}
 use Rattle.read_laws.proofs.Binds.{ok_inj, some_inj, bind_ok, bind_is}
 use Rattle.read_laws.proofs.Agendas.{one_step}
 use Rattle.chunk_spelling.specs.Items.{a_flag, an_int, a_word, a_char, a_text, a_blob, a_name, an_operator, a_part_number}
-use Rattle.chunk_spelling.specs.Scan.{Scan, number_field, int_field, bytes_field, flag_field, char_field, text_field, blob_field, table_field, tag_of, flags, known, allowed, name_field, operator_field, count_field}
+use Rattle.chunk_spelling.specs.Scan.{Scan, number_field, int_field, bytes_field, flag_field, char_field, text_field, blob_field, table_field, tag_of, flags, known_tag, allowed_or_fault, name_field, operator_field, count_field}
 use Rattle.chunk_spelling.specs.Fields.{flag_byte, flag_part, int_part, word_part, char_part, text_part, blob_part, name_part, op_byte, op_part, part_number_part}
 use Rattle.chunk_spelling.specs.Steps.{step}
 use Rattle.chunk_spelling.proofs.Took.{Took, Took-bytes, Took-then, Took-first, Took-second, Took-as, between}
@@ -172,8 +172,8 @@ unfolding name_field
 name_lawful = record {
   takes = λ f g x h k e.
       let b = bind_ok (number_field w8 f) _ _ e in
-      let c = bind_ok (allowed (nat_le 1 b.first.0) (BadName f.front.at) b.first) _ _ b.then_read in
-      let d = bind_ok (allowed (nat_le c.first.0 32) (BadName f.front.at) c.first) _ _ c.then_read in
+      let c = bind_ok (allowed_or_fault (nat_le 1 b.first.0) (BadName f.front.at) b.first) _ _ b.then_read in
+      let d = bind_ok (allowed_or_fault (nat_le c.first.0 32) (BadName f.front.at) c.first) _ _ c.then_read in
       let r = bind_ok (bytes_field d.first.0 d.first.1) _ _ d.then_read in
       let low = allowed_ok _ _ b.first c.first c.read in
       let high = allowed_ok _ _ c.first d.first d.read in

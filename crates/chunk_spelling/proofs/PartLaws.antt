@@ -8,13 +8,13 @@ use Rattle.wire_bytes.specs.Fields.{IsBytes}
 use Rattle.read_laws.specs.Reading.{◌>>=◌, many}
 use Rattle.read_laws.specs.Agenda.{times}
 use Rattle.read_laws.proofs.Binds.{ok_inj, some_inj, bind_ok, bind_is, Bound}
-use Rattle.read_laws.proofs.Agendas.{Goes, chain, one_step, made, many_goes, idle}
+use Rattle.read_laws.proofs.Agendas.{Goes, chain, one_step, making_goes_on, many_goes, idle}
 use Rattle.plan_base.specs.declared.limit.Limit.{Limit}
 use Rattle.chunk_spelling.specs.declared.fault.SpellFault.{SpellFault}
 use Rattle.chunk_spelling.specs.declared.fault.SpellFault.TheVariants.{BadTag, OverLimit}
 use Rattle.chunk_spelling.specs.Items.{ChunkItem, counted, listed}
-use Rattle.chunk_spelling.specs.Scan.{Scan, Reader, number_field, count_field, allowed}
-use Rattle.chunk_spelling.specs.Parts.{Part, Parts, done, ◌&◌, PartValues, reads, bytes_of_parts, AllFit, nodes_of_parts, items_of_parts, EachFits, counted_at, several, listed_at, list_of, FormFits, tagged_at, formed, untagged_part}
+use Rattle.chunk_spelling.specs.Scan.{Scan, Reader, number_field, count_field, allowed_or_fault}
+use Rattle.chunk_spelling.specs.Parts.{Part, Parts, done, ◌&◌, PartValues, reads, bytes_of_parts, AllFit, nodes_of_parts, items_of_parts, EachFits, counted_at, several, listed_at, list_of, FormFits, tagged_at, tagged_part, untagged_part}
 use Rattle.chunk_spelling.specs.Steps.{step}
 use Rattle.chunk_spelling.proofs.Took.{Took, Took-bytes, Took-none, Took-then, Took-first, Took-second, Took-as, between, scan_is}
 use Rattle.chunk_spelling.proofs.FieldLaws.{byte_takes, byte_again, number_takes, number_again, wide16, allowed_ok, allowed_is}
@@ -104,10 +104,10 @@ module _ {T A : Type 0} (i : ChunkItem) (tag : Reader T) (Allowed : T → Type 0
     (form_is : (t : T) (xs : PartValues (forms t)) → parts (build t xs) ≡ Some (t, xs))
     (steps : (more : List ChunkItem) (f : Scan) → step i more f ≡ (tag f >>= λ t. Ok (items_of_parts (forms t.0) more, t.1))) where
   abbrev part : Part A
-  part = formed i tag Allowed forms build parts bytes nodes
+  part = tagged_part i tag Allowed forms build parts bytes nodes
 
-  built : (t : T) (xs : PartValues (forms t)) → FormIs byte cost forms build (Some (t, xs)) (build t xs) (bytes (build t xs)) (nodes (build t xs))
-  built t xs =
+  built_has_form : (t : T) (xs : PartValues (forms t)) → FormIs byte cost forms build (Some (t, xs)) (build t xs) (bytes (build t xs)) (nodes (build t xs))
+  built_has_form t xs =
       let P : Option ((u : T) × PartValues (forms u)) → Type 0 = λ o. FormIs byte cost forms build o (build t xs) (bytes (build t xs)) (nodes (build t xs)) in
       subst P (form_is t xs) (is_form (build t xs))
 
@@ -121,7 +121,7 @@ module _ {T A : Type 0} (i : ChunkItem) (tag : Reader T) (Allowed : T → Type 0
       let took = law.takes f m t h k b.read in
       let r = reads_takes (forms t) (lawful t allowed) (build t) m g x (Took-bytes took.0 h) took.1 b.then_read in
       let whole : Took f (byte t ∷ bytes_of_parts (forms t) r.held) (cost + nodes_of_parts (forms t) r.held) g = Took-then took.0 r.all.took in
-      let is = built t r.held in
+      let is = built_has_form t r.held in
       let fits : FormFits Allowed forms (parts (build t r.held)) =
       let P : Option ((u : T) × PartValues (forms u)) → Type 0 = FormFits Allowed forms in subst P (sym (form_is t r.held)) (allowed, r.all.fit) in
       let P : A → Type 0 = λ y. Taken part f y g in
@@ -197,7 +197,7 @@ pub count_takes : (limit : Limit) (least most : ℕ) (f g : Scan) (n : ℕ) → 
 unfolding count_field
 count_takes limit least most f g n h e =
     let b = bind_ok (number_field w8 f) _ _ e in
-    let c = bind_ok (allowed (nat_le least b.first.0) (BadTag f.front.at) b.first) _ _ b.then_read in
+    let c = bind_ok (allowed_or_fault (nat_le least b.first.0) (BadTag f.front.at) b.first) _ _ b.then_read in
     let x = allowed_ok _ _ b.first c.first c.read in
     let y = allowed_ok _ _ c.first (n, g) c.then_read in
     let same : b.first ≡ (n, g) = x.1 ∙ y.1 in

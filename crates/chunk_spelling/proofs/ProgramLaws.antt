@@ -8,7 +8,7 @@ use Rattle.std.proofs.lemmas.Bool.{ltb-true, lt-ltb, leb-true, le-leb}
 use Rattle.wire_bytes.specs.Fields.{IsBytes}
 use Rattle.read_laws.specs.Reading.{◌>>=◌}
 use Rattle.read_laws.proofs.Binds.{ok_inj, some_inj, bind_ok, bind_is}
-use Rattle.read_laws.proofs.Agendas.{Goes, chain, one_step, made, idle}
+use Rattle.read_laws.proofs.Agendas.{Goes, chain, one_step, making_goes_on, idle}
 use Rattle.plan_base.specs.declared.limit.Limit.{Limit}
 use denote.Hole.Carrier.{roll, out}
 use Rattle.chunk_spelling.specs.declared.fault.SpellFault.{SpellFault}
@@ -25,7 +25,7 @@ use Rattle.plan_base.specs.declared.tree.Param.{Param}
 use Rattle.plan_base.specs.declared.tree.Fun.{Fun}
 use Rattle.plan_base.specs.declared.tree.Program.{Program}
 use Rattle.chunk_spelling.specs.Items.{ChunkItem, a_parameter, a_service, a_function, a_program, code_end}
-use Rattle.chunk_spelling.specs.Scan.{Scan, Reader, allowed}
+use Rattle.chunk_spelling.specs.Scan.{Scan, Reader, allowed_or_fault}
 use Rattle.chunk_spelling.specs.Parts.{Part, Parts, PartValues, AllFit, reads, items_of_parts, bytes_of_parts, nodes_of_parts, several, untagged_part}
 use Rattle.chunk_spelling.specs.Fields.{name_bytes, name_part}
 use Rattle.chunk_spelling.specs.Types.{type_bytes, type_part}
@@ -78,7 +78,7 @@ program_nodes_is p =
     omega (arith, a, b)
 
 -- a judgement leaves what was read as it is
-pub judged_apart : {A B : Type 0} (b : Bool) (e : SpellFault) (x : A) (y : B) (s : Scan) → allowed b e (x, s) ≡ (allowed b e (y, s) >>= λ q. Ok (x, q.1))
+pub judged_apart : {A B : Type 0} (b : Bool) (e : SpellFault) (x : A) (y : B) (s : Scan) → allowed_or_fault b e (x, s) ≡ (allowed_or_fault b e (y, s) >>= λ q. Ok (x, q.1))
 judged_apart true e x y s = refl
 judged_apart false e x y s = refl
 

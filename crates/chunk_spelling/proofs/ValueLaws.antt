@@ -8,7 +8,7 @@ use Rattle.std.proofs.lemmas.Bool.{ltb-true, lt-ltb, leb-true, le-leb}
 use Rattle.wire_bytes.specs.Fields.{IsBytes}
 use Rattle.read_laws.specs.Reading.{◌>>=◌}
 use Rattle.read_laws.proofs.Binds.{ok_inj, some_inj, bind_ok, bind_is}
-use Rattle.read_laws.proofs.Agendas.{Goes, chain, one_step, made, idle}
+use Rattle.read_laws.proofs.Agendas.{Goes, chain, one_step, making_goes_on, idle}
 use Rattle.plan_base.specs.declared.limit.Limit.{Limit}
 use denote.Hole.Carrier.{roll, out}
 use Rattle.chunk_spelling.specs.declared.fault.SpellFault.{SpellFault}
@@ -25,7 +25,7 @@ use Rattle.plan_base.specs.declared.tree.Chunk.{Chunk, fold-Chunk, fold_out-Chun
 use Rattle.chunk_spelling.specs.declared.tags.ValueTag.{ValueTag}
 use Rattle.chunk_spelling.specs.declared.tags.TheConstants.{VALUE_TAGS}
 use Rattle.chunk_spelling.specs.Items.{ChunkItem, a_value, a_chunk, weight_end}
-use Rattle.chunk_spelling.specs.Scan.{Scan, Reader, table_field, tag_of, allowed}
+use Rattle.chunk_spelling.specs.Scan.{Scan, Reader, table_field, tag_of, allowed_or_fault}
 use Rattle.chunk_spelling.specs.Parts.{Part, Core, Parts, PartValues, AllFit, reads, items_of_parts, bytes_of_parts, nodes_of_parts, FormFits, several, list_of, tagged_at}
 use Rattle.chunk_spelling.specs.Fields.{flag_byte, sized_bytes, name_bytes, name_part}
 use Rattle.chunk_spelling.specs.Types.{type_bytes, type_part}

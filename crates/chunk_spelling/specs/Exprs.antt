@@ -13,8 +13,8 @@ use Rattle.chunk_spelling.specs.declared.fault.SpellFault.TheVariants.{BadTag, O
 use Rattle.chunk_spelling.specs.declared.tags.ExprTag.{ExprTag}
 use Rattle.chunk_spelling.specs.declared.tags.TheConstants.{EXPR_TAGS}
 use Rattle.chunk_spelling.specs.Items.{an_expr, a_clause, several_clauses}
-use Rattle.chunk_spelling.specs.Scan.{Scan, Reader, flags, table_field, count_field, allowed}
-use Rattle.chunk_spelling.specs.Parts.{Part, Core, Parts, done, ◌&◌, PartValues, FormFits, several, tagged_at, formed}
+use Rattle.chunk_spelling.specs.Scan.{Scan, Reader, flags, table_field, count_field, allowed_or_fault}
+use Rattle.chunk_spelling.specs.Parts.{Part, Core, Parts, done, ◌&◌, PartValues, FormFits, several, tagged_at, tagged_part}
 use Rattle.chunk_spelling.specs.Fields.{flag_byte, flag_part, int_part, word_part, char_part, text_part, blob_part, sized_bytes, name_bytes, name_part, op_byte, op_part, part_number_part}
 use Rattle.chunk_spelling.specs.Types.{type_bytes, type_part}
 
@@ -75,15 +75,15 @@ one_more x = (x.0, record x.1 { nodes = x.1.nodes + 1 })
 unfoldable pub expr_tag_at : ℕ → Reader ExprTag
 expr_tag_at room s = do
   tag ← table_field 0x20 EXPR_TAGS s
-  few ← allowed (nat_lt s.nodes 4096) (OverLimit Limit.Nodes s.front.at) tag
-  open_there ← allowed (nat_lt 0 room) (OverLimit Limit.Depth s.front.at) few
+  few ← allowed_or_fault (nat_lt s.nodes 4096) (OverLimit Limit.Nodes s.front.at) tag
+  open_there ← allowed_or_fault (nat_lt 0 room) (OverLimit Limit.Depth s.front.at) few
   Ok (one_more open_there)
 
 -- whether a clause has a name, by its tag: only the last may have none
 unfoldable pub clause_tag_at : Bool → Reader Bool
 clause_tag_at last s = do
   named ← table_field 0 flags s
-  allowed (named.0 || last) (BadTag s.front.at) named
+  allowed_or_fault (named.0 || last) (BadTag s.front.at) named
 
 abbrev pub clause_forms : Part Expr → Bool → Parts
 clause_forms inner false = inner & done
@@ -100,7 +100,7 @@ clause_parts_by inner (Some n) e = Some (true, (n, (e, tt)))
 -- a clause, which may be the last
 abbrev pub clause_part : Bool → ℕ → Part Expr → Part Clause
 clause_part last room inner =
-    formed (a_clause last room) (clause_tag_at last) (λ named. IsTrue (named || last)) (clause_forms inner) (clause_of_parts inner) (λ c. clause_parts_by inner c.name c.body) clause_bytes clause_nodes
+    tagged_part (a_clause last room) (clause_tag_at last) (λ named. IsTrue (named || last)) (clause_forms inner) (clause_of_parts inner) (λ c. clause_parts_by inner c.name c.body) clause_bytes clause_nodes
 
 abbrev pub is_none_left : ℕ → Bool
 is_none_left zero = true

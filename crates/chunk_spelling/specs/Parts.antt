@@ -99,9 +99,9 @@ tagged_at tag forms build s = do
   reads (forms t.0) (build t.0) t.1
 
 -- a construct: a tag that is allowed there, and the parts of its form
-abbrev pub formed : {T A : Type 0} → ChunkItem → Reader T → (T → Type 0) → (forms : T → Parts) → ((t : T) → PartValues (forms t) → A)
+abbrev pub tagged_part : {T A : Type 0} → ChunkItem → Reader T → (T → Type 0) → (forms : T → Parts) → ((t : T) → PartValues (forms t) → A)
     → (A → Option ((t : T) × PartValues (forms t))) → (A → List ℕ) → (A → ℕ) → Part A
-formed i tag Allowed forms build parts bytes nodes = record {
+tagged_part i tag Allowed forms build parts bytes nodes = record {
   item = i;
   read = tagged_at tag forms build;
   bytes = bytes;

@@ -11,7 +11,7 @@ use Rattle.plan_base.specs.declared.tree.Program.{Program}
 use Rattle.chunk_spelling.specs.declared.fault.SpellFault.{SpellFault}
 use Rattle.chunk_spelling.specs.declared.fault.SpellFault.TheVariants.{OverLimit}
 use Rattle.chunk_spelling.specs.Items.{a_parameter, a_service, a_function, a_program}
-use Rattle.chunk_spelling.specs.Scan.{Scan, Reader, allowed}
+use Rattle.chunk_spelling.specs.Scan.{Scan, Reader, allowed_or_fault}
 use Rattle.chunk_spelling.specs.Parts.{Part, Parts, done, ◌&◌, PartValues, AllFit, reads, several, untagged_part}
 use Rattle.chunk_spelling.specs.Fields.{name_bytes, name_part}
 use Rattle.chunk_spelling.specs.Types.{type_bytes, type_part}
@@ -71,7 +71,7 @@ counting_on nodes x = (x.0, counting nodes x.1)
 
 -- a program that began at start takes at most 16,000 bytes
 abbrev pub judged_code : {A : Type 0} → ℕ → A × Scan → Result (A × Scan) SpellFault
-judged_code start x = allowed (nat_le (x.1.front.at - start) 16000) (OverLimit Limit.Code start) x
+judged_code start x = allowed_or_fault (nat_le (x.1.front.at - start) 16000) (OverLimit Limit.Code start) x
 
 unfoldable pub program_at : Reader Program
 program_at s = do

@@ -39,24 +39,24 @@ unfoldable pub bytes_field : ℕ → Reader (List ℕ)
 bytes_field n s = whole (bytes_at n s.front) s
 
 -- what was read may stand there, or else is the fault
-abbrev pub allowed : {A : Type 0} → Bool → SpellFault → A × Scan → Result (A × Scan) SpellFault
-allowed true e x = Ok x
-allowed false e x = Err e
+abbrev pub allowed_or_fault : {A : Type 0} → Bool → SpellFault → A × Scan → Result (A × Scan) SpellFault
+allowed_or_fault true e x = Ok x
+allowed_or_fault false e x = Err e
 
 -- the tag with that number, where the first of the table has the number base
 abbrev pub tag_of : {T : Type 0} → ℕ → List T → ℕ → Option T
 tag_of base tags byte = if nat_lt byte base then None else slice_get tags (byte - base)
 
 -- a byte of the table, or a wrong tag
-abbrev pub known : {T : Type 0} → Option T → ℕ → Scan → Result (T × Scan) SpellFault
-known (Some t) at s = Ok (t, s)
-known None at s = Err (BadTag at)
+abbrev pub known_tag : {T : Type 0} → Option T → ℕ → Scan → Result (T × Scan) SpellFault
+known_tag (Some t) at s = Ok (t, s)
+known_tag None at s = Err (BadTag at)
 
 -- the next byte as one of a table
 unfoldable pub table_field : {T : Type 0} → ℕ → List T → Reader T
 table_field base tags s = do
   byte ← number_field w8 s
-  known (tag_of base tags byte.0) s.front.at byte.1
+  known_tag (tag_of base tags byte.0) s.front.at byte.1
 
 -- a truth value: 0 or 1
 abbrev pub flags : List Bool
@@ -73,7 +73,7 @@ is_scalar c = scalar c
 unfoldable pub char_field : Reader ℕ
 char_field s = do
   code ← number_field w32 s
-  allowed (is_scalar code.0) (BadUtf8 s.front.at) code
+  allowed_or_fault (is_scalar code.0) (BadUtf8 s.front.at) code
 
 -- bytes behind their length in two bytes
 unfoldable pub blob_field : Reader (List ℕ)
@@ -86,23 +86,23 @@ unfoldable pub text_field : Reader (List ℕ)
 text_field s = do
   size ← number_field w16 s
   text ← bytes_field size.0 size.1
-  allowed (is_utf8 text.0) (BadUtf8 size.1.front.at) text
+  allowed_or_fault (is_utf8 text.0) (BadUtf8 size.1.front.at) text
 
 -- a count in one byte, from least to most
 unfoldable pub count_field : Limit → ℕ → ℕ → Reader ℕ
 count_field limit least most s = do
   count ← number_field w8 s
-  enough ← allowed (nat_le least count.0) (BadTag s.front.at) count
-  allowed (nat_le enough.0 most) (OverLimit limit s.front.at) enough
+  enough ← allowed_or_fault (nat_le least count.0) (BadTag s.front.at) count
+  allowed_or_fault (nat_le enough.0 most) (OverLimit limit s.front.at) enough
 
 -- a name: its length, at least 1 and at most 32, and its bytes, which are a word that isn't reserved
 unfoldable pub name_field : Reader (List ℕ)
 name_field s = do
   size ← number_field w8 s
-  longer ← allowed (nat_le 1 size.0) (BadName s.front.at) size
-  fits ← allowed (nat_le longer.0 32) (BadName s.front.at) longer
+  longer ← allowed_or_fault (nat_le 1 size.0) (BadName s.front.at) size
+  fits ← allowed_or_fault (nat_le longer.0 32) (BadName s.front.at) longer
   name ← bytes_field fits.0 fits.1
-  allowed (is_name name.0) (BadName s.front.at) name
+  allowed_or_fault (is_name name.0) (BadName s.front.at) name
 
 -- an operator by its number
 unfoldable pub operator_field : Reader Op

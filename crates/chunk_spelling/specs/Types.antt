@@ -10,7 +10,7 @@ use Rattle.chunk_spelling.specs.declared.fault.SpellFault.TheVariants.{OverLimit
 use Rattle.chunk_spelling.specs.declared.tags.TypeTag.{TypeTag}
 use Rattle.chunk_spelling.specs.declared.tags.TheConstants.{TYPE_TAGS}
 use Rattle.chunk_spelling.specs.Items.{a_type}
-use Rattle.chunk_spelling.specs.Scan.{Scan, Reader, table_field, allowed}
+use Rattle.chunk_spelling.specs.Scan.{Scan, Reader, table_field, allowed_or_fault}
 use Rattle.chunk_spelling.specs.Parts.{Part, Core, Parts, done, ◌&◌, PartValues, FormFits, several, tagged_at}
 
 -- a type's bytes, by those of its parts
@@ -35,7 +35,7 @@ type_bytes = fold-Ty (List ℕ) (type_bytes_level (λ bytes. bytes))
 unfoldable pub type_tag_at : ℕ → Reader TypeTag
 type_tag_at room s = do
   tag ← table_field 0x00 TYPE_TAGS s
-  allowed (nat_lt 0 room) (OverLimit Limit.OfType s.front.at) tag
+  allowed_or_fault (nat_lt 0 room) (OverLimit Limit.OfType s.front.at) tag
 
 -- what stands behind each tag
 abbrev pub type_forms : Part Ty → TypeTag → Parts

@@ -12,7 +12,7 @@ use Rattle.chunk_spelling.specs.declared.fault.SpellFault.TheVariants.{OverLimit
 use Rattle.chunk_spelling.specs.declared.tags.ValueTag.{ValueTag}
 use Rattle.chunk_spelling.specs.declared.tags.TheConstants.{VALUE_TAGS}
 use Rattle.chunk_spelling.specs.Items.{a_value, a_chunk}
-use Rattle.chunk_spelling.specs.Scan.{Scan, Reader, table_field, allowed}
+use Rattle.chunk_spelling.specs.Scan.{Scan, Reader, table_field, allowed_or_fault}
 use Rattle.chunk_spelling.specs.Parts.{Part, Core, Parts, done, ◌&◌, PartValues, AllFit, FormFits, reads, several, list_of, tagged_at}
 use Rattle.chunk_spelling.specs.Fields.{flag_byte, flag_part, int_part, word_part, char_part, text_part, blob_part, sized_bytes, name_bytes, name_part}
 use Rattle.chunk_spelling.specs.Types.{type_bytes, type_part}
@@ -59,7 +59,7 @@ opening_limit _ = Limit.Depth
 unfoldable pub value_tag_at : ℕ → ℕ → Reader ValueTag
 value_tag_at nest room s = do
   tag ← table_field 0x10 VALUE_TAGS s
-  allowed (may_open nest room tag.0) (OverLimit (opening_limit tag.0) s.front.at) tag
+  allowed_or_fault (may_open nest room tag.0) (OverLimit (opening_limit tag.0) s.front.at) tag
 
 -- what stands behind each tag
 abbrev pub value_forms : Part Value → Part Chunk → ValueTag → Parts
@@ -143,7 +143,7 @@ abbrev pub light : ℕ → ℕ → Bool
 light nest size = if nest == 3 then nat_le (size + 1) 16384 else true
 
 abbrev pub judged_weight : {A : Type 0} → ℕ → ℕ → A × Scan → Result (A × Scan) SpellFault
-judged_weight nest start x = allowed (light nest (x.1.front.at - start)) (OverLimit Limit.Weight start) x
+judged_weight nest start x = allowed_or_fault (light nest (x.1.front.at - start)) (OverLimit Limit.Weight start) x
 
 unfoldable pub chunk_at : ℕ → Part Value → Reader Chunk
 chunk_at nest value s = do

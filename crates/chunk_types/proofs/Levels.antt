@@ -12,7 +12,7 @@ use Rattle.plan_base.specs.declared.tree.Chunk.{Chunk, out-Chunk, roll-out-Chunk
 use Rattle.plan_base.specs.Trees.{TyLayer, ValueLayer}
 use Rattle.typing_rules.specs.TypingNames.{param_types}
 use Rattle.plan_base.specs.SameTypes.{same_type}
-use Rattle.typing_rules.specs.TypingOrder.{fun_of, annotated}
+use Rattle.typing_rules.specs.TypingOrder.{fun_of, annotated_program}
 use Rattle.chunk_types.specs.declared.fault.Ill.{Ill}
 use Rattle.chunk_types.specs.declared.fault.Ill.TheVariants.{Count, Argument}
 use Rattle.chunk_types.specs.Chunks.{fit_all, fits_layer, fits, ill_from, ill_with, ill_call, ill_code, ill_level, sound_level, paired_right, is_small_chunk, sound, right, illness, is_right_chunk}
@@ -34,30 +34,30 @@ fits_out v t =
     ap (λ f. f t) (fold_out-Value (Ty → Bool) Bool (λ l t. fits_layer (λ f. f) l (out-Ty t)) (λ _. true) v)
     ∙ fits_step fits (fold-Chunk (Ty → Bool) Bool (λ l t. fits_layer (λ f. f) l (out-Ty t)) (λ _. true)) (out-Value v) (out-Ty t)
 
-abbrev paired : {X : Type 0} → (X → Bool) → X → (X × Bool)
-paired f x = (x, f x)
+abbrev paired_with_test : {X : Type 0} → (X → Bool) → X → (X × Bool)
+paired_with_test f x = (x, f x)
 
-ill_from-map : (n : ℕ) (vs : List Value) (ts : List Ty) → ill_from paired_right n (map (paired sound) vs) ts ≡ ill_from right n vs ts
+ill_from-map : (n : ℕ) (vs : List Value) (ts : List Ty) → ill_from paired_right n (map (paired_with_test sound) vs) ts ≡ ill_from right n vs ts
 ill_from-map n [] ts = refl
 ill_from-map n (v ∷ vs) [] = refl
 ill_from-map n (v ∷ vs) (t ∷ ts) = ap (λ o. if right v t then o else Some (Argument n)) (ill_from-map (min (n + 1) 255) vs ts)
 
-ill_with-map : (vs : List Value) (o : Option Fun) → ill_with paired_right (map (paired sound) vs) o ≡ ill_with right vs o
+ill_with-map : (vs : List Value) (o : Option Fun) → ill_with paired_right (map (paired_with_test sound) vs) o ≡ ill_with right vs o
 ill_with-map vs None = refl
-ill_with-map vs (Some d) = λ i. if length-map vs (paired sound) i == length d.params then ill_from-map 0 vs (param_types d.params) i else Some Count
+ill_with-map vs (Some d) = λ i. if length-map vs (paired_with_test sound) i == length d.params then ill_from-map 0 vs (param_types d.params) i else Some Count
 
 pub sound_chunk : (c : Chunk) → para-Chunk Bool Bool (sound_level (λ v. v.1) (λ c. is_small_chunk c.0 && c.1)) (λ c. not (is_some (ill_level paired_right c))) c ≡ not (is_some (illness c))
 unfolding sound illness
 sound_chunk c =
     ap (para-Chunk Bool Bool (sound_level (λ v. v.1) (λ c. is_small_chunk c.0 && c.1)) (λ c. not (is_some (ill_level paired_right c)))) (sym (roll-out-Chunk c))
     ∙ para-roll-Chunk Bool Bool (sound_level (λ v. v.1) (λ c. is_small_chunk c.0 && c.1)) (λ c. not (is_some (ill_level paired_right c))) (out-Chunk c)
-    ∙ ap (λ o. not (is_some (ill_code (annotated c.code) o))) (ill_with-map c.args (fun_of c.code c.entry))
+    ∙ ap (λ o. not (is_some (ill_code (annotated_program c.code) o))) (ill_with-map c.args (fun_of c.code c.entry))
 
 sound_step : (f : Value → Bool) (g h : Chunk → Bool) → ((c : Chunk) → g c ≡ h c) → (x : ValueLayer)
     → sound_level (λ v. v.1) (λ c. is_small_chunk c.0 && c.1) (map-Value Value Chunk (Value × Bool) (Chunk × Bool) (λ v. (v, f v)) (λ c. (c, g c)) x) ≡ sound_level f (λ c. is_small_chunk c && h c) x
 sound_step f g h e (Value-F.Chunk c) = ap (λ b. is_small_chunk c && b) (e c)
-sound_step f g h e (Value-F.List t vs) = list_all-map (λ v. v.1) (paired f) vs
-sound_step f g h e (Value-F.Tuple vs) = list_all-map (λ v. v.1) (paired f) vs
+sound_step f g h e (Value-F.List t vs) = list_all-map (λ v. v.1) (paired_with_test f) vs
+sound_step f g h e (Value-F.Tuple vs) = list_all-map (λ v. v.1) (paired_with_test f) vs
 sound_step f g h e _ = refl
 
 pub sound_out : (v : Value) → sound v ≡ sound_level sound is_right_chunk (out-Value v)
@@ -67,7 +67,7 @@ sound_out v =
     ∙ para-roll-Value Bool Bool (sound_level (λ v. v.1) (λ c. is_small_chunk c.0 && c.1)) (λ c. not (is_some (ill_level paired_right c))) (out-Value v)
     ∙ sound_step sound (para-Chunk Bool Bool (sound_level (λ v. v.1) (λ c. is_small_chunk c.0 && c.1)) (λ c. not (is_some (ill_level paired_right c)))) (λ c. not (is_some (illness c))) sound_chunk (out-Value v)
 
-pub illness_is : (c : Chunk) → illness c ≡ ill_code (annotated c.code) (ill_call right c.code c.entry c.args)
+pub illness_is : (c : Chunk) → illness c ≡ ill_code (annotated_program c.code) (ill_call right c.code c.entry c.args)
 unfolding illness
 illness_is c = refl
 

@@ -22,7 +22,7 @@ use Rattle.plan_base.proofs.FormLaws.{formed_value_out, formed_chunk_is, value_h
 use Rattle.typing_rules.specs.Typing.{Typed, HasType, unit, bool, int, char, str, blob, host, dev, list, tuple, chunk, HaveTypes, no_values, and_value, AllHaveType, no_items, and_item, IsTypedChunk, within}
 use Rattle.typing_rules.specs.TypingNames.{place_of, param_types}
 use Rattle.plan_base.specs.SameTypes.{same_type}
-use Rattle.typing_rules.specs.TypingOrder.{fun_of, annotated}
+use Rattle.typing_rules.specs.TypingOrder.{fun_of, annotated_program}
 use Rattle.plan_base.proofs.SameTypes.{out_same, same_type_true, same_type_itself}
 use Rattle.typing_laws.proofs.Programs.{annotated_sound, annotated_complete, fills_itself, fills_full, depths_kept}
 use Rattle.plan_types.specs.Kept.{IsChecked}
@@ -79,35 +79,35 @@ args_typed n ih i (v ∷ vs) (t ∷ ts) e w k h =
 call_typed : (n : ℕ) → Typing n → (c : Chunk) → Typed c.code → sum_by weight c.args ≤ n → chunk_nesting c ≤ 4 → 1 + chunk_weight c ≤ 16384 → list_all value_has_types c.args ≡ true → ill_call right c.code c.entry c.args ≡ None → IsTypedChunk c
 call_typed n ih c t w s m k h = place (place_of c.entry c.code.funs) refl h
   where
-    counted : (at : ℕ) (d : Fun) → place_of c.entry c.code.funs ≡ Some at → slice_get c.code.funs at ≡ Some d → (b : Bool) → (length c.args == length d.params) ≡ b → (if b then ill_from right 0 c.args (param_types d.params) else Some Count) ≡ None → IsTypedChunk c
-    counted at d p g false e r = absurd (cc)
-    counted at d p g true e r =
+    typed_where_counted : (at : ℕ) (d : Fun) → place_of c.entry c.code.funs ≡ Some at → slice_get c.code.funs at ≡ Some d → (b : Bool) → (length c.args == length d.params) ≡ b → (if b then ill_from right 0 c.args (param_types d.params) else Some Count) ≡ None → IsTypedChunk c
+    typed_where_counted at d p g false e r = absurd (cc)
+    typed_where_counted at d p g true e r =
         let same : length c.args ≡ length d.params = eqb-true (length c.args) (length d.params) e in
         let count : length c.args ≡ length (param_types d.params) = same ∙ sym (length-map d.params (λ p. p.ty)) in
         within at d t p g (args_typed n ih 0 c.args (param_types d.params) count w k r) s m
 
-    found : (at : ℕ) → place_of c.entry c.code.funs ≡ Some at → (o : Option Fun) → slice_get c.code.funs at ≡ o → ill_with right c.args o ≡ None → IsTypedChunk c
-    found at p None g r = absurd (cc)
-    found at p (Some d) g r = counted at d p g (length c.args == length d.params) refl r
+    typed_where_found : (at : ℕ) → place_of c.entry c.code.funs ≡ Some at → (o : Option Fun) → slice_get c.code.funs at ≡ o → ill_with right c.args o ≡ None → IsTypedChunk c
+    typed_where_found at p None g r = absurd (cc)
+    typed_where_found at p (Some d) g r = typed_where_counted at d p g (length c.args == length d.params) refl r
 
     place : (o : Option ℕ) → place_of c.entry c.code.funs ≡ o → ill_with right c.args (option_and_then (slice_get c.code.funs) o) ≡ None → IsTypedChunk c
     place None p r = absurd (cc)
-    place (Some at) p r = found at p (slice_get c.code.funs at) refl r
+    place (Some at) p r = typed_where_found at p (slice_get c.code.funs at) refl r
 
-typed_code : (code p : Program) → program_has_types code ≡ true → annotated code ≡ Ok p → Typed code
+typed_code : (code p : Program) → program_has_types code ≡ true → annotated_program code ≡ Ok p → Typed code
 typed_code code p k e =
     let a = annotated_sound code p e in
     subst (λ z. Typed z) (fills_full code p k a.0) a.1
 
 chunk_typed : (n : ℕ) → Typing n → (c : Chunk) → sum_by weight c.args ≤ n → chunk_nesting c ≤ 4 → 1 + chunk_weight c ≤ 16384 → chunk_has_types c ≡ true → illness c ≡ None → IsTypedChunk c
-chunk_typed n ih c w s m k h = go (annotated c.code) refl (sym (illness_is c) ∙ h)
+chunk_typed n ih c w s m k h = go (annotated_program c.code) refl (sym (illness_is c) ∙ h)
   where
-    kept : (program_has_types c.code && list_all value_has_types c.args) ≡ true
-    kept = sym (chunk_has_types_is c) ∙ k
+    parts_have_types : (program_has_types c.code && list_all value_has_types c.args) ≡ true
+    parts_have_types = sym (chunk_has_types_is c) ∙ k
 
-    go : (r : Result Program TypeFault) → annotated c.code ≡ r → ill_code r (ill_call right c.code c.entry c.args) ≡ None → IsTypedChunk c
+    go : (r : Result Program TypeFault) → annotated_program c.code ≡ r → ill_code r (ill_call right c.code c.entry c.args) ≡ None → IsTypedChunk c
     go (Err f) e r = absurd (cc)
-    go (Ok p) e r = call_typed n ih c (typed_code c.code p (and_left (program_has_types c.code) (list_all value_has_types c.args) kept) e) w s m (and_right (program_has_types c.code) (list_all value_has_types c.args) kept) r
+    go (Ok p) e r = call_typed n ih c (typed_code c.code p (and_left (program_has_types c.code) (list_all value_has_types c.args) parts_have_types) e) w s m (and_right (program_has_types c.code) (list_all value_has_types c.args) parts_have_types) r
 
 none_of : {X : Type 0} (o : Option X) → not (is_some o) ≡ true → o ≡ None
 none_of None h = refl
@@ -162,8 +162,8 @@ typing (suc n) v t w k f o =
 
 -- ---- and the other way
 
-shaped : (v : Value) (t : Ty) (l : ValueLayer) (u : Ty) (m : TyLayer) → out-Value v ≡ l → t ≡ u → out-Ty u ≡ m → fits_layer fits l m ≡ true → sound_level sound is_right_chunk l ≡ true → (fits v t ≡ true) × (sound v ≡ true)
-shaped v t l u m e q g f o = (
+sound_by_level : (v : Value) (t : Ty) (l : ValueLayer) (u : Ty) (m : TyLayer) → out-Value v ≡ l → t ≡ u → out-Ty u ≡ m → fits_layer fits l m ≡ true → sound_level sound is_right_chunk l ≡ true → (fits v t ≡ true) × (sound v ≡ true)
+sound_by_level v t l u m e q g f o = (
   fits_out v t ∙ (λ i. fits_layer fits (e i) ((ap out-Ty q ∙ g) i)) ∙ f,
   sound_out v ∙ (λ i. sound_level sound is_right_chunk (e i)) ∙ o,
 )
@@ -191,24 +191,24 @@ code_right k t f h =
 
 mutual
   pub shape_by : {v : Value} {t : Ty} → HasType v t → formed_value v ≡ true → (fits v t ≡ true) × (sound v ≡ true)
-  shape_by {v} {t} (unit e q) f = shaped v t Value-F.Unit ty.Unit Ty-F.Unit e q ty.outs-Unit refl refl
-  shape_by {v} {t} (bool b e q) f = shaped v t (Value-F.Bool b) ty.Bool Ty-F.Bool e q ty.outs-Bool refl refl
-  shape_by {v} {t} (int n e q) f = shaped v t (Value-F.Int n) ty.Int Ty-F.Int e q ty.outs-Int refl refl
-  shape_by {v} {t} (char n e q) f = shaped v t (Value-F.Char n) ty.Char Ty-F.Char e q ty.outs-Char refl refl
-  shape_by {v} {t} (str s e q) f = shaped v t (Value-F.Str s) ty.Str Ty-F.Str e q ty.outs-Str refl refl
-  shape_by {v} {t} (blob b e q) f = shaped v t (Value-F.Blob b) ty.Blob Ty-F.Blob e q ty.outs-Blob refl refl
-  shape_by {v} {t} (host h e q) f = shaped v t (Value-F.Host h) ty.Host Ty-F.Host e q ty.outs-Host refl refl
-  shape_by {v} {t} (dev d e q) f = shaped v t (Value-F.Dev d) ty.Dev Ty-F.Dev e q ty.outs-Dev refl refl
+  shape_by {v} {t} (unit e q) f = sound_by_level v t Value-F.Unit ty.Unit Ty-F.Unit e q ty.outs-Unit refl refl
+  shape_by {v} {t} (bool b e q) f = sound_by_level v t (Value-F.Bool b) ty.Bool Ty-F.Bool e q ty.outs-Bool refl refl
+  shape_by {v} {t} (int n e q) f = sound_by_level v t (Value-F.Int n) ty.Int Ty-F.Int e q ty.outs-Int refl refl
+  shape_by {v} {t} (char n e q) f = sound_by_level v t (Value-F.Char n) ty.Char Ty-F.Char e q ty.outs-Char refl refl
+  shape_by {v} {t} (str s e q) f = sound_by_level v t (Value-F.Str s) ty.Str Ty-F.Str e q ty.outs-Str refl refl
+  shape_by {v} {t} (blob b e q) f = sound_by_level v t (Value-F.Blob b) ty.Blob Ty-F.Blob e q ty.outs-Blob refl refl
+  shape_by {v} {t} (host h e q) f = sound_by_level v t (Value-F.Host h) ty.Host Ty-F.Host e q ty.outs-Host refl refl
+  shape_by {v} {t} (dev d e q) f = sound_by_level v t (Value-F.Dev d) ty.Dev Ty-F.Dev e q ty.outs-Dev refl refl
   shape_by {v} {t} (list u vs e q h) f =
       let z = level_formed v (Value-F.List u vs) e f in
       let y = and_right (formed_type u && nat_le (type_depth u) 7) (nat_le (length vs) 65535 && list_all formed_value vs) z in
       let r = items_by h (and_right (nat_le (length vs) 65535) (list_all formed_value vs) y) in
-      shaped v t (Value-F.List u vs) (ty.List u) (Ty-F.List u) e q (ty.outs-List u) (and_both (same_type u u) (list_all (λ v. fits v u) vs) (same_type_itself u) r.0) r.1
+      sound_by_level v t (Value-F.List u vs) (ty.List u) (Ty-F.List u) e q (ty.outs-List u) (and_both (same_type u u) (list_all (λ v. fits v u) vs) (same_type_itself u) r.0) r.1
   shape_by {v} {t} (tuple vs ts e q h) f =
       let z = level_formed v (Value-F.Tuple vs) e f in
       let r = parts_by h (and_right (nat_le 2 (length vs) && nat_le (length vs) 8) (list_all formed_value vs) z) in
-      shaped v t (Value-F.Tuple vs) (ty.Tuple ts) (Ty-F.Tuple ts) e q (ty.outs-Tuple ts) r.0 r.1
-  shape_by {v} {t} (chunk k e q h) f = shaped v t (Value-F.Chunk k) ty.Chunk Ty-F.Chunk e q ty.outs-Chunk refl (and_both (is_small_chunk k) (not (is_some (illness k))) (within_limits k h) (none_is (illness k) (chunk_by h (level_formed v (Value-F.Chunk k) e f))))
+      sound_by_level v t (Value-F.Tuple vs) (ty.Tuple ts) (Ty-F.Tuple ts) e q (ty.outs-Tuple ts) r.0 r.1
+  shape_by {v} {t} (chunk k e q h) f = sound_by_level v t (Value-F.Chunk k) ty.Chunk Ty-F.Chunk e q ty.outs-Chunk refl (and_both (is_small_chunk k) (not (is_some (illness k))) (within_limits k h) (none_is (illness k) (chunk_by h (level_formed v (Value-F.Chunk k) e f))))
 
   items_by : {u : Ty} {vs : List Value} → AllHaveType u vs → list_all formed_value vs ≡ true → (list_all (λ v. fits v u) vs ≡ true) × (list_all sound vs ≡ true)
   items_by no_items f = (refl, refl)

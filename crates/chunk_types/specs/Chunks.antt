@@ -14,7 +14,7 @@ use Rattle.plan_base.specs.WellFormed.{IsWellFormedChunk, ChunkHasTypes}
 use Rattle.typing_rules.specs.Typing.{IsTypedChunk}
 use Rattle.typing_rules.specs.TypingNames.{param_types}
 use Rattle.plan_base.specs.SameTypes.{same_type}
-use Rattle.typing_rules.specs.TypingOrder.{fun_of, annotated}
+use Rattle.typing_rules.specs.TypingOrder.{fun_of, annotated_program}
 use Rattle.chunk_types.specs.declared.fault.Ill.{Ill}
 use Rattle.chunk_types.specs.declared.fault.Ill.TheVariants.{Code, Entry, Count, Argument}
 use Rattle.chunk_types.specs.declared.fault.ChunkFault.{ChunkFault}
@@ -66,7 +66,7 @@ ill_code (Err f) next = Some (Code f)
 ill_code (Ok p) next = next
 
 abbrev pub ill_level : {X Y : Type 0} → (X → Ty → Bool) → Chunk-F X Y → Option Ill
-ill_level right c = ill_code (annotated c.code) (ill_call right c.code c.entry c.args)
+ill_level right c = ill_code (annotated_program c.code) (ill_call right c.code c.entry c.args)
 
 -- one level of a value, of which each chunk inside is typed
 abbrev pub sound_level : {X Y : Type 0} → (X → Bool) → (Y → Bool) → Value-F X Y → Bool
@@ -92,7 +92,7 @@ right v t = fits v t && sound v
 
 -- what comes first that is wrong with a chunk, its own size aside
 unfoldable pub illness : Chunk → Option Ill
-illness c = ill_code (annotated c.code) (ill_call right c.code c.entry c.args)
+illness c = ill_code (annotated_program c.code) (ill_call right c.code c.entry c.args)
 
 -- whether a chunk is within the limits of size and nothing is wrong with it
 abbrev pub is_right_chunk : Chunk → Bool

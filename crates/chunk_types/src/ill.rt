@@ -11,7 +11,7 @@ use crate::shape::fits;
 use plan_base::{Chunk, Name, NoMemory, Param, Program, Ty, Value};
 use plan_equality::Same;
 use plan_sizes::{chunk_nesting, chunk_weight};
-use plan_types::{Checked, fun_of, refused};
+use plan_types::{Checked, first_refusal, fun_of};
 use std::alloc::Global;
 
 /// Whether a chunk is within the limits of size. Takes no memory.
@@ -54,7 +54,7 @@ pub fn illness_by(
 fn illness(alloc: Global, chunk: &Chunk) -> Result<Option<Ill>, NoMemory>
     ensures { IfOk result (λ o. o ≡ spec.illness chunk.now) }
 {
-    match refused(alloc, chunk.code.get())? {
+    match first_refusal(alloc, chunk.code.get())? {
         Some(fault) => Ok(Some(Ill::Code(fault))),
         None => ill_call(alloc, chunk.code.get(), &chunk.entry, chunk.args.as_slice()),
     }

@@ -122,7 +122,7 @@ pub fn chunk_of(
         return Err(ChunkFault::Ill(ill));
     }
     let chunk = Chunk {
-        code: program.shared()?,
+        code: program.share_program()?,
         entry: entry.copy(alloc)?,
         args,
     };

@@ -75,7 +75,7 @@ const LINK_FAULT: (u8, &[u8]) = (5, b"planet: link fault\n");
 
 const WRITE_FAULT: (u8, &[u8]) = (4, b"planet: write fault\n");
 
-fn stopped(stop: &Stop) -> End {
+fn end_at_stop(stop: &Stop) -> End {
     End {
         code: stop.1.0,
         note: stop.1.1,
@@ -87,7 +87,13 @@ fn stopped(stop: &Stop) -> End {
 
 // Whether the node ends so where a call fails, and afterwards serves whole.
 fn stops(alloc: Global, stop: &Stop) -> bool {
-    ends(alloc, &SERVES, &fails_at(stop.0), &stopped(stop), &SERVED)
+    ends(
+        alloc,
+        &SERVES,
+        &fails_at(stop.0),
+        &end_at_stop(stop),
+        &SERVED,
+    )
 }
 
 // The binding, two receivings, the sending, and two receivings.

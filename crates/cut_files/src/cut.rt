@@ -187,7 +187,7 @@ impl CutReading {
 
     /// The line with a word. Reasons: `BadWord`, `BadNumber`, `BadArgument`.
     #[tactic(auto, unfolding(crate::specs::Cuts::wanted_line))]
-    fn wanted(
+    fn line_of_word(
         &mut self,
         alloc: Global,
         word: CutWord,
@@ -228,7 +228,7 @@ impl CutReading {
             return Ok(());
         }
         let mut words = Words::of(line);
-        match self.wanted(alloc, word, &mut words) {
+        match self.line_of_word(alloc, word, &mut words) {
             Ok(()) => Ok(()),
             Err(stop) => Err(stopped_at(number, stop)),
         }

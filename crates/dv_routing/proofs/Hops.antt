@@ -31,7 +31,7 @@ hop_by_route r x = hop_by_row (routes_to r r.hosts) x ∙ ap hop_of (rows_for r 
 
 pub hop_leads : (r : Routing) (name : List ℕ) (x m : Host) (d : Dev) → hop (all_routes r) name r.here x ≡ To m d → LeadsBy r x m d
 unfolding hop
-hop_leads r name x m d e = named (bytes_eq name default_route) e
+hop_leads r name x m d e = named_service_leads (bytes_eq name default_route) e
   where
     by_route : (o : Option RouteRow) → route r x ≡ o → hop_of o ≡ To m d → LeadsBy r x m d
     by_route None h k = absurd (none k)
@@ -55,9 +55,9 @@ hop_leads r name x m d e = named (bytes_eq name default_route) e
         record { row = own_route r.here; by = sym (ap (route r) same) ∙ route_own r; to = same ∙ to; over = over }
     own false h k = among (is_among r.hosts x) (sym (hop_by_route r x) ∙ k)
 
-    named : (t : Bool) → cond (not t) NoService (cond (eqb r.here.0 x.0) (To x own_device) (hop_in (all_routes r) x)) ≡ To m d → LeadsBy r x m d
-    named true k = own (eqb r.here.0 x.0) refl k
-    named false k = absurd (none k)
+    named_service_leads : (t : Bool) → cond (not t) NoService (cond (eqb r.here.0 x.0) (To x own_device) (hop_in (all_routes r) x)) ≡ To m d → LeadsBy r x m d
+    named_service_leads true k = own (eqb r.here.0 x.0) refl k
+    named_service_leads false k = absurd (none k)
       where
         none : NoService ≡ To m d → ⊥
         none same = cc

@@ -44,16 +44,16 @@ module _ (code : Program) (seen : ℕ) (at : Spot) (s : VisitState) (a : Expr) (
   taken_by d None there is some = absurd (some refl)
 
   -- the clause at that place takes it
-  pub taken : (m : ℕ) → first_from 1 ks x ≡ Some m
+  pub clause_takes_it : (m : ℕ) → first_from 1 ks x ≡ Some m
       → Leads (resume code seen at (frame.Part n held) (quiet (stopped (Raised x) s))) (next_step code seen at (next.Open (frame.Last m)) s)
-  taken m from =
+  clause_takes_it m from =
       let p = first_place 1 ks x m from in
       let place : m ≡ suc p.0 = omega (arith, p.1) in
       rw place (taken_by p.0 (handler ks x) p.2 refl (first_some 1 ks x m from))
 
   -- no clause takes it
-  pub passed : first_from 1 ks x ≡ None → (resume code seen at (frame.Part n held) (quiet (stopped (Raised x) s))).after ≡ stopped (Raised x) s
-  passed none = (caught code seen at s a ks n held x form).same ∙ rw (handled_none code seen at.env ks x (first_nowhere 1 ks x none)) refl
+  pub no_clause_takes : first_from 1 ks x ≡ None → (resume code seen at (frame.Part n held) (quiet (stopped (Raised x) s))).after ≡ stopped (Raised x) s
+  no_clause_takes none = (caught code seen at s a ks n held x form).same ∙ rw (handled_none code seen at.env ks x (first_nowhere 1 ks x none)) refl
 
 -- ---- what passes an exception on
 

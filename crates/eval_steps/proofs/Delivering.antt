@@ -13,11 +13,11 @@ use Rattle.plan_base.specs.Trees.{ExprLayer}
 use Rattle.typing_rules.specs.TypingNames.{place_of}
 use Rattle.plan_meaning.specs.declared.stop.EvalStop.TheVariants.{Raised}
 use Rattle.plan_meaning.specs.State.{VisitState}
-use Rattle.plan_meaning.specs.Run.{Run, gave, stopped, quiet, raise, weighed, ◌>>=◌}
-use Rattle.plan_meaning.specs.Meaning.{Env, meaning, bound, entered, visited, handled, catches}
+use Rattle.plan_meaning.specs.Run.{Run, gave, stopped, quiet, raise, weighed_value, ◌>>=◌}
+use Rattle.plan_meaning.specs.Meaning.{Env, meaning, bound, entered_function, visited_chunk, handled_exception, catches}
 use Rattle.visit_state.specs.Handlers.{handler}
 use Rattle.eval_steps.specs.declared.stack_frame.StackFrame.TheVariants as frame
-use Rattle.eval_steps.specs.Stack.{Spot, behind, along, resumed, resume, first_from}
+use Rattle.eval_steps.specs.Stack.{Spot, behind, along, resumed_layer, resume, first_from}
 use Rattle.eval_steps.specs.Leads.{Leads}
 use Rattle.eval_steps.specs.Nexts.{fold_on}
 use Rattle.eval_steps.proofs.Leading.{itself, given_on}
@@ -35,53 +35,53 @@ IsNoTry _ = Unit {0}
 module _ (code : Program) (seen : ℕ) (at : Spot) (s : VisitState) where
   -- a part hands its value on
   pub part_given : (l : ExprLayer) (n : ℕ) (held : List Value) (v : Value)
-      → Leads (resumed code seen l at.env n held (quiet (gave v s))) ((behind code seen l at.env n held v >>= weighed) s)
+      → Leads (resumed_layer code seen l at.env n held (quiet (gave v s))) ((behind code seen l at.env n held v >>= weighed_value) s)
   part_given (Expr-F.Try a ks) n held v = record { same = refl; safe = λ k. (tt, k.1) }
-  part_given l n held v = given_on v s (λ w. behind code seen l at.env n held w >>= weighed)
+  part_given l n held v = given_on v s (λ w. behind code seen l at.env n held w >>= weighed_value)
 
-  pub last_given : (n : ℕ) (v : Value) → Leads (resume code seen at (frame.Last n) (quiet (gave v s))) (weighed v s)
-  last_given n v = given_on v s weighed
+  pub last_given : (n : ℕ) (v : Value) → Leads (resume code seen at (frame.Last n) (quiet (gave v s))) (weighed_value v s)
+  last_given n v = given_on v s weighed_value
 
-  pub bound_given : (w v : Value) → Leads (resume code seen at (frame.Bound w) (quiet (gave v s))) (weighed v s)
-  bound_given w v = given_on v s weighed
+  pub bound_given : (w v : Value) → Leads (resume code seen at (frame.Bound w) (quiet (gave v s))) (weighed_value v s)
+  bound_given w v = given_on v s weighed_value
 
-  pub body_given : (v : Value) → Leads (resume code seen at frame.Body (quiet (gave v s))) (weighed v s)
-  body_given v = given_on v s weighed
+  pub body_given : (v : Value) → Leads (resume code seen at frame.Body (quiet (gave v s))) (weighed_value v s)
+  body_given v = given_on v s weighed_value
 
   pub item_given : (left : List Value) (v : Value) → Leads (resume code seen at (frame.Items left) (quiet (gave v s))) (fold_on code seen at v left s)
-  item_given left v = given_on v s (λ w. along code seen (out-Expr at.expr) w left >>= weighed)
+  item_given left v = given_on v s (λ w. along code seen (out-Expr at.expr) w left >>= weighed_value)
 
-  pub chunk_given : (v : Value) → Leads (resume code seen at frame.Chunk (quiet (gave v s))) (weighed value.Unit s)
+  pub chunk_given : (v : Value) → Leads (resume code seen at frame.Chunk (quiet (gave v s))) (weighed_value value.Unit s)
   chunk_given v = record { same = refl; safe = λ k. k.1.1 }
 
   -- an exception passes every frame but that of a `try`
   pub raised_part : (l : ExprLayer) → IsNoTry l → (n : ℕ) (held : List Value) (x : Exn)
-      → Leads (resumed code seen l at.env n held (quiet (stopped (Raised x) s))) (quiet (stopped (Raised x) s))
+      → Leads (resumed_layer code seen l at.env n held (quiet (stopped (Raised x) s))) (quiet (stopped (Raised x) s))
   raised_part (Expr-F.Try a ks) h n held x = absurd h
   raised_part l h n held x = record { same = refl; safe = λ k. tt }
 
   -- the clauses of a `try` take it
   pub caught : (a : Expr) (ks : List Clause) (n : ℕ) (held : List Value) (x : Exn) → out-Expr at.expr ≡ Expr-F.Try a ks
-      → Leads (resume code seen at (frame.Part n held) (quiet (stopped (Raised x) s))) ((handled meaning code seen at.env ks x >>= weighed) s)
+      → Leads (resume code seen at (frame.Part n held) (quiet (stopped (Raised x) s))) ((handled_exception meaning code seen at.env ks x >>= weighed_value) s)
   caught a ks n held x form = rw form (record { same = refl; safe = λ k. (k.0.1, k.1) })
 
 -- ---- clauses
 
-handled_split : (code : Program) (seen : ℕ) (env : Env) (ks : List Clause) (x : Exn) → handled meaning code seen env ks x ≡ handled_by code seen env (handler ks x) x
+handled_split : (code : Program) (seen : ℕ) (env : Env) (ks : List Clause) (x : Exn) → handled_exception meaning code seen env ks x ≡ handled_by code seen env (handler ks x) x
 handled_split code seen env [] x = refl
 handled_split code seen env (k ∷ ks) x = go (catches k.name x) (handled_split code seen env ks x)
   where
-    go : (t : Bool) → handled meaning code seen env ks x ≡ handled_by code seen env (handler ks x) x
-        → (if t then meaning code seen env k.body else handled meaning code seen env ks x) ≡ handled_by code seen env (if t then Some k.body else handler ks x) x
+    go : (t : Bool) → handled_exception meaning code seen env ks x ≡ handled_by code seen env (handler ks x) x
+        → (if t then meaning code seen env k.body else handled_exception meaning code seen env ks x) ≡ handled_by code seen env (if t then Some k.body else handler ks x) x
     go true h = refl
     go false h = h
 
 -- the body that takes an exception gives what follows
-pub handled_some : (code : Program) (seen : ℕ) (env : Env) (ks : List Clause) (x : Exn) (body : Expr) → handler ks x ≡ Some body → handled meaning code seen env ks x ≡ meaning code seen env body
+pub handled_some : (code : Program) (seen : ℕ) (env : Env) (ks : List Clause) (x : Exn) (body : Expr) → handler ks x ≡ Some body → handled_exception meaning code seen env ks x ≡ meaning code seen env body
 handled_some code seen env ks x body is = handled_split code seen env ks x ∙ ap (λ o. handled_by code seen env o x) is
 
 -- without one it goes on
-pub handled_none : (code : Program) (seen : ℕ) (env : Env) (ks : List Clause) (x : Exn) → handler ks x ≡ None → handled meaning code seen env ks x ≡ raise x
+pub handled_none : (code : Program) (seen : ℕ) (env : Env) (ks : List Clause) (x : Exn) → handler ks x ≡ None → handled_exception meaning code seen env ks x ≡ raise x
 handled_none code seen env ks x is = handled_split code seen env ks x ∙ ap (λ o. handled_by code seen env o x) is
 
 -- where the number of the body stands among the clauses
@@ -107,10 +107,10 @@ first_nowhere n (k ∷ ks) x is = go (catches k.name x) is (first_nowhere (n + 1
 
 -- the body of a function with its parameters bound
 pub entered_on : (code : Program) (fun : ℕ) (args : List Value) (f : Fun) (env : Env) (s : VisitState) → slice_get code.funs fun ≡ Some f → bound f.params args ≡ Some env
-    → Leads (entered meaning code fun args s) (meaning code fun env f.body s)
-unfolding entered
+    → Leads (entered_function meaning code fun args s) (meaning code fun env f.body s)
+unfolding entered_function
 entered_on code fun args f env s is there = rw (is, there) (record { same = refl; safe = λ k. k.1.1 })
 
-pub visited_on : (k : Chunk) (fun : ℕ) (s : VisitState) → place_of k.entry k.code.funs ≡ Some fun → Leads (visited meaning k s) (entered meaning k.code fun k.args s)
-unfolding visited
+pub visited_on : (k : Chunk) (fun : ℕ) (s : VisitState) → place_of k.entry k.code.funs ≡ Some fun → Leads (visited_chunk meaning k s) (entered_function meaning k.code fun k.args s)
+unfolding visited_chunk
 visited_on k fun s is = rw is (itself _)

@@ -8,8 +8,8 @@ use Rattle.plan_base.specs.Trees.{ExprLayer}
 use Rattle.plan_meaning.specs.declared.stop.EvalStop.{EvalStop}
 use Rattle.service_api.specs.Services.{ServiceState}
 use Rattle.plan_meaning.specs.Meaning.{Env}
-use Rattle.plan_meaning.specs.State.{VisitState, Own, joined}
-use Rattle.plan_meaning.specs.Run.{gave, quiet, weighed}
+use Rattle.plan_meaning.specs.State.{VisitState, Own, joined_state}
+use Rattle.plan_meaning.specs.Run.{gave, quiet, weighed_value}
 use Rattle.plan_meaning.specs.Safe.{IsSafe}
 use Rattle.eval_steps.specs.declared.stack_frame.StackFrame.TheVariants as frame
 use Rattle.eval_steps.specs.declared.next.Next.{Next}
@@ -42,22 +42,22 @@ module _ (code : Program) (seen : ℕ) (at : Spot) (n : ℕ) (held : List Value)
       → Decides code seen at (resume code seen at (frame.Part n held) (quiet (gave v s))) r t
   by_part r t h = carries_from code seen at _ _ r t (part_given code seen at s (out-Expr at.expr) n held v) h
 
-  leaf_at : (l : ExprLayer) → out-Expr at.expr ≡ l → IsLeaf l → Leads (part_gave code seen at n held v s) (weighed v s)
-  leaf_at Expr-F.Unit form h = rw form (given_on v s weighed)
-  leaf_at (Expr-F.Bool b) form h = rw form (given_on v s weighed)
-  leaf_at (Expr-F.Int i) form h = rw form (given_on v s weighed)
-  leaf_at (Expr-F.Char c) form h = rw form (given_on v s weighed)
-  leaf_at (Expr-F.Str x) form h = rw form (given_on v s weighed)
-  leaf_at (Expr-F.Blob b) form h = rw form (given_on v s weighed)
-  leaf_at (Expr-F.Host x) form h = rw form (given_on v s weighed)
-  leaf_at (Expr-F.Dev d) form h = rw form (given_on v s weighed)
-  leaf_at (Expr-F.Nil t) form h = rw form (given_on v s weighed)
-  leaf_at (Expr-F.Var x) form h = rw form (given_on v s weighed)
-  leaf_at (Expr-F.Raise x t) form h = rw form (given_on v s weighed)
-  leaf_at (Expr-F.Try a ks) form h = rw form (given_on v s weighed)
+  leaf_at : (l : ExprLayer) → out-Expr at.expr ≡ l → IsLeaf l → Leads (part_gave code seen at n held v s) (weighed_value v s)
+  leaf_at Expr-F.Unit form h = rw form (given_on v s weighed_value)
+  leaf_at (Expr-F.Bool b) form h = rw form (given_on v s weighed_value)
+  leaf_at (Expr-F.Int i) form h = rw form (given_on v s weighed_value)
+  leaf_at (Expr-F.Char c) form h = rw form (given_on v s weighed_value)
+  leaf_at (Expr-F.Str x) form h = rw form (given_on v s weighed_value)
+  leaf_at (Expr-F.Blob b) form h = rw form (given_on v s weighed_value)
+  leaf_at (Expr-F.Host x) form h = rw form (given_on v s weighed_value)
+  leaf_at (Expr-F.Dev d) form h = rw form (given_on v s weighed_value)
+  leaf_at (Expr-F.Nil t) form h = rw form (given_on v s weighed_value)
+  leaf_at (Expr-F.Var x) form h = rw form (given_on v s weighed_value)
+  leaf_at (Expr-F.Raise x t) form h = rw form (given_on v s weighed_value)
+  leaf_at (Expr-F.Try a ks) form h = rw form (given_on v s weighed_value)
   leaf_at _ form h = absurd h
 
-  pub leaf_given : (l : ExprLayer) → out-Expr at.expr ≡ l → IsLeaf l → Leads (part_gave code seen at n held v s) (weighed v s)
+  pub leaf_given : (l : ExprLayer) → out-Expr at.expr ≡ l → IsLeaf l → Leads (part_gave code seen at n held v s) (weighed_value v s)
   leaf_given l form h = leaf_at l form h
 
 pub by_item : (code : Program) (seen : ℕ) (at : Spot) (left : List Value) (v : Value) (s : VisitState) (r : Result Next EvalStop) (t : VisitState)
@@ -67,10 +67,10 @@ by_item code seen at left v s r t h = carries_from code seen at _ _ r t (item_gi
 -- ---- what a part that gave a value lets its expression do
 
 module _ (code : Program) (seen : ℕ) (e : Expr) (n : ℕ) (held : List Value) (v : Value) (o : Own) (t : ServiceState)
-    (safe : (env : Env) × IsSafe (part_gave code seen (record { expr = e; env = env }) n held v (joined o t)).asks) where
+    (safe : (env : Env) × IsSafe (part_gave code seen (record { expr = e; env = env }) n held v (joined_state o t)).asks) where
   -- a call with all its arguments
-  pub safe_call : (f : Name) (es : List Expr) → out-Expr e ≡ Expr-F.Call f es → drop (n + 1) es ≡ [] → IsSafe (call_of code seen f (held ++ v ∷ []) (joined o t)).asks
-  safe_call f es form done = (last_of_call code seen e safe.0 (joined o t) f es n held v form done).safe safe.1
+  pub safe_call : (f : Name) (es : List Expr) → out-Expr e ≡ Expr-F.Call f es → drop (n + 1) es ≡ [] → IsSafe (call_of code seen f (held ++ v ∷ []) (joined_state o t)).asks
+  safe_call f es form done = (last_of_call code seen e safe.0 (joined_state o t) f es n held v form done).safe safe.1
 
   -- sends with all their parts
   pub safe_remote : (a h b : Expr) (r : Name) → out-Expr e ≡ Expr-F.OnRemote a h b r → (c w : Value) (more : List Value) → held ≡ c ∷ w ∷ more → RemoteIsSafe r c w v o

@@ -4,7 +4,7 @@ use Rattle.plan_base.specs.declared.tree.Exn.{Exn}
 use Rattle.plan_base.specs.declared.tree.Value.{Value}
 use Rattle.plan_meaning.specs.declared.stop.EvalStop.TheVariants.{Wrong}
 use Rattle.plan_meaning.specs.State.{VisitState}
-use Rattle.plan_meaning.specs.Run.{After, gave, stopped, RunStep, Run, «next», and_then, ◌>>=◌, quiet, pure, wrong, otherwise, rescued}
+use Rattle.plan_meaning.specs.Run.{After, gave, stopped, RunStep, Run, «next», and_then, ◌>>=◌, quiet, pure, wrong, otherwise, rescued_step}
 use Rattle.plan_meaning.specs.Safe.{IsSafe}
 use Rattle.eval_steps.specs.Leads.{Leads}
 
@@ -15,10 +15,10 @@ pub onward : {A : Type 0} (p q r : RunStep A) → Leads p q → Leads q r → Le
 onward p q r a b = record { same = a.same ∙ b.same; safe = λ h. b.safe (a.safe h) }
 
 -- what follows is carried along
-pub carried : {A B : Type 0} (p q : RunStep A) (f : A → Run B) → Leads p q → Leads (and_then p f) (and_then q f)
-carried p q f h = record { same = ap (λ a. («next» a f).after) h.same; safe = λ k. (h.safe k.0, rw (sym h.same) k.1) }
+pub rest_carried_along : {A B : Type 0} (p q : RunStep A) (f : A → Run B) → Leads p q → Leads (and_then p f) (and_then q f)
+rest_carried_along p q f h = record { same = ap (λ a. («next» a f).after) h.same; safe = λ k. (h.safe k.0, rw (sym h.same) k.1) }
 
-pub handled_along : (p q : RunStep Value) (f : Exn → Run Value) → Leads p q → Leads (rescued p f) (rescued q f)
+pub handled_along : (p q : RunStep Value) (f : Exn → Run Value) → Leads p q → Leads (rescued_step p f) (rescued_step q f)
 handled_along p q f h = record { same = ap (λ a. (otherwise a f).after) h.same; safe = λ k. (h.safe k.0, rw (sym h.same) k.1) }
 
 -- two that follow one after the other
@@ -32,8 +32,8 @@ next_safe : {A B C : Type 0} (a : After A) (f : A → Run B) (g : B → Run C)
 next_safe (gave x s) f g h k = (h, k)
 next_safe (stopped e s) f g h k = tt
 
-pub regrouped : {A B C : Type 0} (p : RunStep A) (f : A → Run B) (g : B → Run C) → Leads (and_then (and_then p f) g) (and_then p (λ x. f x >>= g))
-regrouped p f g = record { same = next_then p.after f g; safe = λ k. (k.0.0, next_safe p.after f g k.0.1 k.1) }
+pub rests_are_regrouped : {A B C : Type 0} (p : RunStep A) (f : A → Run B) (g : B → Run C) → Leads (and_then (and_then p f) g) (and_then p (λ x. f x >>= g))
+rests_are_regrouped p f g = record { same = next_then p.after f g; safe = λ k. (k.0.0, next_safe p.after f g k.0.1 k.1) }
 
 -- what asks nothing and gives a value goes on with it
 pub given_on : {A B : Type 0} (a : A) (s : VisitState) (f : A → Run B) → Leads (and_then (quiet (gave a s)) f) (f a s)
@@ -52,7 +52,7 @@ wrong_then s f g = refl
 
 pub regrouped_twice : {A B C D : Type 0} (p : RunStep A) (f : A → Run B) (g : B → Run C) (h : C → Run D)
     → Leads (and_then (and_then (and_then p f) g) h) (and_then p (λ x. f x >>= g >>= h))
-regrouped_twice p f g h = onward _ _ _ (carried _ _ h (regrouped p f g)) (regrouped p (λ x. f x >>= g) h)
+regrouped_twice p f g h = onward _ _ _ (rest_carried_along _ _ h (rests_are_regrouped p f g)) (rests_are_regrouped p (λ x. f x >>= g) h)
 
 pub known_back : {A B C : Type 0} (a : A) (s : VisitState) (f : A → Run B) (g : B → Run C) → Leads ((f a >>= g) s) ((pure a >>= f >>= g) s)
 known_back a s f g = record { same = refl; safe = λ k. ((tt, k.0), k.1) }

@@ -13,8 +13,8 @@ use Rattle.plan_base.specs.declared.tree.Chunk.{Chunk}
 use Rattle.plan_meaning.specs.declared.stop.EvalStop.{EvalStop}
 use Rattle.plan_meaning.specs.declared.stop.EvalStop.TheVariants.{Wrong}
 use Rattle.plan_meaning.specs.State.{VisitState}
-use Rattle.plan_meaning.specs.Run.{stopped, «next», ◌>>◌, pure, weighed}
-use Rattle.plan_meaning.specs.Meaning.{Env, meaning, as_int, as_host, as_dev, as_chunk, pay_eval, visited, send_remote, send_neighbour}
+use Rattle.plan_meaning.specs.Run.{stopped, «next», ◌>>◌, pure, weighed_value}
+use Rattle.plan_meaning.specs.Meaning.{Env, meaning, as_int, as_host, as_dev, as_chunk, pay_eval, visited_chunk, send_remote, send_neighbour}
 use Rattle.eval_steps.specs.declared.next.Next.{Next}
 use Rattle.eval_steps.specs.Nexts.{Decides, near_step, part_gave}
 use Rattle.eval_steps.proofs.Deciding.{near_on}
@@ -23,7 +23,7 @@ use Rattle.eval_steps.proofs.Gathering.{carries_from}
 module _ (code : Program) (seen : ℕ) (e : Expr) (env : Env) (s : VisitState) where
   pub chunk_unpaid : (a : Expr) (n : ℕ) (held : List Value) (v : Value) (k : Chunk) (x : EvalStop) (t : VisitState) → out-Expr e ≡ Expr-F.Eval a → as_chunk v ≡ Some k
       → (pay_eval s).after ≡ stopped x t → (part_gave code seen (record { expr = e; env = env }) n held v s).after ≡ stopped x t
-  chunk_unpaid a n held v k x t form is h = rw (form, is) (ap (λ r. («next» («next» r (λ _. visited meaning k >> pure value.Unit)).after weighed).after) h)
+  chunk_unpaid a n held v k x t form is h = rw (form, is) (ap (λ r. («next» («next» r (λ _. visited_chunk meaning k >> pure value.Unit)).after weighed_value).after) h)
 
   pub no_chunk : (a : Expr) (n : ℕ) (held : List Value) (v : Value) → out-Expr e ≡ Expr-F.Eval a → as_chunk v ≡ None
       → (part_gave code seen (record { expr = e; env = env }) n held v s).after ≡ stopped Wrong s
@@ -32,7 +32,7 @@ module _ (code : Program) (seen : ℕ) (e : Expr) (env : Env) (s : VisitState) w
   pub unsent_remote : (a h b : Expr) (r : Name) (n : ℕ) (c w v : Value) (held : List Value) (k : Chunk) (host : Host) (i : ℤ) (x : EvalStop) (t : VisitState)
       → out-Expr e ≡ Expr-F.OnRemote a h b r → as_chunk c ≡ Some k → as_host w ≡ Some host → as_int v ≡ Some i → (send_remote k host i r s).after ≡ stopped x t
       → (part_gave code seen (record { expr = e; env = env }) n (c ∷ w ∷ held) v s).after ≡ stopped x t
-  unsent_remote a h b r n c w v held k host i x t form is there much sent = rw (form, is, there, much) (ap (λ q. («next» («next» q (λ _. pure value.Unit)).after weighed).after) sent)
+  unsent_remote a h b r n c w v held k host i x t form is there much sent = rw (form, is, there, much) (ap (λ q. («next» («next» q (λ _. pure value.Unit)).after weighed_value).after) sent)
 
   pub no_remote_chunk : (a h b : Expr) (r : Name) (n : ℕ) (v : Value) → out-Expr e ≡ Expr-F.OnRemote a h b r → as_chunk v ≡ None
       → (part_gave code seen (record { expr = e; env = env }) n [] v s).after ≡ stopped Wrong s
@@ -89,7 +89,7 @@ module _ (code : Program) (seen : ℕ) (e : Expr) (env : Env) (s : VisitState) w
 module _ (k : Chunk) (host : Host) (u v : Value) (s : VisitState) where
   pub unsent_near : (i : ℤ) (dev : Dev) (x : EvalStop) (t : VisitState) → as_int u ≡ Some i → as_dev v ≡ Some dev → (send_neighbour k host i dev s).after ≡ stopped x t
       → (near_step k host u v s).after ≡ stopped x t
-  unsent_near i dev x t much way sent = rw (much, way) (ap (λ q. («next» («next» q (λ _. pure value.Unit)).after weighed).after) sent)
+  unsent_near i dev x t much way sent = rw (much, way) (ap (λ q. («next» («next» q (λ _. pure value.Unit)).after weighed_value).after) sent)
 
   pub no_near_bound : as_int u ≡ None → (near_step k host u v s).after ≡ stopped Wrong s
   no_near_bound much = rw much refl

@@ -6,28 +6,28 @@ use Rattle.plan_base.specs.declared.tree.Program.{Program}
 use Rattle.plan_base.specs.declared.tree.Value.{Value}
 use Rattle.plan_base.specs.declared.tree.Value as value
 use Rattle.plan_base.specs.Trees.{ExprLayer}
-use Rattle.plan_meaning.specs.Run.{RunStep, pure, weighed, ◌>>=◌}
-use Rattle.plan_meaning.specs.Meaning.{Env, meaning, handled}
+use Rattle.plan_meaning.specs.Run.{RunStep, pure, weighed_value, ◌>>=◌}
+use Rattle.plan_meaning.specs.Meaning.{Env, meaning, handled_exception}
 use Rattle.eval_steps.specs.declared.stack_frame.StackFrame.{StackFrame}
 use Rattle.eval_steps.specs.declared.stack_frame.StackFrame.TheVariants as frame
 use Rattle.eval_steps.specs.declared.stack_frame.Activation.{Activation}
-use Rattle.eval_steps.specs.Stack.{Spot, spot_of, deeper, part_or_self, part_number, env_at, expr_from, env_from, spot_from, along, resumed, resume, through, start_of, spot_in, ended_in, ended, all_ended}
+use Rattle.eval_steps.specs.Stack.{Spot, spot_of, deeper, part_or_self, part_number, env_at, expr_from, env_from, spot_from, along, resumed_layer, resume, through, start_of, spot_in, ended_in, ended_frame, all_ended}
 use Rattle.eval_steps.specs.Leads.{Leads}
-use Rattle.eval_steps.proofs.Leading.{carried, handled_along}
+use Rattle.eval_steps.proofs.Leading.{rest_carried_along, handled_along}
 use Rattle.eval_steps.proofs.Walking.{nowhere}
 
 module _ (code : Program) (seen : ℕ) where
-  resumed_leads : (l : ExprLayer) (env : Env) (n : ℕ) (held : List Value) (p q : RunStep Value) → Leads p q → Leads (resumed code seen l env n held p) (resumed code seen l env n held q)
-  resumed_leads (Expr-F.Try a ks) env n held p q h = carried _ _ weighed (handled_along p q (handled meaning code seen env ks) h)
-  resumed_leads l env n held p q h = carried p q _ h
+  resumed_leads : (l : ExprLayer) (env : Env) (n : ℕ) (held : List Value) (p q : RunStep Value) → Leads p q → Leads (resumed_layer code seen l env n held p) (resumed_layer code seen l env n held q)
+  resumed_leads (Expr-F.Try a ks) env n held p q h = rest_carried_along _ _ weighed_value (handled_along p q (handled_exception meaning code seen env ks) h)
+  resumed_leads l env n held p q h = rest_carried_along p q _ h
 
   pub resume_leads : (at : Spot) (f : StackFrame) (p q : RunStep Value) → Leads p q → Leads (resume code seen at f p) (resume code seen at f q)
   resume_leads at (frame.Part n held) p q h = resumed_leads (out-Expr at.expr) at.env n held p q h
-  resume_leads at (frame.Last n) p q h = carried p q weighed h
-  resume_leads at (frame.Bound v) p q h = carried p q weighed h
-  resume_leads at frame.Body p q h = carried p q weighed h
-  resume_leads at (frame.Items left) p q h = carried p q (λ v. along code seen (out-Expr at.expr) v left >>= weighed) h
-  resume_leads at frame.Chunk p q h = carried p q (λ v. pure value.Unit >>= weighed) h
+  resume_leads at (frame.Last n) p q h = rest_carried_along p q weighed_value h
+  resume_leads at (frame.Bound v) p q h = rest_carried_along p q weighed_value h
+  resume_leads at frame.Body p q h = rest_carried_along p q weighed_value h
+  resume_leads at (frame.Items left) p q h = rest_carried_along p q (λ v. along code seen (out-Expr at.expr) v left >>= weighed_value) h
+  resume_leads at frame.Chunk p q h = rest_carried_along p q (λ v. pure value.Unit >>= weighed_value) h
 
   through_leads : (at : Option Spot) (fs : List StackFrame) (p q : RunStep Value) → Leads p q → Leads (through code seen at fs p) (through code seen at fs q)
   through_leads at [] p q h = h
@@ -54,8 +54,8 @@ ended_in_leads : (code : Option Program) (start : Option Spot) (a : Activation) 
 ended_in_leads (Some code) start a p q h = through_leads code a.fun start a.frames p q h
 ended_in_leads None start a p q h = h
 
-pub ended_leads : (codes : List Program) (a : Activation) (p q : RunStep Value) → Leads p q → Leads (ended codes a p) (ended codes a q)
-unfolding ended
+pub ended_leads : (codes : List Program) (a : Activation) (p q : RunStep Value) → Leads p q → Leads (ended_frame codes a p) (ended_frame codes a q)
+unfolding ended_frame
 ended_leads codes a p q h = ended_in_leads (slice_get codes a.code) (start_of codes a) a p q h
 
 pub all_ended_leads : (codes : List Program) (activations : List Activation) (p q : RunStep Value) → Leads p q → Leads (all_ended codes activations p) (all_ended codes activations q)
@@ -63,9 +63,9 @@ all_ended_leads codes [] p q h = h
 all_ended_leads codes (a ∷ more) p q h = ended_leads codes a _ _ (all_ended_leads codes more p q h)
 
 -- an activation on top
-pub all_ended_push : (codes : List Program) (outer : List Activation) (a : Activation) (r : RunStep Value) → all_ended codes (outer ++ a ∷ []) r ≡ all_ended codes outer (ended codes a r)
+pub all_ended_push : (codes : List Program) (outer : List Activation) (a : Activation) (r : RunStep Value) → all_ended codes (outer ++ a ∷ []) r ≡ all_ended codes outer (ended_frame codes a r)
 all_ended_push codes [] a r = refl
-all_ended_push codes (b ∷ outer) a r = ap (ended codes b) (all_ended_push codes outer a r)
+all_ended_push codes (b ∷ outer) a r = ap (ended_frame codes b) (all_ended_push codes outer a r)
 
 -- ---- a frame on top of an activation
 
@@ -96,8 +96,8 @@ ended_in_push o code start a at f r is there = rw is (pushed_from code a.fun sta
 
 -- what waits in a new frame comes before the rest of its activation
 pub ended_push : (codes : List Program) (code : Program) (a : Activation) (at : Spot) (f : StackFrame) (r : RunStep Value) → slice_get codes a.code ≡ Some code → spot_in codes a ≡ Some at
-    → ended codes (record a { frames = a.frames ++ f ∷ [] }) r ≡ ended codes a (resume code a.fun at f r)
-unfolding ended start_of spot_in
+    → ended_frame codes (record a { frames = a.frames ++ f ∷ [] }) r ≡ ended_frame codes a (resume code a.fun at f r)
+unfolding ended_frame start_of spot_in
 ended_push codes code a at f r is there = ended_in_push (slice_get codes a.code) code (start_of codes a) a at f r is there
 
 spot_in_from : (start : Option Spot) (fs : List StackFrame) (at : Spot) (f : StackFrame) → spot_from start fs ≡ Some at → spot_from start (fs ++ f ∷ []) ≡ deeper at f

@@ -13,8 +13,8 @@ use Rattle.plan_base.specs.Trees.{ExprLayer}
 use Rattle.value_rules.specs.Rules.{binary, part}
 use Rattle.plan_meaning.specs.declared.stop.EvalStop.TheVariants.{Raised}
 use Rattle.plan_meaning.specs.State.{VisitState}
-use Rattle.plan_meaning.specs.Run.{Run, RunStep, gave, stopped, ◌>>=◌, ◌>>◌, and_then, rescued, quiet, pure, wrong, or_wrong, given, weighed}
-use Rattle.plan_meaning.specs.Meaning.{Env, catches, binds, bound, as_bool, as_int, as_host, as_dev, as_chunk, as_items, values_behind, called, left_along, right_along, pay_eval, visited, send_remote, send_neighbour, handled, meaning}
+use Rattle.plan_meaning.specs.Run.{Run, RunStep, gave, stopped, ◌>>=◌, ◌>>◌, and_then, rescued_step, quiet, pure, wrong, or_wrong, given_value, weighed_value}
+use Rattle.plan_meaning.specs.Meaning.{Env, catches, binds, bound, as_bool, as_int, as_host, as_dev, as_chunk, as_items, values_behind, called_name, left_along, right_along, pay_eval, visited_chunk, send_remote, send_neighbour, handled_exception, meaning}
 use Rattle.eval_steps.specs.declared.stack_frame.StackFrame.{StackFrame}
 use Rattle.eval_steps.specs.declared.stack_frame.StackFrame.TheVariants as frame
 use Rattle.eval_steps.specs.declared.stack_frame.Activation.{Activation}
@@ -132,7 +132,7 @@ module _ (code : Program) (seen : ℕ) where
   -- behind the part that gave v and those that gave `held`
   abbrev pub behind : ExprLayer → Env → ℕ → List Value → Value → Run Value
   behind (Expr-F.Tuple es) env n held v = values_behind meaning (held ++ v ∷ []) code seen env (drop (n + 1) es) >>= (λ vs. pure (value.Tuple vs))
-  behind (Expr-F.Call f es) env n held v = values_behind meaning (held ++ v ∷ []) code seen env (drop (n + 1) es) >>= called meaning code seen f
+  behind (Expr-F.Call f es) env n held v = values_behind meaning (held ++ v ∷ []) code seen env (drop (n + 1) es) >>= called_name meaning code seen f
   behind (Expr-F.ChunkOf f es) env n held v =
       values_behind meaning (held ++ v ∷ []) code seen env (drop (n + 1) es) >>= (λ vs. pure (value.Chunk (record { code = code; entry = f; args = vs })))
   behind (Expr-F.If t a b) env n held v = or_wrong (as_bool v) >>= (λ t. if t then meaning code seen env a else meaning code seen env b)
@@ -141,14 +141,14 @@ module _ (code : Program) (seen : ℕ) where
   behind (Expr-F.And a b) env n held v = or_wrong (as_bool v) >>= (λ t. if t then meaning code seen env b else pure (value.Bool false))
   behind (Expr-F.Or a b) env n held v = or_wrong (as_bool v) >>= (λ t. if t then pure (value.Bool true) else meaning code seen env b)
   behind (Expr-F.Not a) env n held v = or_wrong (as_bool v) >>= (λ t. pure (value.Bool (not t)))
-  behind (Expr-F.Binary o a b) env n [] v = meaning code seen env b >>= (λ y. given (binary o v y))
-  behind (Expr-F.Binary o a b) env n (x ∷ held) v = given (binary o x v)
-  behind (Expr-F.Part i a) env n held v = given (part i v)
+  behind (Expr-F.Binary o a b) env n [] v = meaning code seen env b >>= (λ y. given_value (binary o v y))
+  behind (Expr-F.Binary o a b) env n (x ∷ held) v = given_value (binary o x v)
+  behind (Expr-F.Part i a) env n held v = given_value (part i v)
   behind (Expr-F.Foldl f a l) env n [] v = meaning code seen env l >>= (λ w. or_wrong (as_items w) >>= left_along meaning code seen f v)
   behind (Expr-F.Foldl f a l) env n (acc ∷ held) v = or_wrong (as_items v) >>= left_along meaning code seen f acc
   behind (Expr-F.Foldr f a l) env n [] v = meaning code seen env l >>= (λ w. or_wrong (as_items w) >>= (λ xs. right_along meaning code seen f v (reverse xs)))
   behind (Expr-F.Foldr f a l) env n (acc ∷ held) v = or_wrong (as_items v) >>= (λ xs. right_along meaning code seen f acc (reverse xs))
-  behind (Expr-F.Eval a) env n held v = or_wrong (as_chunk v) >>= (λ k. pay_eval >> (visited meaning k >> pure value.Unit))
+  behind (Expr-F.Eval a) env n held v = or_wrong (as_chunk v) >>= (λ k. pay_eval >> (visited_chunk meaning k >> pure value.Unit))
   behind (Expr-F.OnRemote a h n r) env i [] v = or_wrong (as_chunk v) >>= (λ k. meaning code seen env h >>= (λ w. or_wrong (as_host w) >>= (λ host. meaning code seen env n >>= (λ u. or_wrong (as_int u) >>= (λ b. send_remote k host b r >> pure value.Unit)))))
   behind (Expr-F.OnRemote a h n r) env i (c ∷ []) v = or_wrong (as_chunk c) >>= (λ k. or_wrong (as_host v) >>= (λ host. meaning code seen env n >>= (λ u. or_wrong (as_int u) >>= (λ b. send_remote k host b r >> pure value.Unit))))
   behind (Expr-F.OnRemote a h n r) env i (c ∷ w ∷ held) v = or_wrong (as_chunk c) >>= (λ k. or_wrong (as_host w) >>= (λ host. or_wrong (as_int v) >>= (λ b. send_remote k host b r >> pure value.Unit)))
@@ -163,18 +163,18 @@ module _ (code : Program) (seen : ℕ) where
   behind _ env n held v = pure v
 
   -- behind the expression of a `try` an exception is handled; every other part passes it on
-  abbrev pub resumed : ExprLayer → Env → ℕ → List Value → RunStep Value → RunStep Value
-  resumed (Expr-F.Try a ks) env n held r = and_then (rescued r (handled meaning code seen env ks)) weighed
-  resumed layer env n held r = and_then r (λ v. behind layer env n held v >>= weighed)
+  abbrev pub resumed_layer : ExprLayer → Env → ℕ → List Value → RunStep Value → RunStep Value
+  resumed_layer (Expr-F.Try a ks) env n held r = and_then (rescued_step r (handled_exception meaning code seen env ks)) weighed_value
+  resumed_layer layer env n held r = and_then r (λ v. behind layer env n held v >>= weighed_value)
 
   -- an open expression goes on with what its frame waits for
   abbrev pub resume : Spot → StackFrame → RunStep Value → RunStep Value
-  resume at (frame.Part n held) r = resumed (out-Expr at.expr) at.env n held r
-  resume at (frame.Last n) r = and_then r weighed
-  resume at (frame.Bound v) r = and_then r weighed
-  resume at frame.Body r = and_then r weighed
-  resume at (frame.Items left) r = and_then r (λ v. along (out-Expr at.expr) v left >>= weighed)
-  resume at frame.Chunk r = and_then r (λ v. pure value.Unit >>= weighed)
+  resume at (frame.Part n held) r = resumed_layer (out-Expr at.expr) at.env n held r
+  resume at (frame.Last n) r = and_then r weighed_value
+  resume at (frame.Bound v) r = and_then r weighed_value
+  resume at frame.Body r = and_then r weighed_value
+  resume at (frame.Items left) r = and_then r (λ v. along (out-Expr at.expr) v left >>= weighed_value)
+  resume at frame.Chunk r = and_then r (λ v. pure value.Unit >>= weighed_value)
 
   -- all open expressions of a body, the innermost first
   abbrev pub through : Option Spot → List StackFrame → RunStep Value → RunStep Value
@@ -213,13 +213,13 @@ ended_in (Some code) start a r = through code a.fun start a.frames r
 ended_in None start a r = r
 
 -- an activation goes on with what its innermost frame waits for
-unfoldable pub ended : List Program → Activation → RunStep Value → RunStep Value
-ended codes a r = ended_in (slice_get codes a.code) (start_of codes a) a r
+unfoldable pub ended_frame : List Program → Activation → RunStep Value → RunStep Value
+ended_frame codes a r = ended_in (slice_get codes a.code) (start_of codes a) a r
 
 -- all activations, the innermost first
 abbrev pub all_ended : List Program → List Activation → RunStep Value → RunStep Value
 all_ended codes [] r = r
-all_ended codes (a ∷ more) r = ended codes a (all_ended codes more r)
+all_ended codes (a ∷ more) r = ended_frame codes a (all_ended codes more r)
 
 -- each activation stands somewhere
 abbrev pub AreLinked : List Program → List Activation → Type 0

@@ -2,11 +2,11 @@
 ghost use Rattle.std.specs.Prelude.{◌≡◌, ◌≤◌, ◌+◌, ◌∷◌, ◌++◌, [], ℕ, List, MatchOption, drop, IsSome};
 ghost use Rattle.plan_base.specs.declared.tree.Expr.{Expr, Expr-F};
 ghost use Rattle.plan_base.specs.declared.tree.Program.{Program};
-ghost use Rattle.plan_meaning.specs.State.{VisitState, joined};
+ghost use Rattle.plan_meaning.specs.State.{VisitState, joined_state};
 ghost use Rattle.plan_meaning.specs.Safe.{IsSafe};
 ghost use Rattle.eval_steps.specs.Nexts.{Continues, call_of};
 
-use crate::call::called;
+use crate::call::begin_call;
 use crate::next::Next;
 use crate::stack_frame::StackFrame;
 use plan_base::{Chunk, Expr, Exprs, Name, Program, Value, Values};
@@ -90,9 +90,11 @@ pub fn call_part<S: Services>(
 ) -> Result<Next, EvalStop>
     requires open { IsSome (S.stands svc.old).begun }
     requires safe { drop (n + 1) es.now ≡ [] → IsSafe
-        (call_of code.now seen f.now (held ++ v ∷ []) (joined state.old (S.stands svc.old))).asks }
+        (call_of code.now seen f.now (held ++ v ∷ [])
+        (joined_state state.old (S.stands svc.old))).asks }
     ensures decides { Continues code.now seen (Expr-F.Call f.now es.now) n held v
-        (joined state.old (S.stands svc.old)) result (joined state.new (S.stands svc.new)) }
+        (joined_state state.old (S.stands svc.old))
+        result (joined_state state.new (S.stands svc.new)) }
     ensures falls { state.new.work ≤ state.old.work }
     ensures offer { (S.stands svc.new).offer ≡ (S.stands svc.old).offer }
     ensures begun { (S.stands svc.new).begun ≡ (S.stands svc.old).begun }
@@ -102,5 +104,5 @@ pub fn call_part<S: Services>(
     if let Some(next) = part_behind(es.as_slice(), n) {
         return Ok(Next::Open(StackFrame::Part(next, args)));
     }
-    called(alloc, code, seen, f, args, state, svc)
+    begin_call(alloc, code, seen, f, args, state, svc)
 }

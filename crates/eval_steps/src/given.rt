@@ -1,6 +1,6 @@
 //! What an open expression does when a part has given a value, or an activation on top has.
 ghost use Rattle.std.specs.Prelude.{◌≡◌, ◌≤◌, IsSome};
-ghost use Rattle.plan_meaning.specs.State.{joined};
+ghost use Rattle.plan_meaning.specs.State.{joined_state};
 ghost use Rattle.plan_meaning.specs.Run.{gave, quiet};
 ghost use Rattle.plan_meaning.specs.Meaning.{Env};
 ghost use Rattle.plan_meaning.specs.Safe.{IsSafe};
@@ -10,9 +10,9 @@ ghost use Rattle.eval_steps.specs.Nexts.{Decides, part_gave};
 use crate::fold::{item_gave, left_part, right_part};
 use crate::gather::{call_part, chunk_part, tuple_part};
 use crate::next::Next;
-use crate::operand::{operand, selected};
+use crate::operand::{operand, select_part};
 use crate::pure::{both, choose, either, turn};
-use crate::send::{evaluated, neighbour_part, remote_part};
+use crate::send::{begin_eval, neighbour_part, remote_part};
 use crate::stack_frame::StackFrame;
 use plan_base::{Expr, Program, Value, Values};
 use plan_items::Shared;
@@ -22,7 +22,7 @@ use std::alloc::Global;
 use visit_state::State;
 
 /// What an expression does when its part of number `n` has given a value, behind those that gave `held`.
-#[tactic(auto, using(plan_base::specs::Trees::trees, crate::proofs::Deciding::bound, crate::proofs::Deciding::followed, crate::proofs::Giving::leaf_given))]
+#[tactic(auto, using(plan_base::specs::Trees::trees, crate::proofs::Deciding::bound, crate::proofs::Deciding::then_is_followed, crate::proofs::Giving::leaf_given))]
 fn after_part<S: Services>(
     alloc: Global,
     code: &Shared<Program>,
@@ -37,11 +37,11 @@ fn after_part<S: Services>(
     requires open { IsSome (S.stands svc.old).begun }
     requires safe { (env : Env) × IsSafe
         (part_gave code.now seen (record { expr = e.now; env = env })
-        n held v (joined state.old (S.stands svc.old))).asks }
+        n held v (joined_state state.old (S.stands svc.old))).asks }
     ensures decides { (env : Env) → Decides code.now seen (record { expr = e.now; env = env })
         (part_gave code.now seen (record { expr = e.now; env = env })
-        n held v (joined state.old (S.stands svc.old)))
-        result (joined state.new (S.stands svc.new)) }
+        n held v (joined_state state.old (S.stands svc.old)))
+        result (joined_state state.new (S.stands svc.new)) }
     ensures falls { state.new.work ≤ state.old.work }
     ensures offer { (S.stands svc.new).offer ≡ (S.stands svc.old).offer }
     ensures begun { (S.stands svc.new).begun ≡ (S.stands svc.old).begun }
@@ -57,10 +57,10 @@ fn after_part<S: Services>(
         Expr::Or(_, _) => either(&v),
         Expr::Not(_) => turn(&v),
         Expr::Binary(op, _, _) => operand(alloc, *op, held, v),
-        Expr::Part(i, _) => selected(alloc, *i, &v),
+        Expr::Part(i, _) => select_part(alloc, *i, &v),
         Expr::Foldl(f, _, _) => left_part(alloc, code, seen, f, held, v),
         Expr::Foldr(f, _, _) => right_part(alloc, code, seen, f, held, v),
-        Expr::Eval(_) => evaluated(alloc, v, state),
+        Expr::Eval(_) => begin_eval(alloc, v, state),
         Expr::OnRemote(_, _, _, r) => remote_part(alloc, r, held, v, state),
         Expr::OnNeighbor(_, _, _, _) => neighbour_part(alloc, held, v, state),
         Expr::Unit | Expr::Bool(_) | Expr::Int(_) | Expr::Char(_) => Ok(Next::Give(v)),
@@ -84,11 +84,11 @@ pub fn frame_given<S: Services>(
     requires open { IsSome (S.stands svc.old).begun }
     requires safe { (env : Env) × IsSafe
         (resume code.now seen (record { expr = e.now; env = env })
-        frame (quiet (gave v (joined state.old (S.stands svc.old))))).asks }
+        frame (quiet (gave v (joined_state state.old (S.stands svc.old))))).asks }
     ensures decides { (env : Env) → Decides code.now seen (record { expr = e.now; env = env })
         (resume code.now seen (record { expr = e.now; env = env })
-        frame (quiet (gave v (joined state.old (S.stands svc.old)))))
-        result (joined state.new (S.stands svc.new)) }
+        frame (quiet (gave v (joined_state state.old (S.stands svc.old)))))
+        result (joined_state state.new (S.stands svc.new)) }
     ensures falls { state.new.work ≤ state.old.work }
     ensures offer { (S.stands svc.new).offer ≡ (S.stands svc.old).offer }
     ensures begun { (S.stands svc.new).begun ≡ (S.stands svc.old).begun }

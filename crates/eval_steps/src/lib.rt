@@ -15,7 +15,7 @@ mod send;
 mod stack_frame;
 mod walk;
 
-pub use call::called;
+pub use call::begin_call;
 pub use fold::item_gave;
 pub use given::frame_given;
 pub use kind::{Kind, kind_of};

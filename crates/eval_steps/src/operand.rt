@@ -36,7 +36,7 @@ fn put_first(x: Value, v: Value) -> Result<Next, EvalStop>
 
 /// What an operator gives of two values.
 #[tactic(auto, using(crate::proofs::Gathering::operator_gives, crate::proofs::Gathering::operator_stops))]
-fn operated(alloc: Global, op: Op, x: Value, v: Value) -> Result<Next, EvalStop>
+fn apply_operator(alloc: Global, op: Op, x: Value, v: Value) -> Result<Next, EvalStop>
     ensures { (code : Program) (seen : ℕ) (a b : Expr) (n : ℕ) (held : List Value) (s : VisitState)
         → Continues code seen (Expr-F.Binary op a b) n (x ∷ held) v s result s }
 {
@@ -54,7 +54,7 @@ pub fn operand(alloc: Global, op: Op, held: Values, v: Value) -> Result<Next, Ev
         → Continues code seen (Expr-F.Binary op a b) n held v s result s }
 {
     match first_of(held) {
-        Some(x) => operated(alloc, op, x, v),
+        Some(x) => apply_operator(alloc, op, x, v),
         None => Ok(Next::Open(behind_one(alloc, 1, v)?)),
     }
 }
@@ -73,7 +73,7 @@ pub fn first_of(held: Values) -> Option<Value>
 /// What a part of a tuple gives.
 #[tactic(auto, using(crate::proofs::Gathering::part_gives, crate::proofs::Gathering::part_stops))]
 #[inline(never)]
-pub fn selected(alloc: Global, i: u8, v: &Value) -> Result<Next, EvalStop>
+pub fn select_part(alloc: Global, i: u8, v: &Value) -> Result<Next, EvalStop>
     ensures { (code : Program) (seen : ℕ) (a : Expr) (n : ℕ) (held : List Value) (s : VisitState)
         → Continues code seen (Expr-F.Part i a) n held v.now s result s }
 {

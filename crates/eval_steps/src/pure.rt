@@ -53,7 +53,7 @@ pub fn either(v: &Value) -> Result<Next, EvalStop>
 }
 
 /// The other truth value.
-#[tactic(auto, using(crate::proofs::Deciding::turned, crate::proofs::Deciding::turned_none))]
+#[tactic(auto, using(crate::proofs::Deciding::not_is_turned, crate::proofs::Deciding::turned_none))]
 pub fn turn(v: &Value) -> Result<Next, EvalStop>
     ensures { (code : Program) (seen : ℕ) (a : Expr) (n : ℕ) (held : List Value) (s : VisitState)
         → Continues code seen (Expr-F.Not a) n held v.now s result s }

@@ -4,7 +4,7 @@ ghost use Rattle.plan_base.specs.declared.tree.Expr.{Expr, Expr-F};
 ghost use Rattle.plan_base.specs.declared.tree.Program.{Program};
 ghost use Rattle.plan_base.specs.declared.tree.Value.{Value};
 ghost use Rattle.service_api.specs.Services.{ServiceState};
-ghost use Rattle.plan_meaning.specs.State.{joined};
+ghost use Rattle.plan_meaning.specs.State.{joined_state};
 ghost use Rattle.plan_meaning.specs.Meaning as spec;
 ghost use Rattle.eval_steps.specs.declared.stack_frame.StackFrame.TheVariants as frame;
 ghost use Rattle.eval_steps.specs.Stack.{Spot};
@@ -32,11 +32,11 @@ fn chunk_of(v: Value) -> Option<Chunk>
 /// An eval, which is paid before its chunk runs.
 #[tactic(auto, using(crate::proofs::Deciding::chunk_paid, crate::proofs::Sending::chunk_unpaid, crate::proofs::Sending::no_chunk))]
 #[inline(never)]
-pub fn evaluated(alloc: Global, v: Value, state: &mut State) -> Result<Next, EvalStop>
+pub fn begin_eval(alloc: Global, v: Value, state: &mut State) -> Result<Next, EvalStop>
     ensures decides { (code : Program) (seen : ℕ) (a : Expr) (n : ℕ)
         (held : List Value) (s : ServiceState)
         → Continues code seen (Expr-F.Eval a) n held v
-        (joined state.old s) result (joined state.new s) }
+        (joined_state state.old s) result (joined_state state.new s) }
     ensures falls { state.new.work ≤ state.old.work }
 {
     let Some(chunk) = chunk_of(v) else {
@@ -78,7 +78,7 @@ fn send_remote(
     ensures decides { (code : Program) (seen : ℕ) (a h b : Expr) (n : ℕ)
         (held : List Value) (s : ServiceState)
         → Continues code seen (Expr-F.OnRemote a h b r.now) n (c ∷ w.now ∷ held) v.now
-        (joined state.old s) result (joined state.new s) }
+        (joined_state state.old s) result (joined_state state.new s) }
     ensures falls { state.new.work ≤ state.old.work }
 {
     let Some(chunk) = chunk_of(c) else {
@@ -108,7 +108,7 @@ pub fn remote_part(
         → RemoteIsSafe r.now c w v state.old }
     ensures decides { (code : Program) (seen : ℕ) (a h b : Expr) (n : ℕ) (s : ServiceState)
         → Continues code seen (Expr-F.OnRemote a h b r.now) n held v
-        (joined state.old s) result (joined state.new s) }
+        (joined_state state.old s) result (joined_state state.new s) }
     ensures falls { state.new.work ≤ state.old.work }
 {
     match held.as_slice() {
@@ -148,7 +148,8 @@ fn send_near(
 ) -> Result<Next, EvalStop>
     requires safe { NearIsSafe chunk host u.now v.now state.old }
     ensures decides { (code : Program) (seen : ℕ) (at : Spot) (s : ServiceState) → Decides code seen at
-        (near_step chunk host u.now v.now (joined state.old s)) result (joined state.new s) }
+        (near_step chunk host u.now v.now (joined_state state.old s))
+        result (joined_state state.new s) }
     ensures falls { state.new.work ≤ state.old.work }
 {
     let Some(bound) = as_int(u) else {
@@ -175,7 +176,7 @@ fn send_neighbour(
     ensures decides { (code : Program) (seen : ℕ) (a h b d : Expr) (n : ℕ)
         (held : List Value) (s : ServiceState)
         → Continues code seen (Expr-F.OnNeighbor a h b d) n (c ∷ w.now ∷ u.now ∷ held) v.now
-        (joined state.old s) result (joined state.new s) }
+        (joined_state state.old s) result (joined_state state.new s) }
     ensures falls { state.new.work ≤ state.old.work }
 {
     let Some(chunk) = chunk_of(c) else {
@@ -200,7 +201,7 @@ pub fn neighbour_part(
         → NeighbourIsSafe c w u v state.old }
     ensures decides { (code : Program) (seen : ℕ) (a h b d : Expr) (n : ℕ) (s : ServiceState)
         → Continues code seen (Expr-F.OnNeighbor a h b d) n held v
-        (joined state.old s) result (joined state.new s) }
+        (joined_state state.old s) result (joined_state state.new s) }
     ensures falls { state.new.work ≤ state.old.work }
 {
     match held.as_slice() {

@@ -22,8 +22,8 @@ use Rattle.service_meaning.proofs.Tables.{key_good}
 use Rattle.example_services.specs.declared.services.Counts.{Counts}
 use Rattle.example_services.specs.declared.service.ExampleService.{ExampleService}
 use Rattle.example_services.specs.declared.service.ExampleService.TheVariants.{Count, Greet}
-use Rattle.example_services.specs.Offered.{named, type_of, type_named, called_as}
-use Rattle.example_services.specs.Serving.{hello, counted, greeted, serve_called, serve, offer}
+use Rattle.example_services.specs.Offered.{named_service, type_of, type_named, called_as}
+use Rattle.example_services.specs.Serving.{hello, counted_answer, greeted_answer, serve_called, serve, offer}
 
 hello_ascii : IsAscii hello
 hello_ascii = IsAscii-cons 104 (101 ∷ 108 ∷ 108 ∷ 111 ∷ []) (lit≤ tt) (IsAscii-cons 101 (108 ∷ 108 ∷ 111 ∷ []) (lit≤ tt) (IsAscii-cons 108 (108 ∷ 111 ∷ []) (lit≤ tt) (IsAscii-cons 108 (111 ∷ []) (lit≤ tt) (IsAscii-cons 111 [] (lit≤ tt) IsAscii-nil))))
@@ -44,21 +44,21 @@ good_hello : IsGoodValue ty.Str (value.Str hello)
 good_hello = good_sized ty.Str (value.Str hello) 8 0 (str hello (value.outs-Str hello) refl) sized_hello (lit≤ tt) refl
 
 -- an argument that is good may be noted
-noted : (ts : List Ty) (v : Value) → AreGoodValues ts (v ∷ []) → IsGoodNote (Print v)
-noted [] v g = absurd g
-noted (t ∷ ts) v g = (t, g.0)
+argument_is_noted : (ts : List Ty) (v : Value) → AreGoodValues ts (v ∷ []) → IsGoodNote (Print v)
+argument_is_noted [] v g = absurd g
+argument_is_noted (t ∷ ts) v g = (t, g.0)
 
 module _ (svc : Svc) (rows : Rows) (gr : AreGoodRows rows) where
   refused_good : IsGoodServed svc (refused_call rows)
   refused_good = record { answer = (0, zero-lt-suc _, refl); rows = gr }
 
-  counted_good : svc.result ≡ ty.Int → (args : List Value) → IsGoodServed svc (counted args rows)
+  counted_good : svc.result ≡ ty.Int → (args : List Value) → IsGoodServed svc (counted_answer args rows)
   counted_good e [] = record { answer = (subst (λ (t : Ty). IsGoodValue t (value.Int rows.«next»)) (sym e) (good_int rows.«next»), tt); rows = key_good rows gr }
   counted_good e (_ ∷ _) = refused_good
 
-  greeted_good : svc.result ≡ ty.Str → (args : List Value) → AreGoodValues svc.params args → IsGoodServed svc (greeted args rows)
+  greeted_good : svc.result ≡ ty.Str → (args : List Value) → AreGoodValues svc.params args → IsGoodServed svc (greeted_answer args rows)
   greeted_good e [] g = refused_good
-  greeted_good e (v ∷ []) g = record { answer = (subst (λ (t : Ty). IsGoodValue t (value.Str hello)) (sym e) good_hello, noted svc.params v g); rows = gr }
+  greeted_good e (v ∷ []) g = record { answer = (subst (λ (t : Ty). IsGoodValue t (value.Str hello)) (sym e) good_hello, argument_is_noted svc.params v g); rows = gr }
   greeted_good e (v ∷ w ∷ vs) g = refused_good
 
   fitting_good : (s : ExampleService) (t : Option Ty) (args : List Value) → instance (type_of s) svc ≡ t → AreGoodValues svc.params args → IsGoodServed svc (serve_called (if is_some t then Some s else None) args rows)
@@ -71,14 +71,14 @@ module _ (svc : Svc) (rows : Rows) (gr : AreGoodRows rows) where
   named_good (Some s) args g = fitting_good s (instance (type_of s) svc) args refl g
 
 pub serve_good : IsGoodServe serve
-serve_good svc args ctx rows gr ga near = named_good svc rows gr (named svc.name) args ga
+serve_good svc args ctx rows gr ga near = named_good svc rows gr (named_service svc.name) args ga
 
 unfit : (o : Option ExampleService) (svc : Svc) (args : List Value) (rows : Rows) → is_instance_of (type_named o) svc ≡ false → serve_called (called_as o svc) args rows ≡ refused_call rows
 unfit None svc args rows e = refl
 unfit (Some s) svc args rows e = ap (λ b. serve_called (if b then Some s else None) args rows) e
 
 pub refuses : RefusesOthers offer
-refuses svc args ctx rows e = unfit (named svc.name) svc args rows e
+refuses svc args ctx rows e = unfit (named_service svc.name) svc args rows e
 
 -- ---- as members of the trait, for each value
 

@@ -18,15 +18,15 @@ type_of Count = record { params = []; result = Is ty.Int }
 type_of Greet = record { params = Is ty.Str ∷ []; result = Is ty.Str }
 
 -- the service of the name
-abbrev pub named : List ℕ → Option ExampleService
-named name = if bytes_eq (name_of Count) name then Some Count else (if bytes_eq (name_of Greet) name then Some Greet else None)
+abbrev pub named_service : List ℕ → Option ExampleService
+named_service name = if bytes_eq (name_of Count) name then Some Count else (if bytes_eq (name_of Greet) name then Some Greet else None)
 
 abbrev pub type_named : Option ExampleService → Option Scheme
 type_named (Some s) = Some (type_of s)
 type_named None = None
 
 abbrev pub scheme_of : List ℕ → Option Scheme
-scheme_of name = type_named (named name)
+scheme_of name = type_named (named_service name)
 
 -- whether the declaration is an instance of the service's type
 abbrev pub fits : ExampleService → Svc → Bool
@@ -37,5 +37,5 @@ called_as (Some s) svc = if fits s svc then Some s else None
 called_as None svc = None
 
 -- the service of the declaration's name, where it is an instance of that service's type
-abbrev pub called : Svc → Option ExampleService
-called svc = called_as (named svc.name) svc
+abbrev pub called_service : Svc → Option ExampleService
+called_service svc = called_as (named_service svc.name) svc

@@ -9,7 +9,7 @@ use std::alloc::Global;
 
 /// The exception of a call that isn't offered as it is declared.
 #[tactic(auto, unfolding(plan_base::specs::Words::is_name, plan_base::specs::Words::is_word, plan_base::specs::Words::is_reserved))]
-pub fn refused(alloc: Global) -> Result<Answer, NoMemory>
+pub fn no_such_service(alloc: Global) -> Result<Answer, NoMemory>
     ensures { IfOk result (λ a. a ≡ answer.Raises rules.no_service) }
 {
     Ok(Answer::Raises(Exn(Name::of(alloc, b"NoService")?)))

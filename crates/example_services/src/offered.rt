@@ -17,8 +17,8 @@ fn name_of(service: ExampleService) -> &'static [u8]
 }
 
 /// The service of the name. Takes no memory.
-pub fn named(name: &Name) -> Option<ExampleService>
-    ensures { result ≡ spec.named name.now }
+pub fn service_of_name(name: &Name) -> Option<ExampleService>
+    ensures { result ≡ spec.named_service name.now }
 {
     if name_of(ExampleService::Count) == name.as_slice() {
         return Some(ExampleService::Count);
@@ -70,10 +70,10 @@ fn fits(alloc: Global, service: ExampleService, svc: &Svc) -> Result<bool, NoMem
 }
 
 /// The service that a declaration calls, and `None` where no service has its name or its type is another one.
-pub fn called(alloc: Global, svc: &Svc) -> Result<Option<ExampleService>, NoMemory>
-    ensures { IfOk result (λ s. s ≡ spec.called svc.now) }
+pub fn service_of_call(alloc: Global, svc: &Svc) -> Result<Option<ExampleService>, NoMemory>
+    ensures { IfOk result (λ s. s ≡ spec.called_service svc.now) }
 {
-    let Some(service) = named(&svc.name) else {
+    let Some(service) = service_of_name(&svc.name) else {
         return Ok(None);
     };
     if fits(alloc, service, svc)? {

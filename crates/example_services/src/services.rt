@@ -2,8 +2,8 @@ ghost use Rattle.std.specs.Prelude.{◌≡◌};
 ghost use Rattle.example_services.specs.Counts.{standing, opening};
 ghost use Rattle.example_services.specs.Laws.{example_good, example_refuses};
 
-use crate::offered::{named, type_of};
-use crate::serving::served;
+use crate::offered::{service_of_name, type_of};
+use crate::serving::answer_call;
 use plan_base::{Name, NoMemory, Svc, Values};
 use service_api::{Answer, Ctx, Scheme, Services};
 use std::alloc::Global;
@@ -63,7 +63,7 @@ impl Services for ExampleServices {
     ghost refuses = { example_refuses };
 
     fn scheme(&self, alloc: Global, name: &Name) -> Result<Option<Scheme>, NoMemory> {
-        match named(name) {
+        match service_of_name(name) {
             Some(service) => Ok(Some(type_of(alloc, service)?)),
             None => Ok(None),
         }
@@ -78,7 +78,7 @@ impl Services for ExampleServices {
     ) -> Result<Answer, NoMemory> {
         let _around = ctx;
         let mut number = self.counts.number;
-        let answer = served(alloc, &mut number, svc, args.as_slice());
+        let answer = answer_call(alloc, &mut number, svc, args.as_slice());
         self.counts = Counts {
             number,
             begun: self.counts.begun,

@@ -4,8 +4,8 @@ ghost use Rattle.example_services.specs.Offered as offered;
 ghost use Rattle.example_services.specs.Serving as spec;
 ghost use Rattle.example_services.specs.Counts.{counting, IsNumber};
 
-use crate::answers::{hello, refused};
-use crate::offered::called;
+use crate::answers::{hello, no_such_service};
+use crate::offered::service_of_call;
 use crate::service::ExampleService;
 use plan_base::{NoMemory, Svc, Value};
 use plan_copies::Copied;
@@ -35,7 +35,7 @@ fn count(alloc: Global, number: &mut i64, args: &[Value]) -> Result<Answer, NoMe
     if args.is_empty() {
         Ok(Answer::Gives(Value::Int(take_number(number)), None))
     } else {
-        refused(alloc)
+        no_such_service(alloc)
     }
 }
 
@@ -48,7 +48,7 @@ fn greet(alloc: Global, args: &[Value]) -> Result<Answer, NoMemory>
             Value::Str(hello(alloc)?),
             Some(Note::Print(whom.copy(alloc)?)),
         )),
-        _ => refused(alloc),
+        _ => no_such_service(alloc),
     }
 }
 
@@ -69,18 +69,18 @@ fn served_as(
 }
 
 /// What a call answers, and the number of the next count after it.
-pub fn served(
+pub fn answer_call(
     alloc: Global,
     number: &mut i64,
     svc: &Svc,
     args: &[Value],
 ) -> Result<Answer, NoMemory>
     requires { IsNumber number.old }
-    ensures meets { Meets (spec.serve_called (offered.called svc.now) args.now (counting number.old)) (counting number.old) result (counting number.new) }
+    ensures meets { Meets (spec.serve_called (offered.called_service svc.now) args.now (counting number.old)) (counting number.old) result (counting number.new) }
     ensures kept { IsNumber number.new }
 {
-    match called(alloc, svc)? {
+    match service_of_call(alloc, svc)? {
         Some(service) => served_as(alloc, number, service, args),
-        None => refused(alloc),
+        None => no_such_service(alloc),
     }
 }

@@ -2,7 +2,7 @@
 ghost use Rattle.std.specs.Prelude.{◌≡◌, ◌≤◌, ◌+◌, length, IfOk, OnOk, OnErr, IsSome, IsTrue};
 ghost use Rattle.service_api.specs.Services.{AreGoodRows};
 ghost use Rattle.plan_meaning.specs.Visit.{bounds};
-ghost use Rattle.node_core.specs.Turns.{IsResting, closed, is_spent as spent};
+ghost use Rattle.node_core.specs.Turns.{IsResting, closed_services, is_spent as spent};
 ghost use Rattle.example_services.specs.Visits.{IsMade, IsVisited};
 
 use chunk_types::CheckedPacket;
@@ -23,7 +23,7 @@ fn is_spent(outcome: &Outcome) -> bool
 }
 
 /// Visits a packet, and takes the room that its changes need.
-#[tactic(auto, using(crate::proofs::Turns::made))]
+#[tactic(auto, using(crate::proofs::Turns::visit_is_made))]
 fn make<S: Services>(
     alloc: Global,
     services: &mut S,
@@ -51,7 +51,7 @@ fn make<S: Services>(
 fn close<S: Services>(services: &mut S, is_spent: bool)
     requires open { IsSome (S.stands services.old).begun }
     requires ready { IsTrue (S.stands services.old).ready }
-    ensures { S.stands services.new ≡ closed is_spent (S.stands services.old) }
+    ensures { S.stands services.new ≡ closed_services is_spent (S.stands services.old) }
 {
     if is_spent {
         services.abandon();
@@ -64,7 +64,7 @@ fn close<S: Services>(services: &mut S, is_spent: bool)
 ///
 /// Conditions: the purse of the surroundings is the packet's bound and their source the family's host, there are at most 8
 /// neighbours, and no `begin` is open. Where memory is refused the services stay.
-#[tactic(auto, using(crate::proofs::Turns::visited, node_core::proofs::TurnLaws::undone, node_core::proofs::TurnLaws::rests_closed, node_core::proofs::TurnLaws::rests_abandoned))]
+#[tactic(auto, using(crate::proofs::Turns::packet_is_visited, node_core::proofs::TurnLaws::undone, node_core::proofs::TurnLaws::rests_closed, node_core::proofs::TurnLaws::rests_abandoned))]
 pub fn visit_once<S: Services>(
     alloc: Global,
     services: &mut S,

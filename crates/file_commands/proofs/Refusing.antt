@@ -48,13 +48,13 @@ text_refused text fault cause (inr e) is =
     subst (Refuses (program_said text)) (sym (is ∙ text_told fault own)) (own, ap sizes_of e)
 
 -- bytes that no hex digits stand for
-pub undecoded : (said : Said (List ℕ)) (cause : Cause) → Refuses said cause → Refuses (decoded_said said) cause
-undecoded said (Refused r) h = (h.0, ap decoded_said h.1)
-undecoded said NoMemory h = tt
-undecoded said Done h = elim h [ ]
-undecoded said Usage h = elim h [ ]
-undecoded said ReadFault h = elim h [ ]
-undecoded said WriteFault h = elim h [ ]
-undecoded said LinkFault h = elim h [ ]
-undecoded said SpawnFault h = elim h [ ]
-undecoded said (NodesFailed host s) h = elim h [ ]
+pub decoding_still_refuses : (said : Said (List ℕ)) (cause : Cause) → Refuses said cause → Refuses (decoded_said said) cause
+decoding_still_refuses said (Refused r) h = (h.0, ap decoded_said h.1)
+decoding_still_refuses said NoMemory h = tt
+decoding_still_refuses said Done h = elim h [ ]
+decoding_still_refuses said Usage h = elim h [ ]
+decoding_still_refuses said ReadFault h = elim h [ ]
+decoding_still_refuses said WriteFault h = elim h [ ]
+decoding_still_refuses said LinkFault h = elim h [ ]
+decoding_still_refuses said SpawnFault h = elim h [ ]
+decoding_still_refuses said (NodesFailed host s) h = elim h [ ]

@@ -48,14 +48,14 @@ module _ (limit : ℕ) (read : List ℕ → Said (List ℕ)) (name bytes : List 
   acts_for nothing cause e p = elim p [ ]
 
   -- what a command of one text did with the bytes that were taken
-  pub rendered : (cause : Cause) → Renders (read bytes) cause old new → TakesAndActs (said_in limit read name) Prints name files taken cause old new
-  rendered Done r = acts_for (read bytes) Done refl r
-  rendered WriteFault r = acts_for (read bytes) WriteFault refl r
-  rendered (Refused why) r = record { taken = Err (Refused why); takes = takes_refused limit read name bytes files taken t (Refused why) r.0; acts = (refl, r.1) }
-  rendered NoMemory (inl e) = record { taken = Err NoMemory; takes = takes_refused limit read name bytes files taken t NoMemory tt; acts = (refl, e) }
-  rendered NoMemory (inr r) = acts_for (read bytes) NoMemory refl r
-  rendered Usage r = elim r [ ]
-  rendered ReadFault r = elim r [ ]
-  rendered LinkFault r = elim r [ ]
-  rendered SpawnFault r = elim r [ ]
-  rendered (NodesFailed h s) r = elim r [ ]
+  pub taken_is_rendered : (cause : Cause) → Renders (read bytes) cause old new → TakesAndActs (said_in limit read name) Prints name files taken cause old new
+  taken_is_rendered Done r = acts_for (read bytes) Done refl r
+  taken_is_rendered WriteFault r = acts_for (read bytes) WriteFault refl r
+  taken_is_rendered (Refused why) r = record { taken = Err (Refused why); takes = takes_refused limit read name bytes files taken t (Refused why) r.0; acts = (refl, r.1) }
+  taken_is_rendered NoMemory (inl e) = record { taken = Err NoMemory; takes = takes_refused limit read name bytes files taken t NoMemory tt; acts = (refl, e) }
+  taken_is_rendered NoMemory (inr r) = acts_for (read bytes) NoMemory refl r
+  taken_is_rendered Usage r = elim r [ ]
+  taken_is_rendered ReadFault r = elim r [ ]
+  taken_is_rendered LinkFault r = elim r [ ]
+  taken_is_rendered SpawnFault r = elim r [ ]
+  taken_is_rendered (NodesFailed h s) r = elim r [ ]

@@ -9,7 +9,7 @@ use Rattle.packet_frame.specs.declared.fault.FrameFault.{FrameFault}
 use Rattle.link_window.specs.declared.window.Version.TheVariants.{One, Two}
 use Rattle.packet_frame.specs.Typed.{FrameFirst}
 use Rattle.packet_frame.specs.Stamped.{StampedFirst}
-use Rattle.packet_frame.specs.Decoding.{unstamped, read_by}
+use Rattle.packet_frame.specs.Decoding.{unstamped_frame, read_by}
 use Rattle.packet_frame.proofs.OneAnswer.{first_is}
 use Rattle.packet_frame.proofs.Versions.{refused_by_two}
 use Rattle.frame_faults.specs.Refusals.{HoldsNoMemory}
@@ -78,7 +78,7 @@ poor said e cause none is = subst (Refuses said) (sym (is ∙ ap frame_cause non
 pub first_refused : (bytes : List ℕ) (e : FrameFault) (cause : Cause) → IsBytes bytes → (e ≡ FrameFault.NoMemory) ⊎ FrameFirst e bytes → cause ≡ frame_cause e → Refuses (framed_said (read_by One bytes)) cause
 first_refused bytes e cause h (inl none) is = poor (framed_said (read_by One bytes)) e cause none is
 first_refused bytes e cause h (inr first) is =
-    frame_refuses (framed_said (read_by One bytes)) e cause (frame_own bytes h e first) (ap framed_said (ap unstamped (first_is bytes e h first))) is
+    frame_refuses (framed_said (read_by One bytes)) e cause (frame_own bytes h e first) (ap framed_said (ap unstamped_frame (first_is bytes e h first))) is
 
 pub second_refused : (bytes : List ℕ) (e : FrameFault) (cause : Cause) → IsBytes bytes → (e ≡ FrameFault.NoMemory) ⊎ StampedFirst e bytes → cause ≡ frame_cause e → Refuses (framed_said (read_by Two bytes)) cause
 second_refused bytes e cause h (inl none) is = poor (framed_said (read_by Two bytes)) e cause none is

@@ -29,9 +29,9 @@ frame_shown files file x h =
 
 -- ---- the other way
 
-unrefused : (long : Bool) (s : Said (List ℕ)) → IsSaid (if long then outside TooLong else s) → IsSaid s
-unrefused true s h = elim h [ ]
-unrefused false s h = h
+said_unless_long : (long : Bool) (s : Said (List ℕ)) → IsSaid (if long then outside TooLong else s) → IsSaid s
+said_unless_long true s h = elim h [ ]
+said_unless_long false s h = h
 
 module _ (text : List ℕ) where
   frame_found : (bytes : List ℕ) → decode_of (without_feed text) ≡ Ok bytes → (r : Result PlainStamped FrameFault) → read_by (version_shown bytes) bytes ≡ r → IsSaid (framed_said r)
@@ -51,7 +51,7 @@ module _ (text : List ℕ) where
 file_found : (files : FileMap) (file : List ℕ) (o : Option (List ℕ)) → file_at files file ≡ o → IsSaid (said_at frame_limit frame_said o) → (x : PlainStamped) × HoldsFrame files file x
 file_found files file None e h = elim h [ ]
 file_found files file (Some text) e h =
-    let found = text_found text (unrefused (nat_lt frame_limit (length text)) (frame_said text) h) in
+    let found = text_found text (said_unless_long (nat_lt frame_limit (length text)) (frame_said text) h) in
     (found.2.0, record { text = text; bytes = found.0; there = e; decoded = found.1; accepted = found.2.1 })
 
 -- what says something is the hex of a frame

@@ -9,7 +9,7 @@ use node_io::{Files, Sink};
 use std::alloc::Global;
 
 /// Reads the file `name` and writes the output of the command `R`.
-#[tactic(auto, using(crate::proofs::Rendering::rendered, crate::proofs::Taking::takes_none))]
+#[tactic(auto, using(crate::proofs::Rendering::taken_is_rendered, crate::proofs::Taking::takes_none))]
 pub fn on_file<R: FileCommand, F: Files, K: Sink>(
     alloc: Global,
     files: &mut F,

@@ -25,7 +25,7 @@ pub struct Show;
 
 // The text without the line feed that it may have at its end.
 #[tactic(auto, using(crate::proofs::ShowLemmas::no_text, crate::proofs::ShowLemmas::feed_off, crate::proofs::ShowLemmas::no_feed))]
-fn trimmed(text: &[u8]) -> &[u8]
+fn trim_feed(text: &[u8]) -> &[u8]
     ensures { result.now ≡ without_feed text.now }
 {
     if text.is_empty() {
@@ -41,11 +41,11 @@ fn trimmed(text: &[u8]) -> &[u8]
 
 // The bytes that hex digits of either case stand for.
 #[tactic(auto, using(crate::proofs::ShowLemmas::decoded_bytes))]
-fn decoded(alloc: Global, text: &[u8]) -> Result<Bytes, Cause>
+fn bytes_of_hex(alloc: Global, text: &[u8]) -> Result<Bytes, Cause>
     ensures reads { Reads (bytes_said (decode_of (without_feed text.now))) result }
     ensures bytes { IfOk result IsBytes }
 {
-    match hex::decode(alloc, trimmed(text)) {
+    match hex::decode(alloc, trim_feed(text)) {
         Ok(bytes) => Ok(Bytes::of(bytes)),
         Err(FromHexError::OutOfMemory) => Err(Cause::NoMemory),
         Err(_) => Err(Cause::Refused(Refusal::BadHex)),
@@ -88,7 +88,7 @@ fn second_framed(alloc: Global, bytes: &[u8]) -> Result<Stamped, Cause>
 }
 
 // The frame that the bytes spell in their version.
-fn framed(alloc: Global, bytes: &[u8]) -> Result<Stamped, Cause>
+fn frame_of_bytes(alloc: Global, bytes: &[u8]) -> Result<Stamped, Cause>
     requires { IsBytes bytes.now }
     ensures { MatchResult result
         (λ x. read_by (version_shown bytes.now) bytes.now ≡ Ok (stamped_plain x))
@@ -116,18 +116,18 @@ fn bytes_text(alloc: Global, bytes: &[u8]) -> Result<Bytes, Cause>
     requires { IsBytes bytes.now }
     ensures { Reads (framed_said (read_by (version_shown bytes.now) bytes.now)) result }
 {
-    match framed(alloc, bytes) {
+    match frame_of_bytes(alloc, bytes) {
         Ok(frame) => text_of(alloc, &frame),
         Err(cause) => Err(cause),
     }
 }
 
 // What a frame in hex says.
-#[tactic(auto, using(crate::proofs::Refusing::undecoded), unfolding(crate::specs::Shows::frame_said))]
+#[tactic(auto, using(crate::proofs::Refusing::decoding_still_refuses), unfolding(crate::specs::Shows::frame_said))]
 fn hex_text(alloc: Global, text: &[u8]) -> Result<Bytes, Cause>
     ensures { Reads (frame_said text.now) result }
 {
-    match decoded(alloc, text) {
+    match bytes_of_hex(alloc, text) {
         Ok(bytes) => bytes_text(alloc, bytes.as_slice()),
         Err(cause) => Err(cause),
     }

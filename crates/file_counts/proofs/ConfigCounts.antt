@@ -5,14 +5,14 @@ use Rattle.std.specs.Str.{bytes_eq}
 use lib.Chars.{codes}
 use Rattle.line_files.specs.declared.fault.LineReason.{LineReason}
 use Rattle.line_files.specs.declared.fault.LineReason.TheVariants.{BadWord, UnknownProgram, TwiceNamed}
-use Rattle.line_files.specs.Counting.{moved, moved_by, CountsOnly}
+use Rattle.line_files.specs.Counting.{moved_line, moved_by, CountsOnly}
 use Rattle.line_files.specs.FileNames.{file_name_at}
 use Rattle.line_files.specs.Files.{is_skipped}
 use Rattle.line_files.specs.Injections.{injection_at}
 use Rattle.line_files.specs.Numbers.{number_at}
 use Rattle.line_files.specs.Packages.{package_at}
-use Rattle.line_files.specs.Programs.{program_in, opened_program, weighed}
-use Rattle.line_files.specs.Reads.{word_at, end_at, allowed}
+use Rattle.line_files.specs.Programs.{program_in, opened_program, weighed_sum}
+use Rattle.line_files.specs.Reads.{word_at, end_at, allowed_or_reason}
 use Rattle.node_files.specs.declared.config.ConfigReading.{ConfigReading}
 use Rattle.node_files.specs.declared.config.ConfigStage.{ConfigStage}
 use Rattle.node_files.specs.declared.config.ConfigStage.TheVariants as stages
@@ -89,7 +89,7 @@ missing_moved first ws s =
     then_changed (later_config first) (package_at s.missing ws) _ _ (λ missing.
     then_changed (later_config first) (end_at missing.1) _ _ (λ u. refl))
 
-program_moved : (first number : ℕ) (ws : List (List ℕ)) (s : ConfigReading) → program_line (moved first number) ws (later_config first s) ≡ changed_read (later_config first) (program_line number ws s)
+program_moved : (first number : ℕ) (ws : List (List ℕ)) (s : ConfigReading) → program_line (moved_line first number) ws (later_config first s) ≡ changed_read (later_config first) (program_line number ws s)
 unfolding program_line
 program_moved first number ws s = then_changed (later_config first) (end_at ws) _ _ (λ u. refl)
 
@@ -100,21 +100,21 @@ inject_moved first ws s =
     then_changed (later_config first) (number_at 1 1000000 ws) _ _ (λ turn.
     then_changed (later_config first) (behind_word (codes "inject") turn.1) _ _ (λ more.
     then_changed (later_config first) (injection_at s.version program more) _ _ (λ i.
-    then_changed (later_config first) (weighed s.weight i.0) _ _ (λ total. refl)))))
+    then_changed (later_config first) (weighed_sum s.weight i.0) _ _ (λ total. refl)))))
 
-rest_moved : (first number : ℕ) (k : TailWord) (ws : List (List ℕ)) (s : ConfigReading) → tail_rest k (moved first number) ws (later_config first s) ≡ changed_read (later_config first) (tail_rest k number ws s)
+rest_moved : (first number : ℕ) (k : TailWord) (ws : List (List ℕ)) (s : ConfigReading) → tail_rest k (moved_line first number) ws (later_config first s) ≡ changed_read (later_config first) (tail_rest k number ws s)
 unfolding tail_rest
 rest_moved first number tail.Dev ws s = device_moved first ws s
 rest_moved first number tail.Without ws s = missing_moved first ws s
 rest_moved first number tail.Program ws s = program_moved first number ws s
 rest_moved first number tail.At ws s = inject_moved first ws s
 
-tail_moved : (first number : ℕ) (part : TailPart) (ws : List (List ℕ)) (s : ConfigReading) → tail_line part (moved first number) ws (later_config first s) ≡ changed_read (later_config first) (tail_line part number ws s)
+tail_moved : (first number : ℕ) (part : TailPart) (ws : List (List ℕ)) (s : ConfigReading) → tail_line part (moved_line first number) ws (later_config first s) ≡ changed_read (later_config first) (tail_line part number ws s)
 unfolding tail_line
 tail_moved first number part ws s =
     then_changed (later_config first) (word_at ws) _ _ (λ w.
     then_changed (later_config first) (ok_or (tail_word w.0) BadWord) _ _ (λ k.
-    then_changed (later_config first) (allowed (may_come part k) BadWord) _ _ (λ u. rest_moved first number k w.1 s)))
+    then_changed (later_config first) (allowed_or_reason (may_come part k) BadWord) _ _ (λ u. rest_moved first number k w.1 s)))
 
 close_moved : (first : ℕ) (s : ConfigReading) → close_program (later_config first s) ≡ changed_read (later_config first) (close_program s)
 unfolding close_program
@@ -122,19 +122,19 @@ close_moved first s = then_changed (later_config first) (program_in s.program.te
 
 -- ---- whole lines
 
-step_moved : (first number : ℕ) (line : List ℕ) (stage : ConfigStage) (s : ConfigReading) → config_step_at stage (moved first number) line (later_config first s) ≡ moved_by first (later_config first) (config_step_at stage number line s)
+step_moved : (first number : ℕ) (line : List ℕ) (stage : ConfigStage) (s : ConfigReading) → config_step_at stage (moved_line first number) line (later_config first s) ≡ moved_by first (later_config first) (config_step_at stage number line s)
 unfolding config_step_at
 step_moved first number line stages.Header s = version_moved (codes "planet node ") first number line (later_config first) (begun_by s) (begun_by (later_config first s)) (λ v. refl)
 step_moved first number line (stages.Wants w) s =
     usual_moved first number line (later_config first) s (later_config first s) (λ ws. wanted_line w ws s) (λ ws. wanted_line w ws (later_config first s)) refl (λ ws. wanted_moved first w ws s)
 step_moved first number line (stages.Tail part) s =
-    usual_moved first number line (later_config first) s (later_config first s) (λ ws. tail_line part number ws s) (λ ws. tail_line part (moved first number) ws (later_config first s)) refl (λ ws. tail_moved first number part ws s)
+    usual_moved first number line (later_config first) s (later_config first s) (λ ws. tail_line part number ws s) (λ ws. tail_line part (moved_line first number) ws (later_config first s)) refl (λ ws. tail_moved first number part ws s)
 step_moved first number line stages.Inside s =
     either_moved first (later_config first) (bytes_eq line (codes "end program")) _ _ _ _
     (at_moved first s.program.line (later_config first) (close_program s) (close_program (later_config first s)) (close_moved first s))
     refl
 
-end_moved : (first number : ℕ) (stage : ConfigStage) (s : ConfigReading) → config_end stage (moved first number) (later_config first s) ≡ moved_by first (λ x. x) (config_end stage number s)
+end_moved : (first number : ℕ) (stage : ConfigStage) (s : ConfigReading) → config_end stage (moved_line first number) (later_config first s) ≡ moved_by first (λ x. x) (config_end stage number s)
 end_moved first number stages.Header s = refl
 end_moved first number (stages.Wants w) s = refl
 end_moved first number (stages.Tail part) s = refl
@@ -149,20 +149,20 @@ moves = record {
 pub counts : CountsOnly config_format later_config
 counts = moves_count config_format later_config moves
 
-skipped : (number : ℕ) (line : List ℕ) (stage : ConfigStage) (s : ConfigReading) → is_skipped line ≡ true → IsConfigOutside stage → config_step_at stage number line s ≡ Ok s
+skipped_changes_nothing : (number : ℕ) (line : List ℕ) (stage : ConfigStage) (s : ConfigReading) → is_skipped line ≡ true → IsConfigOutside stage → config_step_at stage number line s ≡ Ok s
 unfolding config_step_at
-skipped number line stages.Header s e o = absurd o
-skipped number line (stages.Wants w) s e o = usual_skips number line s (λ ws. wanted_line w ws s) e
-skipped number line (stages.Tail part) s e o = usual_skips number line s (λ ws. tail_line part number ws s) e
-skipped number line stages.Inside s e o = absurd o
+skipped_changes_nothing number line stages.Header s e o = absurd o
+skipped_changes_nothing number line (stages.Wants w) s e o = usual_skips number line s (λ ws. wanted_line w ws s) e
+skipped_changes_nothing number line (stages.Tail part) s e o = usual_skips number line s (λ ws. tail_line part number ws s) e
+skipped_changes_nothing number line stages.Inside s e o = absurd o
 
 -- the first line's number moves behind no line
-fixed : (first : ℕ) → 1 ≤ first → later_config first nothing_read ≡ nothing_read
-fixed first low = ap (λ n. let s : ConfigReading = record nothing_read { program = opened_program n } in s) (moved_not first 1 low)
+start_is_fixed : (first : ℕ) → 1 ≤ first → later_config first nothing_read ≡ nothing_read
+start_is_fixed first low = ap (λ n. let s : ConfigReading = record nothing_read { program = opened_program n } in s) (moved_not first 1 low)
 
 pub skips : SkipsLines config_format nothing_read ConfigOutside
 skips = skips_lines config_format nothing_read later_config ConfigOutside moves (record {
-  step = λ number line s e o. skipped number line s.stage s e o;
-  fixed = fixed;
+  step = λ number line s e o. skipped_changes_nothing number line s.stage s e o;
+  fixed = start_is_fixed;
   header = λ o. o;
 })

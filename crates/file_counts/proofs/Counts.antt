@@ -2,7 +2,7 @@
 use Rattle.std.proofs.Common.{◌≡◌, ℕ, ◌+◌, ◌≤◌, ◌<◌, true, List, [], ◌∷◌, length, Result, Ok, Err, refl, sym, ap, subst, ◌∙◌, arith}
 use Rattle.std.proofs.lemmas.Bool.{le-leb}
 use Rattle.line_files.specs.declared.fault.LineFault.{LineFault}
-use Rattle.line_files.specs.Counting.{moved, moved_by, CountsOnly}
+use Rattle.line_files.specs.Counting.{moved_line, moved_by, CountsOnly}
 use Rattle.line_files.specs.Files.{Format, is_skipped}
 use Rattle.line_files.specs.Inside.{after_lines}
 use Rattle.line_files.specs.Reads.{and_then}
@@ -11,10 +11,10 @@ use Rattle.file_counts.specs.Skipping.{SkipsLines}
 
 -- each line and the end go over, whatever stands before them
 pub record Moves {S T : Type 0} (f : Format S T) (shift : ℕ → S → S) : Type 0 where
-  pub step : (first number : ℕ) (line : List ℕ) (s : S) → f.step (moved first number) line (shift first s) ≡ moved_by first (shift first) (f.step number line s)
-  pub finish : (first number : ℕ) (s : S) → f.finish (moved first number) (shift first s) ≡ moved_by first (λ t. t) (f.finish number s)
+  pub step : (first number : ℕ) (line : List ℕ) (s : S) → f.step (moved_line first number) line (shift first s) ≡ moved_by first (shift first) (f.step number line s)
+  pub finish : (first number : ℕ) (s : S) → f.finish (moved_line first number) (shift first s) ≡ moved_by first (λ t. t) (f.finish number s)
 
-pub moved_not : (first number : ℕ) → number ≤ first → moved first number ≡ number
+pub moved_not : (first number : ℕ) → number ≤ first → moved_line first number ≡ number
 moved_not first number le = rw (le-leb number first le) refl
 
 pub moves_count : {S T : Type 0} (f : Format S T) (shift : ℕ → S → S) → Moves f shift → CountsOnly f shift
@@ -34,7 +34,7 @@ stays f shift m [] first number s t le fixed e =
 stays {S} {T} f shift m (line ∷ ls) first number s t le fixed e =
     by (f.step number line s) refl e (λ x is q. stays f shift m ls first (number + 1) x t (omega (arith, le)) is q)
   where
-    here : moved first number ≡ number
+    here : moved_line first number ≡ number
     here = moved_not first number (omega (arith, le))
 
     again : f.step number line s ≡ moved_by first (shift first) (f.step number line s)
@@ -62,9 +62,9 @@ skips_lines {S} f begin shift Outside m k bytes more before after line has skipp
     let s = end.inside.state in
     line_counts f shift begin s bytes more before after line (moves_count f shift m) end.inside.said
     (k.step (1 + length before) line s skipped end.outside)
-    (fixed before s end.inside.said end.outside)
+    (outside_is_fixed before s end.inside.said end.outside)
     has.without has.with
   where
-    fixed : (ls : List (List ℕ)) (s : S) → after_lines f 1 ls begin ≡ Ok s → Outside s → shift (length ls) s ≡ s
-    fixed [] s e o = let same : begin ≡ s = cc in absurd (k.header (subst Outside (sym same) o))
-    fixed (l ∷ ls) s e o = stays f shift m (l ∷ ls) (length (l ∷ ls)) 1 begin s (omega arith) (k.fixed (length (l ∷ ls)) (omega arith)) e
+    outside_is_fixed : (ls : List (List ℕ)) (s : S) → after_lines f 1 ls begin ≡ Ok s → Outside s → shift (length ls) s ≡ s
+    outside_is_fixed [] s e o = let same : begin ≡ s = cc in absurd (k.header (subst Outside (sym same) o))
+    outside_is_fixed (l ∷ ls) s e o = stays f shift m (l ∷ ls) (length (l ∷ ls)) 1 begin s (omega arith) (k.fixed (length (l ∷ ls)) (omega arith)) e

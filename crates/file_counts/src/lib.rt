@@ -14,18 +14,18 @@ ghost use Rattle.port_files.specs.PortFiles as port;
 ghost use Rattle.audit_files.specs.AuditFiles as audit;
 ghost use Rattle.file_counts.specs.Outside.{ConfigOutside, AskOutside, LogOutside, FleetOutside};
 ghost use Rattle.file_counts.specs.Outside.{CutOutside, PortOutside, AuditOutside};
-ghost use Rattle.file_counts.specs.Later.{later_config, later_ask, unmoved};
+ghost use Rattle.file_counts.specs.Later.{later_config, later_ask, unmoved_reading};
 ghost use Rattle.file_counts.specs.Skipping.{SkipsLines};
 
 /// These files only count their lines: with one more, those behind it get the next numbers, and say the same.
 pub fn files_only_count()
     ensures configurations { CountsOnly config.config_format later_config }
     ensures requests { CountsOnly ask.ask_format later_ask }
-    ensures logs { CountsOnly log.log_format unmoved }
-    ensures fleets { CountsOnly fleet.fleet_format unmoved }
-    ensures messages { CountsOnly cut.cut_format unmoved }
-    ensures ports { CountsOnly port.port_format unmoved }
-    ensures audits { CountsOnly audit.audit_format unmoved }
+    ensures logs { CountsOnly log.log_format unmoved_reading }
+    ensures fleets { CountsOnly fleet.fleet_format unmoved_reading }
+    ensures messages { CountsOnly cut.cut_format unmoved_reading }
+    ensures ports { CountsOnly port.port_format unmoved_reading }
+    ensures audits { CountsOnly audit.audit_format unmoved_reading }
 {}
 
 /// An empty line or a comment, put behind the header and outside of programs, changes nothing but the numbers of the

@@ -8,7 +8,7 @@ use Rattle.file_faults.proofs.NodeHolds.{header_holds, usual_holds}
 use Rattle.file_faults.specs.Refusals.{FaultHolds}
 use Rattle.line_files.specs.FileNames.{file_name_at}
 use Rattle.line_files.specs.Numbers.{number_at}
-use Rattle.line_files.specs.Reads.{word_at, end_at, allowed}
+use Rattle.line_files.specs.Reads.{word_at, end_at, allowed_or_reason}
 use Rattle.line_files.specs.declared.fault.LineFault.{LineFault}
 use Rattle.line_files.specs.declared.fault.LineFault.TheVariants as faults
 use Rattle.line_files.specs.declared.fault.LineReason.TheVariants.{BadHeader, BadWord, BadArgument, TwiceNamed, TooMany}
@@ -25,9 +25,9 @@ use lib.Chars.{codes}
 log_line_holds : (ws : List (List ℕ)) (s : AuditReading) → Holds (log_line ws s)
 unfolding log_line
 log_line_holds ws s =
-    then_holds (allowed (nat_lt (length s.logs) 16) TooMany) _ (allowed_holds (nat_lt (length s.logs) 16) TooMany tt) (λ u0.
+    then_holds (allowed_or_reason (nat_lt (length s.logs) 16) TooMany) _ (allowed_holds (nat_lt (length s.logs) 16) TooMany tt) (λ u0.
     then_holds (file_name_at ws) _ (file_name_at_holds ws) (λ file.
-    then_holds (allowed (not (is_named file.0 s.logs)) TwiceNamed) _ (allowed_holds (not (is_named file.0 s.logs)) TwiceNamed tt) (λ u2.
+    then_holds (allowed_or_reason (not (is_named file.0 s.logs)) TwiceNamed) _ (allowed_holds (not (is_named file.0 s.logs)) TwiceNamed tt) (λ u2.
     then_holds (end_at file.1) _ (end_at_holds file.1) (λ u3.
     done_holds (record s { logs = s.logs ++ file.0 ∷ [] })))))
 
@@ -41,7 +41,7 @@ device_end_holds : (links : List Cable) (h : Host) (ws : List (List ℕ)) → Ho
 unfolding device_end
 device_end_holds links h ws =
     then_holds (number_at 1 8 ws) _ (number_at_holds 1 8 ws) (λ d.
-    then_holds (allowed (not (has_link h (dev_of d.0) links)) TwiceNamed) _ (allowed_holds (not (has_link h (dev_of d.0) links)) TwiceNamed tt) (λ u1.
+    then_holds (allowed_or_reason (not (has_link h (dev_of d.0) links)) TwiceNamed) _ (allowed_holds (not (has_link h (dev_of d.0) links)) TwiceNamed tt) (λ u1.
     done_holds (dev_of d.0, d.1)))
 
 link_line_holds : (ws : List (List ℕ)) (s : AuditReading) → Holds (link_line ws s)
@@ -50,7 +50,7 @@ link_line_holds ws s =
     then_holds (host_end ws) _ (host_end_holds ws) (λ n.
     then_holds (device_end s.links n.0 n.1) _ (device_end_holds s.links n.0 n.1) (λ d.
     then_holds (host_end d.1) _ (host_end_holds d.1) (λ m.
-    then_holds (allowed (not (m.0.0 == n.0.0)) BadArgument) _ (allowed_holds (not (m.0.0 == n.0.0)) BadArgument tt) (λ u3.
+    then_holds (allowed_or_reason (not (m.0.0 == n.0.0)) BadArgument) _ (allowed_holds (not (m.0.0 == n.0.0)) BadArgument tt) (λ u3.
     then_holds (device_end s.links m.0 m.1) _ (device_end_holds s.links m.0 m.1) (λ e.
     then_holds (end_at e.1) _ (end_at_holds e.1) (λ u5.
     done_holds (record s { links = s.links ++ (record { from = n.0; from_dev = d.0; to = m.0; to_dev = e.0 }) ∷ [] })))))))

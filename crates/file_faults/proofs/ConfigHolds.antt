@@ -10,8 +10,8 @@ use Rattle.line_files.specs.Headers.{version_in}
 use Rattle.line_files.specs.Injections.{injection_at}
 use Rattle.line_files.specs.Numbers.{number_at}
 use Rattle.line_files.specs.Packages.{package_at}
-use Rattle.line_files.specs.Programs.{opened_program, program_in, weighed}
-use Rattle.line_files.specs.Reads.{word_at, end_at, allowed}
+use Rattle.line_files.specs.Programs.{opened_program, program_in, weighed_sum}
+use Rattle.line_files.specs.Reads.{word_at, end_at, allowed_or_reason}
 use Rattle.line_files.specs.declared.fault.LineFault.{LineFault}
 use Rattle.line_files.specs.declared.fault.LineReason.TheVariants.{BadHeader, BadWord, UnknownProgram, TwiceNamed}
 use Rattle.node_files.specs.Configs.{port_line, is_used, free_port, control_line, period_line, log_line, wanted_line, tail_word, may_come, with_device, device_line, missing_line, program_line, inject_line, tail_rest, tail_line, close_program, begun_by, config_step_at, config_said, config_end, config_format, nothing_read, config_of}
@@ -42,7 +42,7 @@ free_port_holds : (s : ConfigReading) (ws : List (List ℕ)) → Holds (free_por
 unfolding free_port
 free_port_holds s ws =
     then_holds (number_at 1 65535 ws) _ (number_at_holds 1 65535 ws) (λ p.
-    then_holds (allowed (not (is_used s p.0)) TwiceNamed) _ (allowed_holds (not (is_used s p.0)) TwiceNamed tt) (λ u1.
+    then_holds (allowed_or_reason (not (is_used s p.0)) TwiceNamed) _ (allowed_holds (not (is_used s p.0)) TwiceNamed tt) (λ u1.
     done_holds p))
 
 control_line_holds : (ws : List (List ℕ)) (s : ConfigReading) → Holds (control_line ws s)
@@ -109,7 +109,7 @@ inject_line_holds ws s =
     then_holds (number_at 1 1000000 ws) _ (number_at_holds 1 1000000 ws) (λ turn.
     then_holds (behind_word (codes "inject") turn.1) _ (behind_word_holds (codes "inject") turn.1) (λ more.
     then_holds (injection_at s.version program more) _ (injection_at_holds s.version program more) (λ i.
-    then_holds (weighed s.weight i.0) _ (weighed_holds s.weight i.0) (λ total.
+    then_holds (weighed_sum s.weight i.0) _ (weighed_holds s.weight i.0) (λ total.
     done_holds (record s { at = s.at ++ record { turn = turn.0; bound = i.1; chunk = i.0; handler = i.2 } ∷ []; weight = total }))))))
 
 tail_rest_holds : (x0 : TailWord) (number : ℕ) (ws : List (List ℕ)) (s : ConfigReading) → Holds (tail_rest x0 number ws s)
@@ -124,7 +124,7 @@ unfolding tail_line
 tail_line_holds part number ws s =
     then_holds (word_at ws) _ (word_at_holds ws) (λ w.
     then_holds (ok_or (tail_word w.0) BadWord) _ (ok_or_holds (tail_word w.0) BadWord tt) (λ k.
-    then_holds (allowed (may_come part k) BadWord) _ (allowed_holds (may_come part k) BadWord tt) (λ u2.
+    then_holds (allowed_or_reason (may_come part k) BadWord) _ (allowed_holds (may_come part k) BadWord tt) (λ u2.
     tail_rest_holds k number w.1 s)))
 
 close_program_holds : (s : ConfigReading) → Holds (close_program s)

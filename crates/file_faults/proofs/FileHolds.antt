@@ -8,7 +8,7 @@ use Rattle.line_files.specs.declared.fault.LineFault.TheVariants as faults
 use Rattle.line_files.specs.Lines.{lines}
 use Rattle.line_files.specs.Reads.{and_then}
 use Rattle.line_files.specs.Files.{Format, at_line, read_on, file_of}
-use Rattle.line_files.specs.Headers.{versioned}
+use Rattle.line_files.specs.Headers.{next_by_version}
 use Rattle.line_files.proofs.LineLaws.{err_is}
 use Rattle.file_faults.specs.Refusals.{FaultHolds}
 use Rattle.file_faults.proofs.LineHolds.{Holds}
@@ -31,7 +31,7 @@ pub at_line_refuses : {A : Type 0} (number : ℕ) (r : Result A LineReason) → 
 at_line_refuses number (Ok x) h = done_refuses x
 at_line_refuses number (Err d) h = none_refuses (faults.Line number d) (h d refl)
 
-pub version_holds : {A : Type 0} (number : ℕ) (next : Version → A) (v : Option Version) → OnRefusal (versioned number next v)
+pub version_holds : {A : Type 0} (number : ℕ) (next : Version → A) (v : Option Version) → OnRefusal (next_by_version number next v)
 version_holds number next (Some version) = done_refuses (next version)
 version_holds number next None = none_refuses (faults.Line number BadHeader) tt
 

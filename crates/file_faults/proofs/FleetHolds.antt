@@ -7,7 +7,7 @@ use Rattle.file_faults.proofs.NodeHolds.{last_number_holds, header_holds, usual_
 use Rattle.file_faults.specs.Refusals.{FaultHolds}
 use Rattle.line_files.specs.FileNames.{file_name_at}
 use Rattle.line_files.specs.Numbers.{number_at}
-use Rattle.line_files.specs.Reads.{word_at, end_at, allowed}
+use Rattle.line_files.specs.Reads.{word_at, end_at, allowed_or_reason}
 use Rattle.line_files.specs.declared.fault.LineFault.{LineFault}
 use Rattle.line_files.specs.declared.fault.LineReason.TheVariants.{BadHeader, BadWord, TooMany}
 use Rattle.network_plan.specs.Hosts.{host_of}
@@ -47,7 +47,7 @@ unfolding kid_line
 kid_line_holds ws s =
     then_holds (word_at ws) _ (word_at_holds ws) (λ w.
     then_holds (ok_or (kid_word w.0) BadWord) _ (ok_or_holds (kid_word w.0) BadWord tt) (λ k.
-    then_holds (allowed (nat_lt (length s.children) 64) TooMany) _ (allowed_holds (nat_lt (length s.children) 64) TooMany tt) (λ u2.
+    then_holds (allowed_or_reason (nat_lt (length s.children) 64) TooMany) _ (allowed_holds (nat_lt (length s.children) 64) TooMany tt) (λ u2.
     then_holds (kid_rest k w.1) _ (kid_rest_holds k w.1) (λ kid.
     done_holds (record s { children = s.children ++ kid ∷ [] })))))
 

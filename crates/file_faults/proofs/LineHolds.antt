@@ -9,11 +9,11 @@ use Rattle.line_files.specs.Handlers.{has_handler, named_handler, handler_at}
 use Rattle.line_files.specs.HexWords.{hex_of, within_size, hex_at}
 use Rattle.line_files.specs.HostLists.{is_above, host_more, hosts_from, hosts_with}
 use Rattle.line_files.specs.Injections.{injection_at}
-use Rattle.line_files.specs.Lines.{spaced}
+use Rattle.line_files.specs.Lines.{spaced_words}
 use Rattle.line_files.specs.Numbers.{number_in, number_at}
 use Rattle.line_files.specs.Packages.{package_of, same_package, package_at, one_package, packages_at}
-use Rattle.line_files.specs.Programs.{accepted, program_in, named_word, has_name, entry_at, args_at, chunk_with, typed_chunk, call_at, weighed}
-use Rattle.line_files.specs.Reads.{◌>>=◌, word_at, allowed, rest_at, end_at}
+use Rattle.line_files.specs.Programs.{accepted_program, program_in, named_word, has_name, entry_at, args_at, chunk_with, typed_chunk, call_at, weighed_sum}
+use Rattle.line_files.specs.Reads.{◌>>=◌, word_at, allowed_or_reason, rest_at, end_at}
 use Rattle.line_files.specs.declared.fault.LineReason.{LineReason}
 use Rattle.line_files.specs.declared.fault.LineReason.TheVariants.{BadNumber, BadArgument, BadWord, TwiceNamed, TooMany, ProgramRefused}
 use Rattle.link_window.specs.declared.window.Version.{Version}
@@ -60,7 +60,7 @@ pub either_holds : {A : Type 0} (t : Bool) (a b : Result A LineReason) → Holds
 either_holds true a b h k = h
 either_holds false a b h k = k
 
-pub allowed_holds : (b : Bool) (r : LineReason) → ReasonHolds r → Holds (allowed b r)
+pub allowed_holds : (b : Bool) (r : LineReason) → ReasonHolds r → Holds (allowed_or_reason b r)
 allowed_holds true r h = done_holds tt
 allowed_holds false r h = none_holds r h
 
@@ -80,13 +80,13 @@ end_at_holds (w ∷ ws) = none_holds BadWord tt
 
 pub rest_at_holds : (ws : List (List ℕ)) → Holds (rest_at ws)
 rest_at_holds [] = none_holds BadWord tt
-rest_at_holds (w ∷ ws) = done_holds (spaced (w ∷ ws))
+rest_at_holds (w ∷ ws) = done_holds (spaced_words (w ∷ ws))
 
 pub named_word_holds : (w : List ℕ) (r : LineReason) → ReasonHolds r → Holds (named_word w r)
 named_word_holds w r h = either_holds (is_name w) (Ok w) (Err r) (done_holds w) (none_holds r h)
 
 -- a program is refused for the first thing that is wrong with its text
-accepted_by : (text : List ℕ) (r : Result Program TextFault) → program_of text ≡ r → Holds (accepted r)
+accepted_by : (text : List ℕ) (r : Result Program TextFault) → program_of text ≡ r → Holds (accepted_program r)
 accepted_by text (Ok program) e = done_holds program
 accepted_by text (Err why) e = none_holds (ProgramRefused why) (text_own text why e)
 
@@ -109,14 +109,14 @@ unfolding package_at
 package_at_holds seen ws =
     then_holds (word_at ws) _ (word_at_holds ws) (λ p.
     then_holds (ok_or (package_of p.0) BadWord) _ (ok_or_holds (package_of p.0) BadWord tt) (λ k.
-    then_holds (allowed (not (list_any (same_package k) seen)) TwiceNamed) _ (allowed_holds (not (list_any (same_package k) seen)) TwiceNamed tt) (λ u2.
+    then_holds (allowed_or_reason (not (list_any (same_package k) seen)) TwiceNamed) _ (allowed_holds (not (list_any (same_package k) seen)) TwiceNamed tt) (λ u2.
     done_holds (seen ++ k ∷ [], p.1))))
 
 pub one_package_holds : (seen : List PackageName) (ws : List (List ℕ)) → Holds (one_package seen ws)
 unfolding one_package
 one_package_holds seen ws =
     then_holds (word_at ws) _ (word_at_holds ws) (λ w.
-    then_holds (allowed (bytes_eq w.0 (codes "without")) BadWord) _ (allowed_holds (bytes_eq w.0 (codes "without")) BadWord tt) (λ u1.
+    then_holds (allowed_or_reason (bytes_eq w.0 (codes "without")) BadWord) _ (allowed_holds (bytes_eq w.0 (codes "without")) BadWord tt) (λ u1.
     package_at_holds seen w.1))
 
 pub packages_at_holds : (seen : List PackageName) (ws : List (List ℕ)) → Holds (packages_at seen ws)
@@ -131,8 +131,8 @@ pub host_more_holds : (seen : List Host) (ws : List (List ℕ)) → Holds (host_
 unfolding host_more
 host_more_holds seen ws =
     then_holds (number_at 0 4294967295 ws) _ (number_at_holds 0 4294967295 ws) (λ n.
-    then_holds (allowed (nat_lt (length seen) 32) TooMany) _ (allowed_holds (nat_lt (length seen) 32) TooMany tt) (λ u1.
-    then_holds (allowed (is_above seen n.0) BadArgument) _ (allowed_holds (is_above seen n.0) BadArgument tt) (λ u2.
+    then_holds (allowed_or_reason (nat_lt (length seen) 32) TooMany) _ (allowed_holds (nat_lt (length seen) 32) TooMany tt) (λ u1.
+    then_holds (allowed_or_reason (is_above seen n.0) BadArgument) _ (allowed_holds (is_above seen n.0) BadArgument tt) (λ u2.
     done_holds (seen ++ host_of n.0 ∷ [], n.1))))
 
 pub hosts_from_holds : (seen : List Host) (ws : List (List ℕ)) → Holds (hosts_from seen ws)
@@ -146,20 +146,20 @@ pub hosts_with_holds : (here : Host) (ws : List (List ℕ)) → Holds (hosts_wit
 unfolding hosts_with
 hosts_with_holds here ws =
     then_holds (hosts_from [] ws) _ (hosts_from_holds [] ws) (λ hosts.
-    then_holds (allowed (is_listed here hosts) BadArgument) _ (allowed_holds (is_listed here hosts) BadArgument tt) (λ u1.
+    then_holds (allowed_or_reason (is_listed here hosts) BadArgument) _ (allowed_holds (is_listed here hosts) BadArgument tt) (λ u1.
     done_holds hosts))
 
 pub file_name_at_holds : (ws : List (List ℕ)) → Holds (file_name_at ws)
 unfolding file_name_at
 file_name_at_holds ws =
     then_holds (word_at ws) _ (word_at_holds ws) (λ w.
-    then_holds (allowed (is_file_name w.0) BadWord) _ (allowed_holds (is_file_name w.0) BadWord tt) (λ u1.
+    then_holds (allowed_or_reason (is_file_name w.0) BadWord) _ (allowed_holds (is_file_name w.0) BadWord tt) (λ u1.
     done_holds w))
 
 pub program_in_holds : (text : List ℕ) → Holds (program_in text)
 unfolding program_in
 program_in_holds text =
-    then_holds (allowed (nat_le (length text) 65536) TooMany) _ (allowed_holds (nat_le (length text) 65536) TooMany tt) (λ u0.
+    then_holds (allowed_or_reason (nat_le (length text) 65536) TooMany) _ (allowed_holds (nat_le (length text) 65536) TooMany tt) (λ u0.
     accepted_by text (program_of text) refl)
 
 pub entry_at_holds : (funs : List Fun) (ws : List (List ℕ)) → Holds (entry_at funs ws)
@@ -173,13 +173,13 @@ pub args_at_holds : (ws : List (List ℕ)) → Holds (args_at ws)
 unfolding args_at
 args_at_holds ws =
     then_holds (rest_at ws) _ (rest_at_holds ws) (λ text.
-    then_holds (allowed (nat_le (length text) 65536) BadArgument) _ (allowed_holds (nat_le (length text) 65536) BadArgument tt) (λ u1.
+    then_holds (allowed_or_reason (nat_le (length text) 65536) BadArgument) _ (allowed_holds (nat_le (length text) 65536) BadArgument tt) (λ u1.
     ok_or_holds (args_of_text text) BadArgument tt))
 
 pub typed_chunk_holds : (chunk : Chunk) → Holds (typed_chunk chunk)
 unfolding typed_chunk
 typed_chunk_holds chunk =
-    then_holds (allowed (not (is_some (refusal_of chunk))) BadArgument) _ (allowed_holds (not (is_some (refusal_of chunk))) BadArgument tt) (λ u0.
+    then_holds (allowed_or_reason (not (is_some (refusal_of chunk))) BadArgument) _ (allowed_holds (not (is_some (refusal_of chunk))) BadArgument tt) (λ u0.
     done_holds chunk)
 
 pub call_at_holds : (program : Program) (ws : List (List ℕ)) → Holds (call_at program ws)
@@ -189,10 +189,10 @@ call_at_holds program ws =
     then_holds (args_at f.1) _ (args_at_holds f.1) (λ args.
     typed_chunk_holds (chunk_with program f.0.name args)))
 
-pub weighed_holds : (sum : ℕ) (chunk : Chunk) → Holds (weighed sum chunk)
-unfolding weighed
+pub weighed_holds : (sum : ℕ) (chunk : Chunk) → Holds (weighed_sum sum chunk)
+unfolding weighed_sum
 weighed_holds sum chunk =
-    then_holds (allowed (nat_le (sum + (1 + chunk_weight chunk)) 16777216) TooMany) _ (allowed_holds (nat_le (sum + (1 + chunk_weight chunk)) 16777216) TooMany tt) (λ u0.
+    then_holds (allowed_or_reason (nat_le (sum + (1 + chunk_weight chunk)) 16777216) TooMany) _ (allowed_holds (nat_le (sum + (1 + chunk_weight chunk)) 16777216) TooMany tt) (λ u0.
     done_holds (sum + (1 + chunk_weight chunk)))
 
 pub named_handler_holds : (program : Program) (ws : List (List ℕ)) → Holds (named_handler program ws)
@@ -201,7 +201,7 @@ named_handler_holds program ws =
     then_holds (word_at ws) _ (word_at_holds ws) (λ first.
     then_holds (word_at first.1) _ (word_at_holds first.1) (λ w.
     then_holds (named_word w.0 BadArgument) _ (named_word_holds w.0 BadArgument tt) (λ name.
-    then_holds (allowed (is_handler program name) BadArgument) _ (allowed_holds (is_handler program name) BadArgument tt) (λ u3.
+    then_holds (allowed_or_reason (is_handler program name) BadArgument) _ (allowed_holds (is_handler program name) BadArgument tt) (λ u3.
     done_holds (Some name, w.1)))))
 
 pub handler_at_holds : (version : Version) (program : Program) (ws : List (List ℕ)) → Holds (handler_at version program ws)

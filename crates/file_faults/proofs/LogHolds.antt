@@ -10,14 +10,14 @@ use Rattle.line_files.specs.Headers.{version_in}
 use Rattle.line_files.specs.HexWords.{hex_at}
 use Rattle.line_files.specs.Numbers.{number_at}
 use Rattle.line_files.specs.Packages.{package_at}
-use Rattle.line_files.specs.Reads.{word_at, end_at, allowed}
+use Rattle.line_files.specs.Reads.{word_at, end_at, allowed_or_reason}
 use Rattle.line_files.specs.declared.fault.LineFault.{LineFault}
 use Rattle.line_files.specs.declared.fault.LineReason.TheVariants.{BadHeader, BadWord, TooMany}
 use Rattle.link_window.specs.declared.window.Version.{Version}
 use Rattle.network_plan.specs.Hosts.{dev_of}
 use Rattle.node_files.specs.ChunkWords.{chunk_at}
 use Rattle.node_files.specs.Logs.{behind_host, own_line, boot_line, network_line, node_word, may_come, device_line, missing_line, events_line, node_rest, node_line, entry_word, inject_entry, frame_entry, control_entry, take_entry, entry_rest, entry_line, begun_by, log_step_at, log_said, log_end, log_format, nothing_logged, log_of}
-use Rattle.node_files.specs.Nodes.{host_line, hosts_line, neighbour_at, placed, device_of}
+use Rattle.node_files.specs.Nodes.{host_line, hosts_line, neighbour_at, placed_items, device_of}
 use Rattle.node_files.specs.Parts.{behind_word, last_number}
 use Rattle.node_files.specs.declared.log.EntryWord.{EntryWord}
 use Rattle.node_files.specs.declared.log.LogReading.{LogReading}
@@ -56,7 +56,7 @@ unfolding device_line
 device_line_holds ws s =
     then_holds (neighbour_at s.here s.hosts s.neighbours ws) _ (neighbour_at_holds s.here s.hosts s.neighbours ws) (λ n.
     then_holds (end_at n.1) _ (end_at_holds n.1) (λ u1.
-    done_holds (record s { neighbours = placed device_of n.0 s.neighbours })))
+    done_holds (record s { neighbours = placed_items device_of n.0 s.neighbours })))
 
 missing_line_holds : (ws : List (List ℕ)) (s : LogReading) → Holds (missing_line ws s)
 unfolding missing_line
@@ -82,7 +82,7 @@ unfolding node_line
 node_line_holds lacks ws s =
     then_holds (word_at ws) _ (word_at_holds ws) (λ w.
     then_holds (ok_or (node_word w.0) BadWord) _ (ok_or_holds (node_word w.0) BadWord tt) (λ k.
-    then_holds (allowed (may_come lacks k) BadWord) _ (allowed_holds (may_come lacks k) BadWord tt) (λ u2.
+    then_holds (allowed_or_reason (may_come lacks k) BadWord) _ (allowed_holds (may_come lacks k) BadWord tt) (λ u2.
     node_rest_holds k w.1 s)))
 
 inject_entry_holds : (version : Version) (ws : List (List ℕ)) → Holds (inject_entry version ws)
@@ -129,7 +129,7 @@ unfolding entry_line
 entry_line_holds ws s =
     then_holds (word_at ws) _ (word_at_holds ws) (λ w.
     then_holds (ok_or (entry_word w.0) BadWord) _ (ok_or_holds (entry_word w.0) BadWord tt) (λ k.
-    then_holds (allowed (nat_lt (length s.events) 50000) TooMany) _ (allowed_holds (nat_lt (length s.events) 50000) TooMany tt) (λ u.
+    then_holds (allowed_or_reason (nat_lt (length s.events) 50000) TooMany) _ (allowed_holds (nat_lt (length s.events) 50000) TooMany tt) (λ u.
     then_holds (entry_rest s.version k w.1) _ (entry_rest_holds s.version k w.1) (λ e. done_holds (record s { events = s.events ++ e ∷ [] })))))
 
 step_holds : (stage : LogStage) (number : ℕ) (line : List ℕ) (s : LogReading) → OnRefusal (log_step_at stage number line s)

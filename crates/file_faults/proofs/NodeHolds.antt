@@ -7,7 +7,7 @@ use Rattle.line_files.specs.Files.{is_skipped}
 use Rattle.line_files.specs.HexWords.{hex_at}
 use Rattle.line_files.specs.Lines.{words}
 use Rattle.line_files.specs.Numbers.{number_at}
-use Rattle.line_files.specs.Reads.{word_at, end_at, allowed}
+use Rattle.line_files.specs.Reads.{word_at, end_at, allowed_or_reason}
 use Rattle.line_files.specs.declared.fault.LineReason.{LineReason}
 use Rattle.line_files.specs.declared.fault.LineReason.TheVariants.{BadHeader, BadWord, UnknownHost, TwiceNamed, BadArgument}
 use Rattle.network_plan.specs.Hosts.{host_of, dev_of, is_listed}
@@ -25,7 +25,7 @@ pub behind_word_holds : (word : List ℕ) (ws : List (List ℕ)) → Holds (behi
 unfolding behind_word
 behind_word_holds word ws =
     then_holds (word_at ws) _ (word_at_holds ws) (λ w.
-    then_holds (allowed (bytes_eq w.0 word) BadWord) _ (allowed_holds (bytes_eq w.0 word) BadWord tt) (λ u1.
+    then_holds (allowed_or_reason (bytes_eq w.0 word) BadWord) _ (allowed_holds (bytes_eq w.0 word) BadWord tt) (λ u1.
     done_holds w.1))
 
 pub last_number_holds : (low : ℕ) (high : ℕ) (ws : List (List ℕ)) → Holds (last_number low high ws)
@@ -52,10 +52,10 @@ pub neighbour_at_holds : (here : Host) (hosts : List Host) (seen : List (Host ×
 unfolding neighbour_at
 neighbour_at_holds here hosts seen ws =
     then_holds (number_at 1 8 ws) _ (number_at_holds 1 8 ws) (λ d.
-    then_holds (allowed (not (has_device d.0 seen)) TwiceNamed) _ (allowed_holds (not (has_device d.0 seen)) TwiceNamed tt) (λ u1.
+    then_holds (allowed_or_reason (not (has_device d.0 seen)) TwiceNamed) _ (allowed_holds (not (has_device d.0 seen)) TwiceNamed tt) (λ u1.
     then_holds (number_at 0 4294967295 d.1) _ (number_at_holds 0 4294967295 d.1) (λ h.
-    then_holds (allowed (is_listed (host_of h.0) hosts) UnknownHost) _ (allowed_holds (is_listed (host_of h.0) hosts) UnknownHost tt) (λ u3.
-    then_holds (allowed (not (h.0 == here.0)) BadArgument) _ (allowed_holds (not (h.0 == here.0)) BadArgument tt) (λ u4.
+    then_holds (allowed_or_reason (is_listed (host_of h.0) hosts) UnknownHost) _ (allowed_holds (is_listed (host_of h.0) hosts) UnknownHost tt) (λ u3.
+    then_holds (allowed_or_reason (not (h.0 == here.0)) BadArgument) _ (allowed_holds (not (h.0 == here.0)) BadArgument tt) (λ u4.
     done_holds ((host_of h.0, dev_of d.0), h.1))))))
 
 pub chunk_at_holds : (ws : List (List ℕ)) → Holds (chunk_at ws)

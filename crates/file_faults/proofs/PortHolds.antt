@@ -9,7 +9,7 @@ use Rattle.file_faults.proofs.ScheduleHolds as schedule
 use Rattle.file_faults.specs.Refusals.{FaultHolds}
 use Rattle.line_files.specs.HexWords.{hex_at}
 use Rattle.line_files.specs.Numbers.{number_at}
-use Rattle.line_files.specs.Reads.{word_at, end_at, allowed}
+use Rattle.line_files.specs.Reads.{word_at, end_at, allowed_or_reason}
 use Rattle.line_files.specs.declared.fault.LineFault.{LineFault}
 use Rattle.line_files.specs.declared.fault.LineFault.TheVariants as faults
 use Rattle.line_files.specs.declared.fault.LineReason.TheVariants.{BadHeader, BadWord, UnknownHost, TooMany}
@@ -29,7 +29,7 @@ end_host_holds : (ws : List (List ℕ)) → Holds (end_host ws)
 unfolding end_host
 end_host_holds ws =
     then_holds (number_at 0 4294967295 ws) _ (number_at_holds 0 4294967295 ws) (λ n.
-    then_holds (allowed (is_end n.0) UnknownHost) _ (allowed_holds (is_end n.0) UnknownHost tt) (λ u1.
+    then_holds (allowed_or_reason (is_end n.0) UnknownHost) _ (allowed_holds (is_end n.0) UnknownHost tt) (λ u1.
     done_holds (host_of n.0, n.1)))
 
 frame_at_holds : (ws : List (List ℕ)) → Holds (frame_at ws)
@@ -90,7 +90,7 @@ unfolding event_line
 event_line_holds ws s =
     then_holds (word_at ws) _ (word_at_holds ws) (λ w.
     then_holds (ok_or (event_word w.0) BadWord) _ (ok_or_holds (event_word w.0) BadWord tt) (λ k.
-    then_holds (allowed (nat_lt (length s.events) 50000) TooMany) _ (allowed_holds (nat_lt (length s.events) 50000) TooMany tt) (λ u2.
+    then_holds (allowed_or_reason (nat_lt (length s.events) 50000) TooMany) _ (allowed_holds (nat_lt (length s.events) 50000) TooMany tt) (λ u2.
     event_rest_holds k w.1 s)))
 
 purses_line_holds : (ws : List (List ℕ)) (s : PortReading) → Holds (purses_line ws s)

@@ -11,8 +11,8 @@ use Rattle.line_files.specs.Injections.{injection_at}
 use Rattle.line_files.specs.Lines.{words}
 use Rattle.line_files.specs.Numbers.{number_at}
 use Rattle.line_files.specs.Packages.{packages_at}
-use Rattle.line_files.specs.Programs.{program_in, named_word, weighed}
-use Rattle.line_files.specs.Reads.{word_at, allowed, end_at}
+use Rattle.line_files.specs.Programs.{program_in, named_word, weighed_sum}
+use Rattle.line_files.specs.Reads.{word_at, allowed_or_reason, end_at}
 use Rattle.line_files.specs.declared.fault.LineFault.{LineFault}
 use Rattle.line_files.specs.declared.fault.LineReason.{LineReason}
 use Rattle.line_files.specs.declared.fault.LineReason.TheVariants.{UnknownHost, UnknownProgram, TwiceNamed, BadHeader, BadWord, TooMany, BadArgument}
@@ -42,7 +42,7 @@ host_at_holds : (hosts : List HostSpec) (ws : List (List ℕ)) → Holds (host_a
 unfolding host_at
 host_at_holds hosts ws =
     then_holds (number_at 0 4294967295 ws) _ (number_at_holds 0 4294967295 ws) (λ n.
-    then_holds (allowed (has_host (host_of n.0) hosts) UnknownHost) _ (allowed_holds (has_host (host_of n.0) hosts) UnknownHost tt) (λ u1.
+    then_holds (allowed_or_reason (has_host (host_of n.0) hosts) UnknownHost) _ (allowed_holds (has_host (host_of n.0) hosts) UnknownHost tt) (λ u1.
     done_holds (host_of n.0, n.1)))
 
 device_at_holds : (ws : List (List ℕ)) → Holds (device_at ws)
@@ -55,7 +55,7 @@ free_device_at_holds : (links : List Cable) (h : Host) (ws : List (List ℕ)) �
 unfolding free_device_at
 free_device_at_holds links h ws =
     then_holds (number_at 1 8 ws) _ (number_at_holds 1 8 ws) (λ d.
-    then_holds (allowed (not (has_link h (dev_of d.0) links)) TwiceNamed) _ (allowed_holds (not (has_link h (dev_of d.0) links)) TwiceNamed tt) (λ u1.
+    then_holds (allowed_or_reason (not (has_link h (dev_of d.0) links)) TwiceNamed) _ (allowed_holds (not (has_link h (dev_of d.0) links)) TwiceNamed tt) (λ u1.
     done_holds (dev_of d.0, d.1)))
 
 program_at_holds : (programs : List NamedProgram) (ws : List (List ℕ)) → Holds (program_at programs ws)
@@ -68,16 +68,16 @@ program_at_holds programs ws =
 frames_line_holds : (ws : List (List ℕ)) (s : Reading) → Holds (frames_line ws s)
 unfolding frames_line
 frames_line_holds ws s =
-    then_holds (allowed (is_first s) BadWord) _ (allowed_holds (is_first s) BadWord tt) (λ u0.
+    then_holds (allowed_or_reason (is_first s) BadWord) _ (allowed_holds (is_first s) BadWord tt) (λ u0.
     then_holds (end_at ws) _ (end_at_holds ws) (λ u1.
     done_holds (record s { frames = true })))
 
 host_line_holds : (ws : List (List ℕ)) (s : Reading) → Holds (host_line ws s)
 unfolding host_line
 host_line_holds ws s =
-    then_holds (allowed (nat_lt (length s.hosts) 32) TooMany) _ (allowed_holds (nat_lt (length s.hosts) 32) TooMany tt) (λ u0.
+    then_holds (allowed_or_reason (nat_lt (length s.hosts) 32) TooMany) _ (allowed_holds (nat_lt (length s.hosts) 32) TooMany tt) (λ u0.
     then_holds (number_at 0 4294967295 ws) _ (number_at_holds 0 4294967295 ws) (λ n.
-    then_holds (allowed (not (has_host (host_of n.0) s.hosts)) TwiceNamed) _ (allowed_holds (not (has_host (host_of n.0) s.hosts)) TwiceNamed tt) (λ u2.
+    then_holds (allowed_or_reason (not (has_host (host_of n.0) s.hosts)) TwiceNamed) _ (allowed_holds (not (has_host (host_of n.0) s.hosts)) TwiceNamed tt) (λ u2.
     then_holds (packages_at [] n.1) _ (packages_at_holds [] n.1) (λ missing.
     done_holds (record s { hosts = s.hosts ++ host_spec n.0 missing ∷ [] })))))
 
@@ -87,7 +87,7 @@ link_line_holds ws s =
     then_holds (host_at s.hosts ws) _ (host_at_holds s.hosts ws) (λ n.
     then_holds (free_device_at s.links n.0 n.1) _ (free_device_at_holds s.links n.0 n.1) (λ d.
     then_holds (host_at s.hosts d.1) _ (host_at_holds s.hosts d.1) (λ m.
-    then_holds (allowed (not (m.0.0 == n.0.0)) BadArgument) _ (allowed_holds (not (m.0.0 == n.0.0)) BadArgument tt) (λ u3.
+    then_holds (allowed_or_reason (not (m.0.0 == n.0.0)) BadArgument) _ (allowed_holds (not (m.0.0 == n.0.0)) BadArgument tt) (λ u3.
     then_holds (free_device_at s.links m.0 m.1) _ (free_device_at_holds s.links m.0 m.1) (λ e.
     then_holds (end_at e.1) _ (end_at_holds e.1) (λ u5.
     done_holds (record s { links = s.links ++ (record { from = n.0; from_dev = d.0; to = m.0; to_dev = e.0 }) ∷ [] })))))))
@@ -95,10 +95,10 @@ link_line_holds ws s =
 program_line_holds : (number : ℕ) (ws : List (List ℕ)) (s : Reading) → Holds (program_line number ws s)
 unfolding program_line
 program_line_holds number ws s =
-    then_holds (allowed (nat_lt (length s.programs) 64) TooMany) _ (allowed_holds (nat_lt (length s.programs) 64) TooMany tt) (λ u0.
+    then_holds (allowed_or_reason (nat_lt (length s.programs) 64) TooMany) _ (allowed_holds (nat_lt (length s.programs) 64) TooMany tt) (λ u0.
     then_holds (word_at ws) _ (word_at_holds ws) (λ w.
     then_holds (named_word w.0 BadWord) _ (named_word_holds w.0 BadWord tt) (λ name.
-    then_holds (allowed (not (list_any (is_called w.0) s.programs)) TwiceNamed) _ (allowed_holds (not (list_any (is_called w.0) s.programs)) TwiceNamed tt) (λ u3.
+    then_holds (allowed_or_reason (not (list_any (is_called w.0) s.programs)) TwiceNamed) _ (allowed_holds (not (list_any (is_called w.0) s.programs)) TwiceNamed tt) (λ u3.
     then_holds (end_at w.1) _ (end_at_holds w.1) (λ u4.
     done_holds (begun_at number name))))))
 
@@ -145,7 +145,7 @@ inject_line_holds : (ws : List (List ℕ)) (s : Reading) → Holds (inject_line 
 unfolding inject_line
 inject_line_holds ws s =
     then_holds (injected_at s ws) _ (injected_at_holds s ws) (λ i.
-    then_holds (weighed s.weight i.1) _ (weighed_holds s.weight i.1) (λ total.
+    then_holds (weighed_sum s.weight i.1) _ (weighed_holds s.weight i.1) (λ total.
     done_holds (record (with_event s (happens.Inject i.0 i.1 i.2 i.3)) { weight = total })))
 
 send_line_holds : (ws : List (List ℕ)) (s : Reading) → Holds (send_line ws s)
@@ -212,7 +212,7 @@ unfolding event_line
 event_line_holds ws s =
     then_holds (word_at ws) _ (word_at_holds ws) (λ w.
     then_holds (ok_or (event_word s.version w.0) BadWord) _ (ok_or_holds (event_word s.version w.0) BadWord tt) (λ k.
-    then_holds (allowed (nat_lt (length s.events) 50000) TooMany) _ (allowed_holds (nat_lt (length s.events) 50000) TooMany tt) (λ u2.
+    then_holds (allowed_or_reason (nat_lt (length s.events) 50000) TooMany) _ (allowed_holds (nat_lt (length s.events) 50000) TooMany tt) (λ u2.
     event_rest_holds k w.1 s)))
 
 -- ---- whole lines

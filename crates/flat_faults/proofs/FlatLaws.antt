@@ -11,7 +11,7 @@ use Rattle.plan_base.specs.Words.{is_name}
 use Rattle.plan_base.specs.declared.tree.Chunk.{Chunk}
 use Rattle.chunk_spelling.specs.declared.fault.SpellFault.{SpellFault}
 use Rattle.chunk_spelling.specs.declared.fault.SpellFault.TheVariants.{BadName}
-use Rattle.chunk_spelling.specs.Scan.{Scan, whole, allowed, number_field, bytes_field, name_field}
+use Rattle.chunk_spelling.specs.Scan.{Scan, whole, allowed_or_fault, number_field, bytes_field, name_field}
 use Rattle.chunk_spelling.specs.Parts.{Part}
 use Rattle.chunk_spelling.specs.Steps.{step}
 use Rattle.chunk_spelling.specs.Spelling.{from_front, FirstFaultAt, a_whole_chunk}
@@ -62,8 +62,8 @@ then_keeps : {f m g : Scan} → Keeps f m → Keeps m g → Keeps f g
 then_keeps h k = record { nodes = k.nodes ∙ h.nodes; bytes = λ b. k.bytes (h.bytes b) }
 
 -- a field passed over n bytes
-skipped : (n : ℕ) (f g : Scan) → record f { front = after n f.front } ≡ g → Keeps f g
-skipped n f g e = subst (Keeps f) e (record { nodes = refl; bytes = λ b i. subst (λ x. x < 256) (sym (get_or-drop n f.front.rest i 0)) (b (n + i)) })
+skipping_keeps : (n : ℕ) (f g : Scan) → record f { front = after n f.front } ≡ g → Keeps f g
+skipping_keeps n f g e = subst (Keeps f) e (record { nodes = refl; bytes = λ b i. subst (λ x. x < 256) (sym (get_or-drop n f.front.rest i 0)) (b (n + i)) })
 
 number_keeps : (w : Width) (f : Scan) (x : ℕ × Scan) → number_field w f ≡ Ok x → Keeps f x.1
 unfolding number_field
@@ -71,7 +71,7 @@ number_keeps w f x h = by_room (nat_lt (length f.front.rest) (byte_len w)) h
   where
     by_room : (b : Bool) → whole (if b then Err f.front.at else Ok (from_be_bytes w (take (byte_len w) f.front.rest), after (byte_len w) f.front)) f ≡ Ok x → Keeps f x.1
     by_room true q = cc
-    by_room false q = skipped (byte_len w) f x.1 (ap (λ z. z.1) (ok_inj q))
+    by_room false q = skipping_keeps (byte_len w) f x.1 (ap (λ z. z.1) (ok_inj q))
 
 bytes_keep : (n : ℕ) (f : Scan) (x : List ℕ × Scan) → bytes_field n f ≡ Ok x → Keeps f x.1
 unfolding bytes_field
@@ -79,14 +79,14 @@ bytes_keep n f x h = by_room (nat_lt (length f.front.rest) n) h
   where
     by_room : (b : Bool) → whole (if b then Err f.front.at else Ok (take n f.front.rest, after n f.front)) f ≡ Ok x → Keeps f x.1
     by_room true q = cc
-    by_room false q = skipped n f x.1 (ap (λ z. z.1) (ok_inj q))
+    by_room false q = skipping_keeps n f x.1 (ap (λ z. z.1) (ok_inj q))
 
 name_keeps : (f : Scan) (x : List ℕ × Scan) → name_field f ≡ Ok x → Keeps f x.1
 unfolding name_field
 name_keeps f x h =
     let a = bind_ok (number_field w8 f) _ x h in
-    let b = bind_ok (allowed (nat_le 1 a.first.0) (BadName f.front.at) a.first) _ x a.then_read in
-    let c = bind_ok (allowed (nat_le b.first.0 32) (BadName f.front.at) b.first) _ x b.then_read in
+    let b = bind_ok (allowed_or_fault (nat_le 1 a.first.0) (BadName f.front.at) a.first) _ x a.then_read in
+    let c = bind_ok (allowed_or_fault (nat_le b.first.0 32) (BadName f.front.at) b.first) _ x b.then_read in
     let d = bind_ok (bytes_field c.first.0 c.first.1) _ x c.then_read in
     let one : a.first ≡ b.first = (allowed_ok (nat_le 1 a.first.0) (BadName f.front.at) a.first b.first b.read).1 in
     let two : b.first ≡ c.first = (allowed_ok (nat_le b.first.0 32) (BadName f.front.at) b.first c.first c.read).1 in

@@ -41,14 +41,14 @@ use Rattle.fleet_audit.specs.declared.reckoning.Reckoning.{Reckoning}
 use Rattle.fleet_audit.specs.Keys.{crossing_of}
 use Rattle.fleet_audit.specs.Tallies.{none as no_frames, one_sent, tally_in, Changes}
 use Rattle.fleet_audit.specs.Books.{none as no_sums, plus, counts_in, act_counts}
-use Rattle.fleet_audit.specs.Pasts.{Past, nothing, with_acts, with_sent, with_accepted, with_host, arrived_from, accepted_by, taken_by, TakenReads, with_frames, with_entry, with_entries, with_log, with_logs, arrival_of, arrivals_of, injected_by, injected, Holds, IsReckoned}
+use Rattle.fleet_audit.specs.Pasts.{Past, nothing, with_acts, with_sent, with_accepted, with_host, arrived_from, accepted_by, taken_by, TakenReads, with_frames, with_entry, with_entries, with_log, with_logs, arrival_of, arrivals_of, injected_by, injected_families, Holds, IsReckoned}
 use Rattle.fleet_audit.proofs.TallyLaws.{tallied_sent}
 use Rattle.fleet_audit.proofs.ActLaws.{counts_push, no_counts}
 
 -- ---- acts
 
-injected_push : (acts : List Act) (a : Act) → injected (acts ++ a ∷ []) ≡ injected acts ++ cons_option (injected_by a) []
-unfolding injected
+injected_push : (acts : List Act) (a : Act) → injected_families (acts ++ a ∷ []) ≡ injected_families acts ++ cons_option (injected_by a) []
+unfolding injected_families
 injected_push acts a = filter_map-append injected_by acts (a ∷ [])
 
 pub act_held : (a : Act) (p : Past) (old new : Reckoning) → Holds old p → ((f : Family) → counts_in f new.book ≡ plus (counts_in f old.book) (act_counts f a))
@@ -240,7 +240,7 @@ all_reads s es i l r = subst (EntriesRead s) (take_all i es l) r
 
 -- nothing so far
 pub nothing_held : (r : Reckoning) → r.hosts ≡ [] → ((c : Crossing) → tally_in c r.tallies ≡ no_frames) → r.arrived ≡ [] → ((f : Family) → counts_in f r.book ≡ no_sums) → r.injected ≡ [] → Holds r nothing
-unfolding injected
+unfolding injected_families
 nothing_held r hosts tallies arrived book injects = record {
   hosts = hosts;
   sent = tallies;

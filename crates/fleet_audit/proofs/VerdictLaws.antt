@@ -21,7 +21,7 @@ use Rattle.world_model.specs.World.{Cables}
 use Rattle.bound_ledger.specs.declared.row.Row.{Row}
 use Rattle.ledger_audit.specs.Crossings.{Crossing, Arrival, Over, first_over, crossings, AtMost}
 use Rattle.ledger_audit.specs.Runs.{accepts, sends, numbered_arrivals, accepted_in, sent_in, acts_in}
-use Rattle.ledger_audit.specs.Audits.{Logged, all_accepted, all_sent, misfit, granted, hops, evals, left, queued, on_the_way, row_of, AddsUp}
+use Rattle.ledger_audit.specs.Audits.{Logged, all_accepted, all_sent, misfit, granted_sum, hops, evals, left_sum, queued_sum, on_the_way, row_of, AddsUp}
 use Rattle.ledger_audit.specs.Spelling.{Begins, ReadsAgain}
 use Rattle.ledger_audit.proofs.Multisets.{verdict_only, verdict_always}
 use Rattle.ledger_audit.proofs.Balances.{adds_up}
@@ -32,7 +32,7 @@ use Rattle.fleet_audit.specs.declared.verdict.Verdict.{Verdict}
 use Rattle.fleet_audit.specs.declared.verdict.Verdict.TheVariants.{Yes, No}
 use Rattle.fleet_audit.specs.Tallies.{Tallied}
 use Rattle.fleet_audit.specs.Books.{counts_in, acts_counts}
-use Rattle.fleet_audit.specs.Pasts.{Past, nothing, with_entry, with_entries, with_log, with_logs, arrivals_of, injected, IsReckoned, logged_of}
+use Rattle.fleet_audit.specs.Pasts.{Past, nothing, with_entry, with_entries, with_log, with_logs, arrivals_of, injected_families, IsReckoned, logged_of}
 use Rattle.fleet_audit.specs.Ledgers.{all_acts, hosts_of, is_from, by_hosts, families_of, ledger_of, verdict_by, verdict_of, IsYes, over_in, Pays, counted_row, row_in}
 
 -- ---- a past is what the definitions say of its logs
@@ -93,8 +93,8 @@ module _ (links : Cables) (ls : List Logged) (r : Reckoning) (k : IsReckoned lin
   counts_are : (f : Family) → counts_in f r.book ≡ acts_counts f (all_acts ls)
   counts_are f = k.holds.counts f ∙ ap (λ p. acts_counts f p.acts) (whole_is links ls)
 
-  injected_are : r.injected ≡ injected (all_acts ls)
-  injected_are = k.holds.families ∙ ap (λ p. injected p.acts) (whole_is links ls)
+  injected_are : r.injected ≡ injected_families (all_acts ls)
+  injected_are = k.holds.families ∙ ap (λ p. injected_families p.acts) (whole_is links ls)
 
   -- the frame that doesn't fit
   pub misfit_is : (o : Option code.Over) → ((sent : List Crossing) → Tallied sent [] r.tallies → over_in o ≡ first_over sent [] (arrivals_of r.arrived)) → over_in o ≡ misfit links ls
@@ -105,7 +105,7 @@ module _ (links : Cables) (ls : List Logged) (r : Reckoning) (k : IsReckoned lin
   unfolding misfit
   fits_adds e f = adds_up f links ls k.begin k.read (λ c. omega (arith, verdict_only (all_sent ls) [] (all_accepted links 0 ls) e (λ d. omega arith) c))
 
-  granted_is : (f : Family) → (counts_in f r.book).granted ≡ granted f ls
+  granted_is : (f : Family) → (counts_in f r.book).granted ≡ granted_sum f ls
   granted_is f = ap (λ c. c.granted) (counts_are f) ∙ sums_are (act_granted f) ls
 
   hops_are : (f : Family) → (counts_in f r.book).hops ≡ hops f ls
@@ -114,7 +114,7 @@ module _ (links : Cables) (ls : List Logged) (r : Reckoning) (k : IsReckoned lin
   evals_are : (f : Family) → (counts_in f r.book).evals ≡ evals f ls
   evals_are f = ap (λ c. c.evals) (counts_are f) ∙ sums_are (act_evals f) ls
 
-  left_is : (f : Family) → (counts_in f r.book).left ≡ left f ls
+  left_is : (f : Family) → (counts_in f r.book).left ≡ left_sum f ls
   left_is f = ap (λ c. c.left) (counts_are f) ∙ sums_are (act_left f) ls
 
   -- where logs fit, no family paid and left more than it was granted
@@ -122,7 +122,7 @@ module _ (links : Cables) (ls : List Logged) (r : Reckoning) (k : IsReckoned lin
   fits_pays e f = omega (arith, fits_adds e f, granted_is f, hops_are f, evals_are f, left_is f)
 
   live_is : misfit links ls ≡ None → (f : Family)
-      → (counts_in f r.book).granted - ((counts_in f r.book).hops + (counts_in f r.book).evals + (counts_in f r.book).left) ≡ queued f ls + on_the_way f links ls
+      → (counts_in f r.book).granted - ((counts_in f r.book).hops + (counts_in f r.book).evals + (counts_in f r.book).left) ≡ queued_sum f ls + on_the_way f links ls
   live_is e f = omega (arith, fits_adds e f, granted_is f, hops_are f, evals_are f, left_is f)
 
   row_is : misfit links ls ≡ None → (f : Family) → row_in r.book f ≡ (f, row_of f links ls)

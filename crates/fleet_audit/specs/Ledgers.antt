@@ -16,7 +16,7 @@ use Rattle.fleet_audit.specs.declared.verdict.Verdict.TheVariants.{Yes, No}
 use Rattle.fleet_audit.specs.declared.book.Counts.{Counts}
 use Rattle.fleet_audit.specs.declared.book.Book.{Book}
 use Rattle.fleet_audit.specs.Books.{counts_in}
-use Rattle.fleet_audit.specs.Pasts.{injected}
+use Rattle.fleet_audit.specs.Pasts.{injected_families}
 
 -- the acts of logs, and their hosts, in order
 abbrev pub all_acts : List Logged → List Act
@@ -35,7 +35,7 @@ by_hosts hosts fs = flat_map (λ h. filter (is_from h) fs) hosts
 -- the families of a ledger: those that acts of the logs inject, by host, and under one host in the order of their injections,
 -- which is that of their serial numbers
 unfoldable pub families_of : List Logged → List Family
-families_of ls = by_hosts (sorted_into [] (hosts_of ls)) (injected (all_acts ls))
+families_of ls = by_hosts (sorted_into [] (hosts_of ls)) (injected_families (all_acts ls))
 
 -- the ledger of logs: a row for each of these families
 unfoldable pub ledger_of : Cables → List Logged → List (Family × Row)

@@ -110,8 +110,8 @@ injected_by (Injected f bound) = Some f
 injected_by _ = None
 
 -- the families that acts inject, in order
-unfoldable pub injected : List Act → List Family
-injected acts = filter_map injected_by acts
+unfoldable pub injected_families : List Act → List Family
+injected_families acts = filter_map injected_by acts
 
 -- the code keeps this of a past
 pub record Holds (r : Reckoning) (p : Past) : Type 0 where
@@ -119,7 +119,7 @@ pub record Holds (r : Reckoning) (p : Past) : Type 0 where
   pub sent : Tallied p.sent [] r.tallies
   pub accepted : arrivals_of r.arrived ≡ p.accepted
   pub counts : (f : Family) → counts_in f r.book ≡ acts_counts f p.acts
-  pub families : r.injected ≡ injected p.acts
+  pub families : r.injected ≡ injected_families p.acts
 
 -- the code keeps this of logs, in order, each of which begins with nothing queued and whose frames are read again
 pub record IsReckoned (links : Cables) (ls : List Logged) (r : Reckoning) : Type 0 where

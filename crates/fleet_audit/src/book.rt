@@ -53,7 +53,7 @@ impl Counts {
 }
 
 /// Counts of an act.
-fn counted(granted: u32, hops: u32, evals: u32, left: u32) -> Counts
+fn counts_of_act(granted: u32, hops: u32, evals: u32, left: u32) -> Counts
     ensures { result ≡ record { granted = granted; hops = hops; evals = evals; left = left } }
 {
     Counts {
@@ -69,10 +69,10 @@ fn act_row(act: &Act) -> Option<(Family, Counts)>
     ensures { result ≡ spec.act_row act.now }
 {
     match act {
-        Act::Injected(family, bound) => Some((*family, counted(*bound, 0, 0, 0))),
-        Act::Queued(_, family, _) => Some((*family, counted(0, 1, 0, 0))),
-        Act::Ended(family, _, evals, rest) => Some((*family, counted(0, 0, *evals, *rest))),
-        Act::Dropped(_, family, bound) => Some((*family, counted(0, 0, 0, *bound))),
+        Act::Injected(family, bound) => Some((*family, counts_of_act(*bound, 0, 0, 0))),
+        Act::Queued(_, family, _) => Some((*family, counts_of_act(0, 1, 0, 0))),
+        Act::Ended(family, _, evals, rest) => Some((*family, counts_of_act(0, 0, *evals, *rest))),
+        Act::Dropped(_, family, bound) => Some((*family, counts_of_act(0, 0, 0, *bound))),
         _ => None,
     }
 }

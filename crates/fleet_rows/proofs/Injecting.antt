@@ -35,34 +35,34 @@ use Rattle.node_model.specs.declared.acts.Reason.TheVariants as reason
 use Rattle.node_model.specs.declared.acts.Lane.{Lane}
 use Rattle.node_model.specs.State.{Links, Queues, NodeState, routing_of, is_host, leads_to}
 use Rattle.node_model.specs.Visits.{visit_at, settled_at}
-use Rattle.node_model.specs.Node.{NodeStep as Stepped, stepped, has_room, lane_room, drop_act, mark, takes_as, stamped_as, stamped_step, asked_plain, asked, control_step, take_first, take_from, take_step, packet_sending, advert_sending, visit_sends, tick_sends, send_act, send_queues, sends_acts, handled_acts, visit_acts, visited, next_serial, injected_packet, inject_step, only_acts, onward, forward_by, forward_step, packet_step, hearing, advert_step, frame_step, arrived, arrive_step, tick_step, node_step}
+use Rattle.node_model.specs.Node.{NodeStep as Stepped, stepped_node, has_room, lane_room, drop_act, mark, takes_as, stamped_as, stamped_step, asked_plain, asked_read, control_step, take_first, take_from, take_step, packet_sending, advert_sending, visit_sends, tick_sends, send_act, send_queues, sends_acts, handled_acts, visit_acts, visit_step, next_serial, injected_packet, inject_step, only_acts, onward, forward_by, forward_step, packet_step, hearing, advert_step, frame_step, arrived_read, arrive_step, tick_step, node_step}
 use Rattle.node_laws.proofs.Staying.{visited_stays, arrive_stays, tick_stays, take_stays}
 use Rattle.serve_model.specs.Runs.{node_by}
 use Rattle.ledger_audit.specs.Runs.{acts_in}
-use Rattle.fleet_audit.specs.Pasts.{injected_by, injected}
+use Rattle.fleet_audit.specs.Pasts.{injected_by, injected_families}
 use Rattle.frames_once.proofs.Takings.{step_same}
 
-pub append_is : (xs ys : List Act) → injected (xs ++ ys) ≡ injected xs ++ injected ys
-unfolding injected
+pub append_is : (xs ys : List Act) → injected_families (xs ++ ys) ≡ injected_families xs ++ injected_families ys
+unfolding injected_families
 append_is xs ys = filter_map-append injected_by xs ys
 
 -- ---- acts that inject nothing
 
 abbrev Quiet : List Act → Type 0
-Quiet acts = injected acts ≡ []
+Quiet acts = injected_families acts ≡ []
 
-behind : (xs ys : List Act) → Quiet ys → injected (xs ++ ys) ≡ injected xs
-behind xs ys q = append_is xs ys ∙ ap (λ l. injected xs ++ l) q ∙ append-nil (injected xs)
+behind : (xs ys : List Act) → Quiet ys → injected_families (xs ++ ys) ≡ injected_families xs
+behind xs ys q = append_is xs ys ∙ ap (λ l. injected_families xs ++ l) q ∙ append-nil (injected_families xs)
 
 quiet_both : (xs ys : List Act) → Quiet xs → Quiet ys → Quiet (xs ++ ys)
 quiet_both xs ys p q = behind xs ys q ∙ p
 
 quiet_more : (a : Act) (acts : List Act) → injected_by a ≡ None → Quiet acts → Quiet (a ∷ acts)
-unfolding injected
+unfolding injected_families
 quiet_more a acts e q = ap (λ o. cons_option o (filter_map injected_by acts)) e ∙ q
 
 quiet_none : Quiet []
-unfolding injected
+unfolding injected_families
 quiet_none = refl
 
 quiet_two : (a b : Act) → injected_by a ≡ None → injected_by b ≡ None → Quiet (a ∷ b ∷ [])
@@ -120,8 +120,8 @@ visit_quiet m queues p left s =
     (quiet_more (Ended p.family s.visit.outcome s.visit.evals s.visit.left) (handled_acts p.family s.handled left ++ sends) refl
     (quiet_both (handled_acts p.family s.handled left) sends (handled_quiet p.family s.handled left) (packets_quiet m queues s.visit.outbox)))
 
-visited_gives : (acts : List Act) (s : NodeState) (p : Packet) → injected (visited acts s p).acts ≡ injected acts
-unfolding visited
+visited_gives : (acts : List Act) (s : NodeState) (p : Packet) → injected_families (visit_step acts s p).acts ≡ injected_families acts
+unfolding visit_step
 visited_gives acts s p = behind acts (visit_acts (mark s) s.queues p (visit_at s p).left (settled_at s p)) (visit_quiet (mark s) s.queues p (visit_at s p).left (settled_at s p))
 
 quiet_cases : (t : Bool) (a b : Stepped) → Quiet a.acts → Quiet b.acts → Quiet (cond t a b).acts
@@ -160,7 +160,7 @@ arrive_quiet : (s : NodeState) (d : Dev) (bytes : List ℕ) → Quiet (arrive_st
 unfolding arrive_step stamped_step
 arrive_quiet s d bytes = by (read_by s.version bytes)
   where
-    by : (r : Result PlainStamped FrameFault) → Quiet (arrived s d r).acts
+    by : (r : Result PlainStamped FrameFault) → Quiet (arrived_read s d r).acts
     by (Ok x) = as_quiet s d x (takes_as s.seen d x.stamp)
     by (Err e) = quiet_two _ _ refl refl
 
@@ -184,11 +184,11 @@ take_quiet s d = by (slice_get s.queues d.0)
 
 -- nothing, or one family of the node's host with its serial number, which then rises
 data Gives (s : NodeState) (acts : List Act) (serial : ℕ) : Type 0 where
-  gives_none : injected acts ≡ [] → serial ≡ s.serial → Gives s acts serial
-  gives_one : injected acts ≡ record { source = s.here; serial = s.serial } ∷ [] → serial ≡ s.serial + 1 → Gives s acts serial
+  gives_none : injected_families acts ≡ [] → serial ≡ s.serial → Gives s acts serial
+  gives_one : injected_families acts ≡ record { source = s.here; serial = s.serial } ∷ [] → serial ≡ s.serial + 1 → Gives s acts serial
 
-one_injected : (f : Family) (bound : ℕ) → injected (Injected f bound ∷ []) ≡ f ∷ []
-unfolding injected
+one_injected : (f : Family) (bound : ℕ) → injected_families (Injected f bound ∷ []) ≡ f ∷ []
+unfolding injected_families
 one_injected f bound = refl
 
 inject_gives : (acts : List Act) (s : NodeState) (chunk : Chunk) (bound : ℕ) (o : Option Name) → Quiet acts → Gives s (inject_step acts s chunk bound o).acts (inject_step acts s chunk bound o).node.serial
@@ -198,10 +198,10 @@ inject_gives acts s chunk bound o q = by (s.serial == 18446744073709551615)
     act : Act
     act = Injected (record { source = s.here; serial = s.serial }) bound
 
-    made : Stepped
-    made = visited (acts ++ act ∷ []) (next_serial s) (injected_packet s chunk bound o)
+    visit_made : Stepped
+    visit_made = visit_step (acts ++ act ∷ []) (next_serial s) (injected_packet s chunk bound o)
 
-    by : (t : Bool) → Gives s (cond t (stepped (acts ++ SerialsSpent ∷ []) None s) made).acts (cond t (stepped (acts ++ SerialsSpent ∷ []) None s) made).node.serial
+    by : (t : Bool) → Gives s (cond t (stepped_node (acts ++ SerialsSpent ∷ []) None s) visit_made).acts (cond t (stepped_node (acts ++ SerialsSpent ∷ []) None s) visit_made).node.serial
     by true = gives_none (quiet_both acts (SerialsSpent ∷ []) q (quiet_more SerialsSpent [] refl quiet_none)) refl
     by false =
         gives_one
@@ -217,7 +217,7 @@ control_gives s bytes = by (read_by s.version bytes)
     plain (PlainFrame.Advert a) = gives_none (quiet_two _ _ refl refl) refl
     plain (PlainFrame.Ask bound c) = inject_gives (Asked ∷ []) s c bound None (quiet_more Asked [] refl quiet_none)
 
-    by : (r : Result PlainStamped FrameFault) → Gives s (asked s r).acts (asked s r).node.serial
+    by : (r : Result PlainStamped FrameFault) → Gives s (asked_read s r).acts (asked_read s r).node.serial
     by (Ok x) = plain x.frame
     by (Err e) = gives_none (quiet_two _ _ refl refl) refl
 
@@ -235,8 +235,8 @@ abbrev pub Rising : Host → ℕ → List Family → Type 0
 Rising h n [] = Unit {0}
 Rising h n (f ∷ fs) = (f.source ≡ h) × ((n ≤ f.serial) × Rising h (suc f.serial) fs)
 
-pub log_rises : (s : NodeState) (es : List LogEvent) → Rising s.here s.serial (injected (acts_in s es))
-unfolding injected
+pub log_rises : (s : NodeState) (es : List LogEvent) → Rising s.here s.serial (injected_families (acts_in s es))
+unfolding injected_families
 log_rises s [] = tt
 log_rises s (Lost ∷ es) = log_rises s es
 log_rises s (Step e ∷ es) = by (step_gives s e) (log_rises (node_step s e).node es)
@@ -245,12 +245,12 @@ log_rises s (Step e ∷ es) = by (step_gives s e) (log_rises (node_step s e).nod
     next = (node_step s e).node
 
     rest : List Family
-    rest = injected (acts_in next es)
+    rest = injected_families (acts_in next es)
 
-    both : injected ((node_step s e).acts ++ acts_in next es) ≡ injected (node_step s e).acts ++ rest
+    both : injected_families ((node_step s e).acts ++ acts_in next es) ≡ injected_families (node_step s e).acts ++ rest
     both = append_is (node_step s e).acts (acts_in next es)
 
-    by : Gives s (node_step s e).acts next.serial → Rising next.here next.serial rest → Rising s.here s.serial (injected ((node_step s e).acts ++ acts_in next es))
+    by : Gives s (node_step s e).acts next.serial → Rising next.here next.serial rest → Rising s.here s.serial (injected_families ((node_step s e).acts ++ acts_in next es))
     by (gives_none none same) r =
         subst (Rising s.here s.serial) (sym (both ∙ ap (λ l. l ++ rest) none))
         (subst (λ h. Rising h s.serial rest) (step_same s e).here (subst (λ n. Rising next.here n rest) same r))

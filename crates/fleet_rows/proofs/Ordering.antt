@@ -12,7 +12,7 @@ use Rattle.dv_routing.specs.Sorted.{sorted_into, HostsAscend, HostsDiffer}
 use Rattle.dv_routing.proofs.Sorting.{sorted_same, sorted_ascends}
 use Rattle.ledger_audit.specs.Runs.{acts_in}
 use Rattle.ledger_audit.specs.Audits.{Logged}
-use Rattle.fleet_audit.specs.Pasts.{injected}
+use Rattle.fleet_audit.specs.Pasts.{injected_families}
 use Rattle.fleet_audit.specs.Ledgers.{all_acts, hosts_of, is_from, by_hosts, families_of}
 use Rattle.fleet_rows.specs.Order.{IsBefore, InOrder, IsIn}
 use Rattle.fleet_rows.proofs.Injecting.{append_is, Rising, log_rises}
@@ -61,16 +61,16 @@ other_part h n (f ∷ fs) r g e =
 -- ---- all logs
 
 abbrev families_in : List Logged → List Family
-families_in ls = injected (all_acts ls)
+families_in ls = injected_families (all_acts ls)
 
 abbrev of_log : Logged → List Family
-of_log l = injected (acts_in l.node l.entries)
+of_log l = injected_families (acts_in l.node l.entries)
 
 families_cons : (l : Logged) (ls : List Logged) → families_in (l ∷ ls) ≡ of_log l ++ families_in ls
 families_cons l ls = append_is (acts_in l.node l.entries) (all_acts ls)
 
 no_families : families_in [] ≡ []
-unfolding injected
+unfolding injected_families
 no_families = refl
 
 rises : (l : Logged) → Rising l.node.here l.node.serial (of_log l)
@@ -194,9 +194,9 @@ source_is f h n [] r i = absurd i
 source_is f h n (x ∷ fs) r i = elim i [ inl e ↦ ap (λ y. y.source) e ∙ r.0 | inr j ↦ source_is f h (suc x.serial) fs r.1.1 j ]
 
 -- a family that is injected is of the host of a log
-known : (f : Family) (ls : List Logged) → IsIn f (families_in ls) → is_among (hosts_of ls) f.source ≡ true
-known f [] i = absurd (subst (IsIn f) no_families i)
-known f (l ∷ ls) i = by (λ b. known f ls b) (in_either f (of_log l) (families_in ls) (subst (IsIn f) (families_cons l ls) i))
+source_is_known : (f : Family) (ls : List Logged) → IsIn f (families_in ls) → is_among (hosts_of ls) f.source ≡ true
+source_is_known f [] i = absurd (subst (IsIn f) no_families i)
+source_is_known f (l ∷ ls) i = by (λ b. source_is_known f ls b) (in_either f (of_log l) (families_in ls) (subst (IsIn f) (families_cons l ls) i))
   where
     or_true : (a c : Bool) → c ≡ true → (a || c) ≡ true
     or_true true c e = refl
@@ -206,9 +206,9 @@ known f (l ∷ ls) i = by (λ b. known f ls b) (in_either f (of_log l) (families
     by rest (inl a) = ap (λ t. t || is_among (hosts_of ls) f.source) (eq-eqb l.node.here.0 f.source.0 (ap (λ h. h.0) (sym (source_is f l.node.here l.node.serial (of_log l) (rises l) a))))
     by rest (inr b) = or_true (l.node.here.0 == f.source.0) (is_among (hosts_of ls) f.source) (rest b)
 
-pub same_families : (ls : List Logged) (f : Family) → IsIn f (families_of ls) ↔ IsIn f (injected (all_acts ls))
+pub same_families : (ls : List Logged) (f : Family) → IsIn f (families_of ls) ↔ IsIn f (injected_families (all_acts ls))
 unfolding families_of
 same_families ls f = (
   λ i. of_hosts f (sorted_into [] (hosts_of ls)) (families_in ls) i,
-  λ i. in_hosts f (sorted_into [] (hosts_of ls)) (families_in ls) (sorted_same (hosts_of ls) f.source ∙ known f ls i) i,
+  λ i. in_hosts f (sorted_into [] (hosts_of ls)) (families_in ls) (sorted_same (hosts_of ls) f.source ∙ source_is_known f ls i) i,
 )

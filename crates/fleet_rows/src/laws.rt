@@ -2,7 +2,7 @@ ghost use Rattle.std.specs.Prelude.{◌↔◌, List};
 ghost use Rattle.plan_base.specs.declared.ids.Family.{Family};
 ghost use Rattle.dv_routing.specs.Sorted.{HostsDiffer};
 ghost use Rattle.ledger_audit.specs.Audits.{Logged};
-ghost use Rattle.fleet_audit.specs.Pasts.{injected};
+ghost use Rattle.fleet_audit.specs.Pasts.{injected_families};
 ghost use Rattle.fleet_audit.specs.Ledgers.{all_acts, hosts_of, families_of};
 ghost use Rattle.fleet_rows.specs.Order.{InOrder, IsIn};
 
@@ -15,5 +15,5 @@ pub fn rows_in_order()
 /// They are those that the acts of the logs inject.
 pub fn rows_of_injected()
     ensures { (logs : List Logged) (f : Family)
-        → IsIn f (families_of logs) ↔ IsIn f (injected (all_acts logs)) }
+        → IsIn f (families_of logs) ↔ IsIn f (injected_families (all_acts logs)) }
 {}

@@ -17,9 +17,9 @@ none_placed : (o : Option ℕ) (i : ℕ) → option_map (λ j. suc j) o ≡ Some
 none_placed None i e = absurd cc
 none_placed (Some j) i e = (j, refl, cc)
 
-placed : (k : ℤ) (es : List Entry) (i : ℕ) (d : Entry) → position k es ≡ Some i → holding_of k es ≡ Some (get_or es i d).holding
-placed k [] i d e = absurd cc
-placed k (x ∷ es) i d e = by (int_eq x.key k) refl (λ j. placed k es j d) e
+holding_at_place : (k : ℤ) (es : List Entry) (i : ℕ) (d : Entry) → position k es ≡ Some i → holding_of k es ≡ Some (get_or es i d).holding
+holding_at_place k [] i d e = absurd cc
+holding_at_place k (x ∷ es) i d e = by (int_eq x.key k) refl (λ j. holding_at_place k es j d) e
   where
     by : (t : Bool) → int_eq x.key k ≡ t → ((j : ℕ) → position k es ≡ Some j → holding_of k es ≡ Some (get_or es j d).holding) → (if t then Some 0 else option_map (λ j. suc j) (position k es)) ≡ Some i → holding_of k (x ∷ es) ≡ Some (get_or (x ∷ es) i d).holding
     by true q r s = let z : 0 ≡ i = cc in ap (λ t. if t then Some x.holding else holding_of k es) q ∙ ap (λ n. Some (get_or (x ∷ es) n d).holding) z
@@ -27,9 +27,9 @@ placed k (x ∷ es) i d e = by (int_eq x.key k) refl (λ j. placed k es j d) e
         let n = none_placed (position k es) i s in
         ap (λ t. if t then Some x.holding else holding_of k es) q ∙ r n.0 n.1 ∙ ap (λ n. Some (get_or (x ∷ es) n d).holding) (sym n.2)
 
-written : (k : ℤ) (h : Holding) (es : List Entry) (i : ℕ) (d : Entry) → position k es ≡ Some i → slice_set es i (record { key = (get_or es i d).key; holding = h }) ≡ with_holding k h es
-written k h [] i d e = absurd cc
-written k h (x ∷ es) i d e = by (int_eq x.key k) refl (λ j. written k h es j d) e
+written_at_place : (k : ℤ) (h : Holding) (es : List Entry) (i : ℕ) (d : Entry) → position k es ≡ Some i → slice_set es i (record { key = (get_or es i d).key; holding = h }) ≡ with_holding k h es
+written_at_place k h [] i d e = absurd cc
+written_at_place k h (x ∷ es) i d e = by (int_eq x.key k) refl (λ j. written_at_place k h es j d) e
   where
     by : (t : Bool) → int_eq x.key k ≡ t → ((j : ℕ) → position k es ≡ Some j → slice_set es j (record { key = (get_or es j d).key; holding = h }) ≡ with_holding k h es) → (if t then Some 0 else option_map (λ j. suc j) (position k es)) ≡ Some i
         → slice_set (x ∷ es) i (record { key = (get_or (x ∷ es) i d).key; holding = h }) ≡ (if t then record { key = x.key; holding = h } ∷ es else x ∷ with_holding k h es)
@@ -38,9 +38,9 @@ written k h (x ∷ es) i d e = by (int_eq x.key k) refl (λ j. written k h es j 
         let n = none_placed (position k es) i s in
         ap (λ n. slice_set (x ∷ es) n (record { key = (get_or (x ∷ es) n d).key; holding = h })) n.2 ∙ ap (λ ys. x ∷ ys) (r n.0 n.1)
 
-pub unplaced : (k : ℤ) (es : List Entry) → position k es ≡ None → holding_of k es ≡ None
-unplaced k [] e = refl
-unplaced k (x ∷ es) e = by (int_eq x.key k) refl (unplaced k es) e
+pub unplaced_has_none : (k : ℤ) (es : List Entry) → position k es ≡ None → holding_of k es ≡ None
+unplaced_has_none k [] e = refl
+unplaced_has_none k (x ∷ es) e = by (int_eq x.key k) refl (unplaced_has_none k es) e
   where
     by : (t : Bool) → int_eq x.key k ≡ t → (position k es ≡ None → holding_of k es ≡ None) → (if t then Some 0 else option_map (λ j. suc j) (position k es)) ≡ None → holding_of k (x ∷ es) ≡ None
     by true q r s = absurd cc
@@ -62,7 +62,7 @@ unwritten k h (x ∷ es) e = by (int_eq x.key k) refl (unwritten k h es) e
 -- ---- a key that is kept
 
 pub placed_judged : (g : Said) (es : List Entry) (i : ℕ) (e : Entry) → position g.key es ≡ Some i → e ≡ get_or es i e → judged_part (Some e.holding) g ≡ judged_all g es
-placed_judged g es i e p s = sym (ap (λ o. judged_among o g es) (placed g.key es i e p ∙ ap (λ x. Some x.holding) (sym s)))
+placed_judged g es i e p s = sym (ap (λ o. judged_among o g es) (holding_at_place g.key es i e p ∙ ap (λ x. Some x.holding) (sym s)))
 
 same_place : (es : List Entry) (i : ℕ) (e : Entry) → e ≡ get_or es i e → slice_set es i e ≡ es
 same_place [] i e s = refl
@@ -73,12 +73,12 @@ pub placed_after : (a : Added) (g : Said) (es : List Entry) (i : ℕ) (e : Entry
     → slice_set es i (record { key = e.key; holding = holding_after a (Some e.holding) g e.holding }) ≡ after a g es
 unfolding holding_after
 placed_after added.Kept g es i e p s =
-    let h : Some e.holding ≡ holding_of g.key es = ap (λ x. Some x.holding) s ∙ sym (placed g.key es i e p) in
+    let h : Some e.holding ≡ holding_of g.key es = ap (λ x. Some x.holding) s ∙ sym (holding_at_place g.key es i e p) in
     ap (λ o. slice_set es i (record { key = e.key; holding = with_part o g })) h
     ∙ ap (λ x. slice_set es i (record { key = x.key; holding = with_part (holding_of g.key es) g })) s
-    ∙ written g.key (with_part (holding_of g.key es) g) es i e p
+    ∙ written_at_place g.key (with_part (holding_of g.key es) g) es i e p
 placed_after added.Spoiled g es i e p s =
-    ap (λ x. slice_set es i (record { key = x.key; holding = holding.Spoiled })) s ∙ written g.key holding.Spoiled es i e p
+    ap (λ x. slice_set es i (record { key = x.key; holding = holding.Spoiled })) s ∙ written_at_place g.key holding.Spoiled es i e p
 placed_after added.Again g es i e p s = same_place es i e s
 placed_after added.Stranger g es i e p s = same_place es i e s
 placed_after added.Full g es i e p s = same_place es i e s

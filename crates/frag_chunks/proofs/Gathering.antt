@@ -12,7 +12,7 @@ use Rattle.frag_chunks.specs.declared.holding.Holding.{Holding}
 use Rattle.frag_chunks.specs.declared.holding.Holding.TheVariants as holding
 use Rattle.frag_chunks.specs.declared.holding.Entry.{Entry}
 use Rattle.frag_chunks.specs.Parts.{IsMessage, parts_in, piece_of}
-use Rattle.frag_chunks.specs.Gathers.{Said, said_in, is_part, place_of, judged_piece, judged_in, judged_part, at_place, with_part, holding_of, with_holding, judged_among, judged_all, after, added_or, added_note, gathered}
+use Rattle.frag_chunks.specs.Gathers.{Said, said_in, is_part, place_of, judged_piece, judged_in, judged_part, at_place, with_part, holding_of, with_holding, judged_among, judged_all, after, added_or, added_note, gathered_entries}
 use Rattle.frag_chunks.specs.Messages.{said_of, IsPartOf, OnlyParts, gives, was_given}
 use Rattle.frag_chunks.proofs.Pieces.{slots_from, slots_length, slots_same, slots_get, slots_set, slots_none, is_right}
 use Rattle.frag_chunks.proofs.Keys.{key_self, key_is, key_not, own_holding, other_holding, no_fewer}
@@ -139,7 +139,7 @@ or_assoc false b c = refl
 -- ---- all notes
 
 pub all_notes : (port : ℕ) (k : ℤ) (b : List ℕ) (f : ℕ → Bool) (ns : List Note) (es : List Entry) → IsMessage b → OnlyParts port k b ns → holding_of k es ≡ Came f b
-    → holding_of k (gathered port ns es) ≡ Came (λ x. f x || was_given port k ns x) b
+    → holding_of k (gathered_entries port ns es) ≡ Came (λ x. f x || was_given port k ns x) b
 unfolding added_note
 all_notes port k b f [] es m p e = e ∙ came_same f (λ x. f x || false) b (λ x. sym (or_false (f x)))
 all_notes port k b f (n ∷ ns) es m p e =
@@ -150,7 +150,7 @@ all_notes port k b f (n ∷ ns) es m p e =
 -- ---- until a note of the key finds room
 
 pub all_full : (port : ℕ) (k : ℤ) (b : List ℕ) (ns : List Note) (es : List Entry) → OnlyParts port k b ns → holding_of k es ≡ None → 64 ≤ length es
-    → (holding_of k (gathered port ns es) ≡ None) × (64 ≤ length (gathered port ns es))
+    → (holding_of k (gathered_entries port ns es) ≡ None) × (64 ≤ length (gathered_entries port ns es))
 unfolding added_note
 all_full port k b [] es p e l = (e, l)
 all_full port k b (n ∷ ns) es p e l = let s = next (said_in port n) in all_full port k b ns (added_note port n es).1 p.1 s.0 s.1
@@ -179,30 +179,30 @@ more_ends port k b n ns es h (Kept e) = Kept (e ∙ came_same (was_given port k 
 more_ends port k b n ns es h (Full e l) = Full e l
 more_ends port k b n ns es h (Absent e f) = Absent e (λ x. ap (λ t. t || was_given port k ns x) (h x) ∙ f x)
 
-pub notes_end : (port : ℕ) (k : ℤ) (b : List ℕ) (ns : List Note) (es : List Entry) → IsMessage b → OnlyParts port k b ns → holding_of k es ≡ None → Ends port k b ns (gathered port ns es)
+pub notes_end : (port : ℕ) (k : ℤ) (b : List ℕ) (ns : List Note) (es : List Entry) → IsMessage b → OnlyParts port k b ns → holding_of k es ≡ None → Ends port k b ns (gathered_entries port ns es)
 unfolding added_note
 notes_end port k b [] es m p e = Absent e (λ x. refl)
 notes_end port k b (n ∷ ns) es m p e = next (said_in port n) refl (λ f. notes_end port k b ns f m p.1)
   where
     Rest : Type 0
-    Rest = (f : List Entry) → holding_of k f ≡ None → Ends port k b ns (gathered port ns f)
+    Rest = (f : List Entry) → holding_of k f ≡ None → Ends port k b ns (gathered_entries port ns f)
 
-    room : (g : Said) → said_in port n ≡ Some g → IsPartOf k b g → int_eq g.key k ≡ true → (t : Bool) → nat_le 64 (length es) ≡ t → Ends port k b (n ∷ ns) (gathered port ns (after (judged_all g es) g es))
+    room : (g : Said) → said_in port n ≡ Some g → IsPartOf k b g → int_eq g.key k ≡ true → (t : Bool) → nat_le 64 (length es) ≡ t → Ends port k b (n ∷ ns) (gathered_entries port ns (after (judged_all g es) g es))
     room g o i q true r =
         let none : holding_of g.key es ≡ None = ap (λ x. holding_of x es) (key_is g.key k q) ∙ e in
         let a : judged_all g es ≡ added.Full = ap (λ o. judged_among o g es) none ∙ ap (λ t. if t then added.Full else judged_part None g) r in
         let l : 64 ≤ length es = grind (arith, nat_tests) in
         let f = all_full port k b ns es p.1 e l in
-        subst (λ (x : Added). Ends port k b (n ∷ ns) (gathered port ns (after x g es))) (sym a) (Full f.0 f.1)
+        subst (λ (x : Added). Ends port k b (n ∷ ns) (gathered_entries port ns (after x g es))) (sym a) (Full f.0 f.1)
     room g o i q false r =
         let first = subst (λ (y : Said). holding_of k (after (judged_all y es) y es) ≡ Came (also k y (λ x. false)) b) (sym i.same) (first_part k b i.index es m i.within e r) in
         Kept (all_notes port k b (also k g (λ x. false)) ns (after (judged_all g es) g es) m p.1 first
         ∙ came_same (λ x. also k g (λ y. false) x || was_given port k ns x) (was_given port k (n ∷ ns)) b (λ x. ap (λ w. gives k x w || was_given port k ns x) (sym o)))
 
-    at : (g : Said) → said_in port n ≡ Some g → (g.key ≡ k → IsPartOf k b g) → Rest → (t : Bool) → int_eq g.key k ≡ t → Ends port k b (n ∷ ns) (gathered port ns (after (judged_all g es) g es))
+    at : (g : Said) → said_in port n ≡ Some g → (g.key ≡ k → IsPartOf k b g) → Rest → (t : Bool) → int_eq g.key k ≡ t → Ends port k b (n ∷ ns) (gathered_entries port ns (after (judged_all g es) g es))
     at g o i rest true q = room g o (i (key_is g.key k q)) q (nat_le 64 (length es)) refl
     at g o i rest false q = more_ends port k b n ns _ (λ x. ap (gives k x) o ∙ gives_other k g x q) (rest (after (judged_all g es) g es) (other_part k g es (judged_all g es) q ∙ e))
 
-    next : (o : Option Said) → said_in port n ≡ o → Rest → Ends port k b (n ∷ ns) (gathered port ns (added_or o es).1)
+    next : (o : Option Said) → said_in port n ≡ o → Rest → Ends port k b (n ∷ ns) (gathered_entries port ns (added_or o es).1)
     next None o rest = more_ends port k b n ns _ (λ x. ap (gives k x) o) (rest es e)
     next (Some g) o rest = at g o (subst (λ (w : Option Said). IfSome w (λ g. g.key ≡ k → IsPartOf k b g)) o p.0) rest (int_eq g.key k) refl

@@ -5,7 +5,7 @@ use Rattle.std.specs.List.{list_all}
 use Rattle.std.proofs.lemmas.List.{length-take, take-append-drop, drop-drop}
 use Rattle.std.proofs.lemmas.Bool.Decides.{nat_tests}
 use Rattle.frag_chunks.specs.Parts.{IsMessage, parts_in, piece_of}
-use Rattle.frag_chunks.specs.Gathers.{is_part, joined_pieces, filled}
+use Rattle.frag_chunks.specs.Gathers.{is_part, joined_pieces, filled_parts}
 use Rattle.frag_chunks.specs.Messages.{given_from}
 
 -- n places from index i on, filled where f says so
@@ -38,11 +38,11 @@ pub slots_none : (b : List ℕ) (i n : ℕ) → replicate n None ≡ slots_from 
 slots_none b i zero = refl
 slots_none b i (suc n) = ap (λ xs. None ∷ xs) (slots_none b (i + 1) n)
 
-pub slots_filled : (f : ℕ → Bool) (b : List ℕ) (i n : ℕ) → filled (slots_from f b i n) ≡ given_from f i n
+pub slots_filled : (f : ℕ → Bool) (b : List ℕ) (i n : ℕ) → filled_parts (slots_from f b i n) ≡ given_from f i n
 slots_filled f b i zero = refl
 slots_filled f b i (suc n) = by (f i) (slots_filled f b (i + 1) n)
   where
-    by : (t : Bool) → filled (slots_from f b (i + 1) n) ≡ given_from f (i + 1) n → filled ((if t then Some (piece_of b i) else None) ∷ slots_from f b (i + 1) n) ≡ (if t then suc (given_from f (i + 1) n) else given_from f (i + 1) n)
+    by : (t : Bool) → filled_parts (slots_from f b (i + 1) n) ≡ given_from f (i + 1) n → filled_parts ((if t then Some (piece_of b i) else None) ∷ slots_from f b (i + 1) n) ≡ (if t then suc (given_from f (i + 1) n) else given_from f (i + 1) n)
     by true h = ap suc h
     by false h = h
 

@@ -147,9 +147,9 @@ abbrev pub with_note : Note → Gathering → Gathering
 with_note note g = record { port = g.port; entries = (added_note g.port note g.entries).1 }
 
 -- what is kept after notes in order
-abbrev pub gathered : ℕ → List Note → List Entry → List Entry
-gathered port [] es = es
-gathered port (note ∷ notes) es = gathered port notes (added_note port note es).1
+abbrev pub gathered_entries : ℕ → List Note → List Entry → List Entry
+gathered_entries port [] es = es
+gathered_entries port (note ∷ notes) es = gathered_entries port notes (added_note port note es).1
 
 -- ---- what is held of a key
 
@@ -160,11 +160,11 @@ joined_pieces (None ∷ xs) = joined_pieces xs
 joined_pieces (Some d ∷ xs) = d ++ joined_pieces xs
 
 -- how many parts are there
-abbrev pub filled : List (Option (List ℕ)) → ℕ
-filled [] = 0
-filled (None ∷ xs) = filled xs
-filled (Some d ∷ xs) = suc (filled xs)
+abbrev pub filled_parts : List (Option (List ℕ)) → ℕ
+filled_parts [] = 0
+filled_parts (None ∷ xs) = filled_parts xs
+filled_parts (Some d ∷ xs) = suc (filled_parts xs)
 
 abbrev pub held_of : ℤ → Holding → Held
 held_of k holding.Spoiled = held.Spoiled k
-held_of k (holding.Open slots) = if list_all is_some slots then held.Whole k (joined_pieces slots) else held.Missing k (filled slots) (length slots)
+held_of k (holding.Open slots) = if list_all is_some slots then held.Whole k (joined_pieces slots) else held.Missing k (filled_parts slots) (length slots)

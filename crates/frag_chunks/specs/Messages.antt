@@ -8,7 +8,7 @@ use Rattle.frag_chunks.specs.declared.holding.Entry.{Entry}
 use Rattle.frag_chunks.specs.declared.gather.Held.{Held}
 use Rattle.frag_chunks.specs.declared.gather.Held.TheVariants as held
 use Rattle.frag_chunks.specs.Parts.{IsMessage, parts_in, piece_of}
-use Rattle.frag_chunks.specs.Gathers.{Said, said_in, place_of, holding_of, held_of, gathered}
+use Rattle.frag_chunks.specs.Gathers.{Said, said_in, place_of, holding_of, held_of, gathered_entries}
 
 -- the part of a message with this index, as a note says it
 abbrev pub said_of : ℤ → List ℕ → ℕ → Said
@@ -57,15 +57,15 @@ held_now k es = option_map (held_of k) (holding_of k es)
 
 -- a key is kept after these notes
 abbrev pub IsKept : ℕ → ℤ → List Note → Type 0
-IsKept port k notes = IsSome (holding_of k (gathered port notes []))
+IsKept port k notes = IsSome (holding_of k (gathered_entries port notes []))
 
 -- 64 keys are kept after these notes
 abbrev pub IsFull : ℕ → List Note → Type 0
-IsFull port notes = 64 ≤ length (gathered port notes [])
+IsFull port notes = 64 ≤ length (gathered_entries port notes [])
 
 -- what is held of a key after these notes
 abbrev pub held_after : ℕ → ℤ → List Note → Option Held
-held_after port k notes = held_now k (gathered port notes [])
+held_after port k notes = held_now k (gathered_entries port notes [])
 
 -- a message of which some parts are missing
 abbrev pub missing_of : ℕ → ℤ → List ℕ → List Note → Held

@@ -75,7 +75,7 @@ fn position(entries: &[Entry], given: &Given<'_>) -> Option<usize>
 }
 
 /// Adds a part to what is kept of all keys.
-#[tactic(auto, using(crate::proofs::Entries::placed_judged, crate::proofs::Entries::placed_after, crate::proofs::Entries::unplaced))]
+#[tactic(auto, using(crate::proofs::Entries::placed_judged, crate::proofs::Entries::placed_after, crate::proofs::Entries::unplaced_has_none))]
 fn add_part(alloc: Global, entries: &mut Vec<Entry>, given: Given<'_>) -> Result<Added, NoMemory>
     requires few { length entries.old.items ≤ 64 }
     requires places { All FewPlaces entries.old.items }

@@ -113,7 +113,7 @@ fn judged_new(given: Given<'_>) -> Added
 
 /// A part beside what is kept of its key.
 #[tactic(auto, using(crate::proofs::Judging::spoiled_part, crate::proofs::Judging::open_part, crate::proofs::Judging::no_part))]
-fn judged(holding: &Holding, given: Given<'_>) -> Added
+fn judge_part(holding: &Holding, given: Given<'_>) -> Added
     ensures { result ≡ spec.judged_part (Some holding.now) (as_said given.entry) }
 {
     if !is_part(given) {
@@ -153,7 +153,7 @@ pub fn add_to(alloc: Global, holding: &mut Holding, given: Given<'_>) -> Result<
     ensures few { FewIn holding.old → FewIn holding.new }
     ensures err { OnErr result (holding.new ≡ holding.old) }
 {
-    let answer = judged(holding, given);
+    let answer = judge_part(holding, given);
     match answer {
         Added::Kept => put_part(alloc, holding, given)?,
         Added::Spoiled => *holding = Holding::Spoiled,
@@ -192,7 +192,7 @@ pub fn begin(alloc: Global, given: Given<'_>) -> Result<(Added, Holding), NoMemo
 /// How many parts are there.
 fn count_there(slots: &[Option<Bytes>]) -> usize
     requires { length slots.now ≤ 32 }
-    ensures { result ≡ spec.filled slots.now }
+    ensures { result ≡ spec.filled_parts slots.now }
 {
     let mut count = 0usize;
     for i in 0..slots.len() {
@@ -204,7 +204,7 @@ fn count_there(slots: &[Option<Bytes>]) -> usize
 }
 
 /// The pieces that are there, in order.
-fn joined(alloc: Global, slots: &[Option<Bytes>]) -> Result<Bytes, NoMemory>
+fn join_pieces(alloc: Global, slots: &[Option<Bytes>]) -> Result<Bytes, NoMemory>
     ensures { IfOk result (λ bytes. bytes ≡ spec.joined_pieces slots.now) }
 {
     let mut all = Bytes::new(alloc);
@@ -227,7 +227,7 @@ pub fn held_of(alloc: Global, entry: &Entry) -> Result<Held, NoMemory>
         Holding::Open(slots) => {
             let there = count_there(slots.as_slice());
             if there == slots.len() {
-                Ok(Held::Whole(entry.key, joined(alloc, slots.as_slice())?))
+                Ok(Held::Whole(entry.key, join_pieces(alloc, slots.as_slice())?))
             } else {
                 Ok(Held::Missing(entry.key, there as u32, slots.len() as u32))
             }

@@ -2,7 +2,7 @@ ghost use Rattle.std.specs.Prelude.{◌≡◌, ◌<◌, ◌⊎◌, ℕ, ℤ, Lis
 ghost use Rattle.service_api.specs.declared.answer.Note.{Note};
 ghost use Rattle.frag_chunks.specs.declared.gather.Held.TheVariants as held;
 ghost use Rattle.frag_chunks.specs.Parts.{parts_in};
-ghost use Rattle.frag_chunks.specs.Gathers.{gathered, holding_of};
+ghost use Rattle.frag_chunks.specs.Gathers.{gathered_entries, holding_of};
 ghost use Rattle.frag_chunks.specs.Messages.{OfMessage, AllCame, NoneCame, was_given, IsKept, IsFull, held_after, missing_of};
 
 /// A key whose notes are parts of one message is held whole, with exactly that message, once each part came, and is
@@ -16,6 +16,6 @@ pub fn messages_are_gathered()
         → (i : ℕ) → i < parts_in (length bytes) → was_given port k notes i ≡ false
         → held_after port k notes ≡ Some (missing_of port k bytes notes) }
     ensures room { (port : ℕ) (k : ℤ) (bytes : List ℕ) (notes : List Note)
-        → OfMessage port k bytes notes → holding_of k (gathered port notes []) ≡ None
+        → OfMessage port k bytes notes → holding_of k (gathered_entries port notes []) ≡ None
         → IsFull port notes ⊎ NoneCame port k notes }
 {}

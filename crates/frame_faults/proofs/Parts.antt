@@ -12,7 +12,7 @@ use Rattle.wire_bytes.specs.Fields.{Front, bytes_at, number_at, int_at}
 use Rattle.chunk_spelling.specs.declared.fault.SpellFault.{SpellFault}
 use Rattle.chunk_spelling.specs.declared.fault.SpellFault.TheVariants.{Truncated, BadTag, BadName, BadUtf8, OverLimit, NoMemory}
 use Rattle.chunk_spelling.specs.Items.{ChunkItem, a_flag, an_int, a_word, a_char, a_text, a_blob, a_name, an_operator, a_part_number, a_type, an_expr, several_clauses, a_clause, a_parameter, a_service, a_function, a_program, code_end, a_value, a_chunk, weight_end, counted, listed}
-use Rattle.chunk_spelling.specs.Scan.{Scan, whole, number_field, int_field, bytes_field, allowed, tag_of, known, table_field, flag_field, is_scalar, char_field, blob_field, text_field, count_field, name_field, operator_field}
+use Rattle.chunk_spelling.specs.Scan.{Scan, whole, number_field, int_field, bytes_field, allowed_or_fault, tag_of, known_tag, table_field, flag_field, is_scalar, char_field, blob_field, text_field, count_field, name_field, operator_field}
 use Rattle.chunk_spelling.specs.Types.{type_tag_at}
 use Rattle.chunk_spelling.specs.Exprs.{expr_tag_at, clause_tag_at}
 use Rattle.chunk_spelling.specs.Programs.{judged_code}
@@ -44,12 +44,12 @@ whole_own (Ok x) s = tt
 whole_own (Err at) s = λ h. cc
 
 -- a fault other than `NoMemory` is told where something may not stand there
-allowed_own : {A : Type 0} (b : Bool) (e : SpellFault) (x : A × Scan) → e ≢ NoMemory → Own (allowed b e x)
+allowed_own : {A : Type 0} (b : Bool) (e : SpellFault) (x : A × Scan) → e ≢ NoMemory → Own (allowed_or_fault b e x)
 unfolding Own
 allowed_own true e x h = tt
 allowed_own false e x h = h
 
-known_own : {T : Type 0} (o : Option T) (at : ℕ) (s : Scan) → Own (known o at s)
+known_own : {T : Type 0} (o : Option T) (at : ℕ) (s : Scan) → Own (known_tag o at s)
 unfolding Own
 known_own (Some t) at s = tt
 known_own None at s = λ h. cc
@@ -92,15 +92,15 @@ count_own : (limit : Limit) (least most : ℕ) (s : Scan) → Own (count_field l
 unfolding count_field
 count_own limit least most s =
     then_own (number_field w8 s) _ (number_own w8 s)
-    (λ count. then_own (allowed (nat_le least count.0) (BadTag s.front.at) count) _ (allowed_own (nat_le least count.0) (BadTag s.front.at) count (λ h. cc))
+    (λ count. then_own (allowed_or_fault (nat_le least count.0) (BadTag s.front.at) count) _ (allowed_own (nat_le least count.0) (BadTag s.front.at) count (λ h. cc))
     (λ enough. allowed_own (nat_le enough.0 most) (OverLimit limit s.front.at) enough (λ h. cc)))
 
 pub name_own : (s : Scan) → Own (name_field s)
 unfolding name_field
 name_own s =
     then_own (number_field w8 s) _ (number_own w8 s)
-    (λ size. then_own (allowed (nat_le 1 size.0) (BadName s.front.at) size) _ (allowed_own (nat_le 1 size.0) (BadName s.front.at) size (λ h. cc))
-    (λ longer. then_own (allowed (nat_le longer.0 32) (BadName s.front.at) longer) _ (allowed_own (nat_le longer.0 32) (BadName s.front.at) longer (λ h. cc))
+    (λ size. then_own (allowed_or_fault (nat_le 1 size.0) (BadName s.front.at) size) _ (allowed_own (nat_le 1 size.0) (BadName s.front.at) size (λ h. cc))
+    (λ longer. then_own (allowed_or_fault (nat_le longer.0 32) (BadName s.front.at) longer) _ (allowed_own (nat_le longer.0 32) (BadName s.front.at) longer (λ h. cc))
     (λ fits. then_own (bytes_field fits.0 fits.1) _ (bytes_own fits.0 fits.1) (λ name. allowed_own (is_name name.0) (BadName s.front.at) name (λ h. cc)))))
 
 operator_own : (s : Scan) → Own (operator_field s)

@@ -12,7 +12,7 @@ use Rattle.typing_order.specs.ChunkConditions.{conditions, FirstFailing}
 use Rattle.typing_order.proofs.ChunkFirsts.{first_is as first_ill}
 use Rattle.typing_order.proofs.ChunkOwn.{illness_own}
 use Rattle.packet_frame.specs.Forms.{FrameFits}
-use Rattle.packet_frame.specs.Frames.{SpellsFrame, SpellingFault, carried}
+use Rattle.packet_frame.specs.Frames.{SpellsFrame, SpellingFault, carried_chunk}
 use Rattle.packet_frame.specs.Typed.{Accepts, CarriesTyped, CarriesIll, CarriesNoHandler, FrameFirst, misspelled, ill_typed}
 use Rattle.packet_frame.specs.Stamped.{SpellsStamped, StampedFault, AcceptsBy, StampedFirst, spells_none, ill_typed as ill_stamped, ill_handled}
 use Rattle.packet_frame.specs.declared.fault.FrameFault.{FrameFault}
@@ -31,12 +31,12 @@ use Rattle.frame_faults.specs.Refusals.{CarriesFailing, FirstRefusal, of_spellin
 use Rattle.frame_faults.proofs.Fields.{flat_own}
 
 -- the chunk of a frame keeps its limits
-carried_fits : (x : PlainFrame) (c : Chunk) → FrameFits x → carried x ≡ Some c → a_whole_chunk.Fits c
+carried_fits : (x : PlainFrame) (c : Chunk) → FrameFits x → carried_chunk x ≡ Some c → a_whole_chunk.Fits c
 carried_fits (PlainFrame.Packet p) c fits e = let same : p.chunk ≡ c = cc in subst a_whole_chunk.Fits same fits.1.1.1.1.1.0
 carried_fits (PlainFrame.Advert a) c fits e = absurd (cc)
 carried_fits (PlainFrame.Ask bound d) c fits e = let same : d ≡ c = cc in subst a_whole_chunk.Fits same fits.1.0
 
-ill_law : (x : PlainFrame) (c : Chunk) (i : Ill) → FrameFits x → carried x ≡ Some c → (illness c ≡ Some i) ↔ FirstFailing c (causes.Ill i) (conditions c)
+ill_law : (x : PlainFrame) (c : Chunk) (i : Ill) → FrameFits x → carried_chunk x ≡ Some c → (illness c ≡ Some i) ↔ FirstFailing c (causes.Ill i) (conditions c)
 ill_law x c i fits e = let k = carried_fits x c fits e in first_ill c (chunk_is_formed c k) (chunk_is_full c k) i
 
 -- what is wrong with the chunk that a frame carries, told by its first condition, and back
@@ -51,24 +51,24 @@ failing_own x i fits c = illness_own c.chunk i ((ill_law x c.chunk i fits c.is_c
 
 -- a frame's chunk is typed, or first fails
 typed_or_failing : (x : PlainFrame) → FrameFits x → CarriesTyped x ⊎ ((i : Ill) × CarriesFailing x i)
-typed_or_failing x fits = by_chunk (carried x) refl (illness_in (carried x)) refl
+typed_or_failing x fits = by_chunk (carried_chunk x) refl (illness_in (carried_chunk x)) refl
   where
-    by_chunk : (c : Option Chunk) → carried x ≡ c → (o : Option Ill) → illness_in c ≡ o → CarriesTyped x ⊎ ((i : Ill) × CarriesFailing x i)
+    by_chunk : (c : Option Chunk) → carried_chunk x ≡ c → (o : Option Ill) → illness_in c ≡ o → CarriesTyped x ⊎ ((i : Ill) × CarriesFailing x i)
     by_chunk c q None h = inl (found_typed x fits (ap illness_in q ∙ h))
     by_chunk (Some c) q (Some i) h = inr (i, record { chunk = c; is_carried = q; fails = (ill_law x c i fits q).0 h })
     by_chunk None q (Some i) h = absurd (cc)
 
 module _ (bytes : List ℕ) (are : IsBytes bytes) where
-  told : (e : FrameFault) → FrameFirst e bytes → FirstRefusal bytes e
-  told e (misspelled s) = of_spelling e ((frame_is_flat bytes e are).0 s)
-  told e (ill_typed x s c) = let f = failing x e s.fits c in subst (FirstRefusal bytes) (sym f.2) (of_types x f.0 s f.1)
+  first_is_told : (e : FrameFault) → FrameFirst e bytes → FirstRefusal bytes e
+  first_is_told e (misspelled s) = of_spelling e ((frame_is_flat bytes e are).0 s)
+  first_is_told e (ill_typed x s c) = let f = failing x e s.fits c in subst (FirstRefusal bytes) (sym f.2) (of_types x f.0 s f.1)
 
   back : (e : FrameFault) → FirstRefusal bytes e → FrameFirst e bytes
   back _ (of_spelling e s) = misspelled ((frame_is_flat bytes e are).1 s)
   back _ (of_types x i s c) = ill_typed x s (ill_of x i s.fits c)
 
   pub first : (e : FrameFault) → FrameFirst e bytes ↔ FirstRefusal bytes e
-  first e = (told e, back e)
+  first e = (first_is_told e, back e)
 
   pub some : IsFrameOrRefused bytes
   some = by_spelling (either_is bytes are)
@@ -81,17 +81,17 @@ module _ (bytes : List ℕ) (are : IsBytes bytes) where
       by_spelling (inl x) = by_types x.0 x.1 (typed_or_failing x.0 x.1.fits)
       by_spelling (inr e) = inr (e.0, of_spelling e.0 ((frame_is_flat bytes e.0 are).0 e.1))
 
-  refused : (e : FrameFault) → FirstRefusal bytes e → frame_of bytes ≡ Err e
-  refused e r = answered bytes e are (back e r)
+  first_is_refused : (e : FrameFault) → FirstRefusal bytes e → frame_of bytes ≡ Err e
+  first_is_refused e r = answered bytes e are (back e r)
 
   pub apart : (x : PlainFrame) (e : FrameFault) → Accepts bytes x → FirstRefusal bytes e → ⊥
-  apart x e a r = let z : ◌≡◌ {A = Result PlainFrame FrameFault} (Ok x) (Err e) = sym (accepts_is bytes x a) ∙ refused e r in cc
+  apart x e a r = let z : ◌≡◌ {A = Result PlainFrame FrameFault} (Ok x) (Err e) = sym (accepts_is bytes x a) ∙ first_is_refused e r in cc
 
   pub one : (d e : FrameFault) → FirstRefusal bytes d → FirstRefusal bytes e → d ≡ e
-  one d e r s = let z : ◌≡◌ {A = Result PlainFrame FrameFault} (Err d) (Err e) = sym (refused d r) ∙ refused e s in cc
+  one d e r s = let z : ◌≡◌ {A = Result PlainFrame FrameFault} (Err d) (Err e) = sym (first_is_refused d r) ∙ first_is_refused e s in cc
 
   pub frame_own : (e : FrameFault) → FrameFirst e bytes → HoldsNoMemory e
-  frame_own e h = own e (told e h)
+  frame_own e h = own e (first_is_told e h)
     where
       own : (e : FrameFault) → FirstRefusal bytes e → HoldsNoMemory e
       own e (of_spelling _ (too_long n q)) = subst HoldsNoMemory (sym q) tt

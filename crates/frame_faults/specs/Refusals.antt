@@ -7,7 +7,7 @@ use Rattle.chunk_types.specs.declared.fault.Ill.{Ill}
 use Rattle.chunk_types.specs.declared.fault.ChunkFault.TheVariants as causes
 use Rattle.typing_order.specs.ChunkConditions.{conditions, call_conditions, FirstFailing}
 use Rattle.typing_order.specs.Memory.{IllHoldsNoMemory}
-use Rattle.packet_frame.specs.Frames.{SpellsFrame, carried}
+use Rattle.packet_frame.specs.Frames.{SpellsFrame, carried_chunk}
 use Rattle.packet_frame.specs.Stamped.{SpellsStamped, AcceptsBy}
 use Rattle.packet_frame.specs.Typed.{Accepts, CarriesNoHandler}
 use Rattle.packet_frame.specs.declared.fault.FrameFault.{FrameFault}
@@ -19,7 +19,7 @@ use Rattle.flat_faults.specs.Flat.{FlatSpellingFault, FlatStampedFault}
 -- the chunk that a frame carries isn't typed, for the first of its conditions
 pub record CarriesFailing (x : PlainFrame) (i : Ill) : Type 0 where
   pub chunk : Chunk
-  pub is_carried : carried x ≡ Some chunk
+  pub is_carried : carried_chunk x ≡ Some chunk
   pub fails : FirstFailing chunk (causes.Ill i) (conditions chunk)
 
 -- the bytes spell no frame, for the first of their fields and items; or they spell one, whose chunk isn't typed

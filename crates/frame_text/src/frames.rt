@@ -2,7 +2,7 @@ ghost use Rattle.std.specs.Prelude.{◌≡◌, ◌++◌, [], None, codes, IfOk, 
 ghost use Rattle.std.specs.Fmt.{decimal};
 ghost use Rattle.std.specs.String.{string_bytes};
 ghost use Rattle.std.specs.List.{flat_map};
-ghost use Rattle.printed_forms.specs.Pieces.{listed, commas};
+ghost use Rattle.printed_forms.specs.Pieces.{listed_pieces, commas};
 ghost use Rattle.printed_forms.specs.Printed.{value_text, program_text};
 ghost use Rattle.packet_frame.specs.Stamped.{stamped_plain};
 ghost use Rattle.packet_frame.specs.declared.frame.PlainFrame.{PlainFrame as Plain};

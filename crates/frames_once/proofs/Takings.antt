@@ -22,7 +22,7 @@ use Rattle.node_model.specs.declared.acts.Act.{Act}
 use Rattle.node_model.specs.declared.acts.Act.TheVariants.{Injected, Asked}
 use Rattle.node_model.specs.declared.acts.Lane.{Lane}
 use Rattle.node_model.specs.State.{Queues, NodeState}
-use Rattle.node_model.specs.Node.{NodeStep as Stepped, take_first, take_from, take_step, next_serial, injected_packet, inject_step, visited, asked_plain, asked, control_step, node_step}
+use Rattle.node_model.specs.Node.{NodeStep as Stepped, take_first, take_from, take_step, next_serial, injected_packet, inject_step, visit_step, asked_plain, asked_read, control_step, node_step}
 use Rattle.node_model.specs.Numbers.{link_in, numbers_in, Ascend, NumbersFit, FitsAt}
 use Rattle.node_model.specs.Fits.{IsMarked, NodeFits, comes_fit}
 use Rattle.node_laws.proofs.Numbers.{taken_fits, event_rises}
@@ -150,7 +150,7 @@ pub record Same (old new : NodeState) : Type 0 where
   pub here : new.here ≡ old.here
   pub version : new.version ≡ old.version
 
-visited_same : (acts : List Act) (s : NodeState) (chunk : Chunk) (bound : ℕ) → Same s (visited (acts ++ Injected (record { source = s.here; serial = s.serial }) bound ∷ []) (next_serial s) (injected_packet s chunk bound None)).node
+visited_same : (acts : List Act) (s : NodeState) (chunk : Chunk) (bound : ℕ) → Same s (visit_step (acts ++ Injected (record { source = s.here; serial = s.serial }) bound ∷ []) (next_serial s) (injected_packet s chunk bound None)).node
 visited_same acts s chunk bound =
     let v = visited_stays (acts ++ Injected (record { source = s.here; serial = s.serial }) bound ∷ []) (next_serial s) (injected_packet s chunk bound None) in
     record { here = v.node.here; version = v.node.version }
@@ -169,7 +169,7 @@ control_same : (s : NodeState) (bytes : List ℕ) → Same s (control_step s byt
 unfolding control_step
 control_same s bytes = by (read_by s.version bytes)
   where
-    by : (r : Result PlainStamped FrameFault) → Same s (asked s r).node
+    by : (r : Result PlainStamped FrameFault) → Same s (asked_read s r).node
     by (Err e) = record { here = refl; version = refl }
     by (Ok x) = asked_same s x.frame
 
@@ -221,11 +221,11 @@ module _ (P : PlainStamped → Type 0) where
 pub frames_read : (d : Dev) (s : NodeState) (es : List LogEvent) → EntriesRead s es → AllByRecursion Reads (frames_from d s es)
 frames_read d s [] r = tt
 frames_read d s (Lost ∷ es) r = frames_read d s es r.1
-frames_read d s (Step e ∷ es) r = of_both Reads (frames_by d s (Step e)) (frames_from d (node_step s e).node es) (of_step Reads d s e (taken (node_step s e).frame r.0.1)) (frames_read d (node_step s e).node es r.1)
+frames_read d s (Step e ∷ es) r = of_both Reads (frames_by d s (Step e)) (frames_from d (node_step s e).node es) (of_step Reads d s e (taken_frame_reads (node_step s e).frame r.0.1)) (frames_read d (node_step s e).node es r.1)
   where
-    taken : (o : Option PlainStamped) → FrameReads o → OfFrame Reads o
-    taken None h = tt
-    taken (Some x) h = h
+    taken_frame_reads : (o : Option PlainStamped) → FrameReads o → OfFrame Reads o
+    taken_frame_reads None h = tt
+    taken_frame_reads (Some x) h = h
 
 pub frames_stamped : (d : Dev) (s : NodeState) (es : List LogEvent) → NodeFits s → s.version ≡ Two → EntriesFit Two es → AllByRecursion IsStamped (frames_from d s es)
 frames_stamped d s [] f v k = tt
@@ -233,9 +233,9 @@ frames_stamped d s (Lost ∷ es) f v k = frames_stamped d s es f v k
 frames_stamped d s (Step e ∷ es) f v k =
     let fit = step_fits s e (subst (λ w. comes_fit w e) (sym v) k.0) f in
     let w : (node_step s e).node.version ≡ Two = (step_same s e).version ∙ v in
-    of_both IsStamped (frames_by d s (Step e)) (frames_from d (node_step s e).node es) (of_step IsStamped d s e (taken (node_step s e).frame (node_step s e).node.version w fit.frame))
+    of_both IsStamped (frames_by d s (Step e)) (frames_from d (node_step s e).node es) (of_step IsStamped d s e (taken_frame_stamped (node_step s e).frame (node_step s e).node.version w fit.frame))
     (frames_stamped d (node_step s e).node es fit.node w k.1)
   where
-    taken : (o : Option PlainStamped) (u : Version) → u ≡ Two → FrameTaken u o → OfFrame IsStamped o
-    taken None u q h = tt
-    taken (Some x) u q h = stamped_by u x.stamp q h.mark
+    taken_frame_stamped : (o : Option PlainStamped) (u : Version) → u ≡ Two → FrameTaken u o → OfFrame IsStamped o
+    taken_frame_stamped None u q h = tt
+    taken_frame_stamped (Some x) u q h = stamped_by u x.stamp q h.mark

@@ -16,7 +16,7 @@ use Rattle.plan_grammar.specs.declared.node.Caught.{Caught}
 use Rattle.plan_grammar.specs.Ahead.{Front, Reader, place, behind, next_kind, is_symbol, is_key}
 use Rattle.plan_grammar.specs.Begins.{begins_expr}
 use Rattle.plan_grammar.specs.Types.{more}
-use Rattle.plan_grammar.specs.Exprs.{clause_follows, arguments, binding, bindings_from, clause, clauses_from, operand, product, addition, listed, comparison, negated, conjunction, disjunction, low, whole, at_level, expr_to}
+use Rattle.plan_grammar.specs.Exprs.{clause_follows, arguments, binding, bindings_from, clause, clauses_from, operand, product, addition, listed_operands, comparison, negated_operand, conjunction, disjunction, low, whole, at_level, expr_to}
 use Rattle.grammar_laws.specs.Grammar as gram
 use Rattle.grammar_laws.specs.Grammar.{Sym, Word, Joins, ExprAt, LowAt, OrAt, AndAt, NotAt, CmpAt, ConsAt, AddAt, MulAt, PartAt, AtomAt, ArgsAt, SomeAt, MoreAt, ValAt, ValsAt, ClauseAt, ClausesAt}
 use Rattle.grammar_laws.specs.Follow.{symbol_level, key_level, level, EndsExpr}
@@ -70,11 +70,11 @@ module _ (r : ℕ) (f : Front) (x : Node × Front) where
   unfolding expr_to at_level
   as_low e = e
 
-  as_negated : negated (expr_to r) r f ≡ Ok x → expr_to (suc r) levels.Negated f ≡ Ok x
+  as_negated : negated_operand (expr_to r) r f ≡ Ok x → expr_to (suc r) levels.Negated f ≡ Ok x
   unfolding expr_to at_level
   as_negated e = e
 
-  as_listed : listed (expr_to r) r f ≡ Ok x → expr_to (suc r) levels.Listed f ≡ Ok x
+  as_listed : listed_operands (expr_to r) r f ≡ Ok x → expr_to (suc r) levels.Listed f ≡ Ok x
   unfolding expr_to at_level
   as_listed e = e
 
@@ -87,7 +87,7 @@ abbrev OrSoFar : ℕ → Front → Node → Front → Type 0
 OrSoFar r f n g = SoFar (expr_to r) r (conjunction (expr_to r) r) chains.Or f n g
 
 abbrev AndSoFar : ℕ → Front → Node → Front → Type 0
-AndSoFar r f n g = SoFar (expr_to r) r (negated (expr_to r) r) chains.And f n g
+AndSoFar r f n g = SoFar (expr_to r) r (negated_operand (expr_to r) r) chains.And f n g
 
 abbrev AddSoFar : ℕ → Front → Node → Front → Type 0
 AddSoFar r f n g = SoFar (expr_to r) r (product (expr_to r) r) chains.Sum f n g
@@ -102,7 +102,7 @@ module _ (r : ℕ) (f g : Front) (n : Node) where
 
   and_ends : AndSoFar r f n g → 6 ≤ level (next_kind g) → conjunction (expr_to r) r f ≡ Ok (n, g)
   unfolding conjunction
-  and_ends s h = so_far_ends (expr_to r) r (negated (expr_to r) r) chains.And f g n s (no_joint chains.And (next_kind g) (omega (arith, h)))
+  and_ends s h = so_far_ends (expr_to r) r (negated_operand (expr_to r) r) chains.And f g n s (no_joint chains.And (next_kind g) (omega (arith, h)))
 
   add_ends : AddSoFar r f n g → 3 ≤ level (next_kind g) → addition (expr_to r) r f ≡ Ok (n, g)
   unfolding addition
@@ -181,12 +181,12 @@ mutual
       (and_ends r (behind g) h b (and_at k (omega (arith, ends))) ends) (and_shorter k)
 
   and_at : {r : ℕ} {f g : Front} {n : Node} → AndAt r f n g → 5 ≤ level (next_kind g) → AndSoFar r f n g
-  and_at {r} {f} {g} {n} (gram.one_not d) ends = so_far_first (expr_to r) r (negated (expr_to r) r) chains.And f g n (not_at d ends)
+  and_at {r} {f} {g} {n} (gram.one_not d) ends = so_far_first (expr_to r) r (negated_operand (expr_to r) r) chains.And f g n (not_at d ends)
   and_at {r} {f} {g = h} (gram.more_and {g = g} {a = a} {b = b} {j = j} d e k) ends =
-      so_far_more (expr_to r) r (negated (expr_to r) r) chains.And f g h a b j (and_at d (let l = joint_level chains.And (next_kind g) j e in omega (arith, l))) e
+      so_far_more (expr_to r) r (negated_operand (expr_to r) r) chains.And f g h a b j (and_at d (let l = joint_level chains.And (next_kind g) j e in omega (arith, l))) e
       (not_at k ends) (not_shorter k)
 
-  not_at : {r : ℕ} {f g : Front} {n : Node} → NotAt r f n g → 5 ≤ level (next_kind g) → negated (expr_to r) r f ≡ Ok (n, g)
+  not_at : {r : ℕ} {f g : Front} {n : Node} → NotAt r f n g → 5 ≤ level (next_kind g) → negated_operand (expr_to r) r f ≡ Ok (n, g)
   not_at {f = f} {g = g} (gram.negation {r} {a = a} e d) ends = form.not_is (expr_to (suc r)) r f g a e (as_negated r _ _ (not_at d ends))
   not_at {r} {f} {g} {n} (gram.comparison d) ends = form.negated_is (expr_to r) r f g n (operand_no_key keys.Not f (cmp_starts d) refl) (cmp_at d ends)
 
@@ -196,7 +196,7 @@ mutual
   cmp_at {r} {f} {g = h} (gram.two_sides {g = g} {a = a} {b = b} {j = j} d e k) ends =
       form.two_sides_are (expr_to r) r f g h a b j (cons_at d (let l = joint_level chains.Comparison (next_kind g) j e in omega (arith, l))) e (cons_at k (omega (arith, ends)))
 
-  cons_at : {r : ℕ} {f g : Front} {n : Node} → ConsAt r f n g → 4 ≤ level (next_kind g) → listed (expr_to r) r f ≡ Ok (n, g)
+  cons_at : {r : ℕ} {f g : Front} {n : Node} → ConsAt r f n g → 4 ≤ level (next_kind g) → listed_operands (expr_to r) r f ≡ Ok (n, g)
   cons_at {r} {f} {g} {n} (gram.no_list d) ends =
       form.no_list_is (expr_to r) r f g n (add_ends r f g n (add_at d (omega (arith, ends))) (omega (arith, ends))) (no_symbol symbols.DoubleColon g (omega (arith, ends)))
   cons_at {f = f} {g = h} (gram.before_list {r} {g = g} {a = a} {b = b} d e k) ends =

@@ -26,8 +26,8 @@ use Rattle.plan_grammar.specs.Ahead.{Front, Reader, place, behind, next_kind, is
 use Rattle.plan_grammar.specs.Begins.{begins_operand, begins_expr}
 use Rattle.plan_grammar.specs.Types.{more, type_to}
 use Rattle.plan_grammar.specs.Joints.{joint_of}
-use Rattle.plan_grammar.specs.Nodes.{trees, leaf, over_two, over_three, over_four, over_list, bracketed, let_of, try_of}
-use Rattle.plan_grammar.specs.Exprs.{literal_key, literal, literal_from, clause_follows, items_from, arguments_behind, arguments, call, name_operand, chunk, tuple, single, grouped, parens_behind, parens, typed_nil, listing, brackets_behind, brackets, binding, bindings_from, let_form, clause, clauses_from, try_form, raise_typed, raise_plain, raise_form, before_comma, before_close, fold_parts, foldl_form, foldr_form, eval_form, send_parts, remote_form, neighbor_form, key_form, symbol_form, picked, operand_kind, operand, product, addition, before_list, listed, compared, comparison, negation, negated, conjunction, disjunction, condition, low, before_next, whole, at_level, expr_to}
+use Rattle.plan_grammar.specs.Nodes.{trees, leaf, over_two, over_three, over_four, over_list, bracketed_nodes, let_of, try_of}
+use Rattle.plan_grammar.specs.Exprs.{literal_key, literal, literal_from, clause_follows, items_from, arguments_behind, arguments, call, name_operand, chunk, tuple, single, grouped_expression, parens_behind, parens, typed_nil, listing, brackets_behind, brackets, binding, bindings_from, let_form, clause, clauses_from, try_form, raise_typed, raise_plain, raise_form, before_comma, before_close, fold_parts, foldl_form, foldr_form, eval_form, send_parts, remote_form, neighbor_form, key_form, symbol_form, picked_part, operand_kind, operand, product, addition, before_list, listed_operands, compared_operands, comparison, negation, negated_operand, conjunction, disjunction, condition, low, before_next, whole, at_level, expr_to}
 use Rattle.grammar_laws.specs.Grammar as gram
 use Rattle.grammar_laws.specs.Grammar.{Sym, Word, Called, Joins, behind2, behind3, TypeAt, ExprAt, LowAt, OrAt, AndAt, NotAt, CmpAt, ConsAt, AddAt, MulAt, PartAt, AtomAt, ArgsAt, SomeAt, MoreAt, ValAt, ValsAt, ClauseAt, ClausesAt}
 use Rattle.grammar_laws.proofs.TokenFacts.{comma_is_no_bracket}
@@ -127,16 +127,16 @@ module _ (room : ℕ) (inner : Level → Reader Node) (inside : (r : ℕ) → ro
   tuple_reads r e f g n here one comma =
       after (Added (MoreAt r) 7 (n ∷ []) g) (AtomAt (suc r) f) (more (inner levels.Whole) begins_expr symbols.Comma limits.Parts wanted.AnExpr 7 (n ∷ []) g) _ (more_inside r e limits.Parts 7 (n ∷ []) g)
       (λ all h a. symbol_then (AtomAt (suc r) f) symbols.ParenClose h _
-      (λ shut. found_reads (AtomAt (suc r) f) (over_list (x.Tuple (trees all)) (place f) all) (behind h) (closed a.rest all h a.is a.many a.few shut)))
+      (λ shut. found_reads (AtomAt (suc r) f) (over_list (x.Tuple (trees all)) (place f) all) (behind h) (closed_reads_tuple a.rest all h a.is a.many a.few shut)))
     where
-      closed : (rest all : List Node) (h : Front) → all ≡ n ∷ rest → MoreAt r g rest h → length rest ≤ 7 → Sym symbols.ParenClose h
+      closed_reads_tuple : (rest all : List Node) (h : Front) → all ≡ n ∷ rest → MoreAt r g rest h → length rest ≤ 7 → Sym symbols.ParenClose h
           → AtomAt (suc r) f (over_list (x.Tuple (trees all)) (place f) all) (behind h)
-      closed [] all h is many few shut = absurd (comma_is_no_bracket comma (subst (λ k. Sym symbols.ParenClose k) (no_more_is many) shut))
-      closed (m ∷ ns) all h is many few shut =
+      closed_reads_tuple [] all h is many few shut = absurd (comma_is_no_bracket comma (subst (λ k. Sym symbols.ParenClose k) (no_more_is many) shut))
+      closed_reads_tuple (m ∷ ns) all h is many few shut =
           subst (λ us. AtomAt (suc r) f (over_list (x.Tuple (trees us)) (place f) us) (behind h)) (sym is) (gram.tuple here one many few shut)
 
-  grouped_reads : (r : ℕ) → room ≡ suc r → (f : Front) → Sym symbols.ParenOpen f → Reads (AtomAt (suc r) f) (grouped inner room (place f) (behind f))
-  unfolding grouped single
+  grouped_reads : (r : ℕ) → room ≡ suc r → (f : Front) → Sym symbols.ParenOpen f → Reads (AtomAt (suc r) f) (grouped_expression inner room (place f) (behind f))
+  unfolding grouped_expression single
   grouped_reads r e f here =
       after (ExprAt r (behind f)) (AtomAt (suc r) f) (inner levels.Whole (behind f)) _ (inside r e levels.Whole (behind f))
       (λ n g one. if_symbol (AtomAt (suc r) f) symbols.Comma g _ _ (tuple_reads r e f g n here one)
@@ -162,8 +162,8 @@ module _ (room : ℕ) (inner : Level → Reader Node) (inside : (r : ℕ) → ro
       after (ExprAt r (behind f)) (AtomAt (suc r) f) (inner levels.Whole (behind f)) _ (inside r e levels.Whole (behind f))
       (λ n g one. after (Added (MoreAt r) 62 (n ∷ []) g) (AtomAt (suc r) f) (more (inner levels.Whole) begins_expr symbols.Comma limits.Items wanted.AnExpr 62 (n ∷ []) g) _ (more_inside r e limits.Items 62 (n ∷ []) g)
       (λ all h a. symbol_then (AtomAt (suc r) f) symbols.BracketClose h _
-      (λ shut. found_reads (AtomAt (suc r) f) (bracketed all (leaf (x.Nil None) (place h))) (behind h)
-      (subst (λ ns. AtomAt (suc r) f (bracketed ns (leaf (x.Nil None) (place h))) (behind h)) (sym a.is)
+      (λ shut. found_reads (AtomAt (suc r) f) (bracketed_nodes all (leaf (x.Nil None) (place h))) (behind h)
+      (subst (λ ns. AtomAt (suc r) f (bracketed_nodes ns (leaf (x.Nil None) (place h))) (behind h)) (sym a.is)
       (gram.items here (gram.some one a.many) (let few = a.few in omega (arith, few)) shut)))))
 
   brackets_read : (f : Front) → Sym symbols.BracketOpen f → Reads (AtomAt room f) (brackets inner room f)
@@ -332,8 +332,8 @@ module _ (room : ℕ) (inner : Level → Reader Node) (inside : (r : ℕ) → ro
   symbol_reads f symbols.Bar e = chunk_reads f e
   symbol_reads f s e = refusal_reads (AtomAt room f) _
 
-  part_reads : (f : Front) (i : ℕ) → next_kind f ≡ Some (kinds.Part i) → Reads (PartAt room f) (picked inner room i f)
-  unfolding picked
+  part_reads : (f : Front) (i : ℕ) → next_kind f ≡ Some (kinds.Part i) → Reads (PartAt room f) (picked_part inner room i f)
+  unfolding picked_part
   part_reads f i here = opening_reads (λ s. PartAt s f) room f _
       (λ r e. after (PartAt r (behind f)) (PartAt (suc r) f) (inner levels.Operand (behind f)) _ (inside r e levels.Operand (behind f))
       (λ a g one. found_reads (PartAt (suc r) f) _ g (gram.part_of here one)))
@@ -366,20 +366,20 @@ module _ (room : ℕ) (inner : Level → Reader Node) (inside : (r : ℕ) → ro
       (λ r e. after (ConsAt r (behind g)) (ConsAt (suc r) f) (inner levels.Listed (behind g)) _ (inside r e levels.Listed (behind g))
       (λ b h one. found_reads (ConsAt (suc r) f) _ h (gram.before_list (subst (λ s. AddAt s f n g) e item) colons one)))
 
-  listed_reads : (f : Front) → Reads (ConsAt room f) (listed inner room f)
-  unfolding listed
+  listed_reads : (f : Front) → Reads (ConsAt room f) (listed_operands inner room f)
+  unfolding listed_operands
   listed_reads f = after (AddAt room f) (ConsAt room f) (addition inner room f) _ (addition_reads f)
       (λ n g item. if_symbol (ConsAt room f) symbols.DoubleColon g _ _ (list_reads f g n item) (found_reads (ConsAt room f) n g (gram.no_list item)))
 
   compared_reads : (f g : Front) (n : Node) → ConsAt room f n g → (o : Option Joint) → joint_of chains.Comparison (next_kind g) ≡ o
-      → Reads (CmpAt room f) (compared inner room n g o)
+      → Reads (CmpAt room f) (compared_operands inner room n g o)
   compared_reads f g n left (Some j) e =
-      after (ConsAt room (behind g)) (CmpAt room f) (listed inner room (behind g)) _ (listed_reads (behind g)) (λ b h right. found_reads (CmpAt room f) _ h (gram.two_sides left e right))
+      after (ConsAt room (behind g)) (CmpAt room f) (listed_operands inner room (behind g)) _ (listed_reads (behind g)) (λ b h right. found_reads (CmpAt room f) _ h (gram.two_sides left e right))
   compared_reads f g n left None e = found_reads (CmpAt room f) n g (gram.one_side left)
 
   comparison_reads : (f : Front) → Reads (CmpAt room f) (comparison inner room f)
   unfolding comparison
-  comparison_reads f = after (ConsAt room f) (CmpAt room f) (listed inner room f) _ (listed_reads f) (λ n g left. compared_reads f g n left (joint_of chains.Comparison (next_kind g)) refl)
+  comparison_reads f = after (ConsAt room f) (CmpAt room f) (listed_operands inner room f) _ (listed_reads f) (λ n g left. compared_reads f g n left (joint_of chains.Comparison (next_kind g)) refl)
 
   negation_reads : (f : Front) → Word keys.Not f → Reads (NotAt room f) (negation inner room f)
   unfolding negation
@@ -387,13 +387,13 @@ module _ (room : ℕ) (inner : Level → Reader Node) (inside : (r : ℕ) → ro
       (λ r e. after (NotAt r (behind f)) (NotAt (suc r) f) (inner levels.Negated (behind f)) _ (inside r e levels.Negated (behind f))
       (λ a g one. found_reads (NotAt (suc r) f) _ g (gram.negation here one)))
 
-  pub negated_reads : (f : Front) → Reads (NotAt room f) (negated inner room f)
-  unfolding negated
+  pub negated_reads : (f : Front) → Reads (NotAt room f) (negated_operand inner room f)
+  unfolding negated_operand
   negated_reads f = if_key (NotAt room f) keys.Not f _ _ (negation_reads f) (weaker (CmpAt room f) (NotAt room f) _ (comparison_reads f) (λ n g c. gram.comparison c))
 
   pub conjunction_reads : (f : Front) → Reads (AndAt room f) (conjunction inner room f)
   unfolding conjunction
-  conjunction_reads f = chained_reads inner room (negated inner room) chains.And (NotAt room) (AndAt room) (λ i g h a b j m e p. gram.more_and m e p) (λ i g n p. gram.one_not p) negated_reads f
+  conjunction_reads f = chained_reads inner room (negated_operand inner room) chains.And (NotAt room) (AndAt room) (λ i g h a b j m e p. gram.more_and m e p) (λ i g n p. gram.one_not p) negated_reads f
 
   disjunction_reads : (f : Front) → Reads (OrAt room f) (disjunction inner room f)
   unfolding disjunction

@@ -23,8 +23,8 @@ use Rattle.plan_grammar.specs.Ahead.{Front, Reader, place, behind, next_kind, is
 use Rattle.plan_grammar.specs.Begins.{begins_operand, begins_expr}
 use Rattle.plan_grammar.specs.Types.{opens, more, type_to}
 use Rattle.plan_grammar.specs.Joints.{joint_of}
-use Rattle.plan_grammar.specs.Nodes.{trees, leaf, over_one, over_two, over_three, over_four, over_list, joined_nodes, consed, bracketed, let_of, try_of}
-use Rattle.plan_grammar.specs.Exprs.{literal, literal_from, opens_at, need_open, catch_at, items_from, arguments_behind, arguments, call, name_operand, chunk, tuple, single, grouped, parens_behind, parens, typed_nil, listing, brackets_behind, brackets, binding, bindings_from, let_form, clause, clauses_from, try_form, raise_typed, raise_plain, raise_form, before_comma, before_close, fold_parts, foldl_form, foldr_form, eval_form, send_parts, remote_form, neighbor_form, key_form, symbol_form, picked, operand_kind, operand, before_list, listed, addition, comparison, negation, negated, disjunction, condition, low, before_next, whole}
+use Rattle.plan_grammar.specs.Nodes.{trees, leaf, over_one, over_two, over_three, over_four, over_list, joined_nodes, consed_nodes, bracketed_nodes, let_of, try_of}
+use Rattle.plan_grammar.specs.Exprs.{literal, literal_from, opens_at, need_open, catch_at, items_from, arguments_behind, arguments, call, name_operand, chunk, tuple, single, grouped_expression, parens_behind, parens, typed_nil, listing, brackets_behind, brackets, binding, bindings_from, let_form, clause, clauses_from, try_form, raise_typed, raise_plain, raise_form, before_comma, before_close, fold_parts, foldl_form, foldr_form, eval_form, send_parts, remote_form, neighbor_form, key_form, symbol_form, picked_part, operand_kind, operand, before_list, listed_operands, addition, comparison, negation, negated_operand, disjunction, condition, low, before_next, whole}
 use Rattle.grammar_laws.specs.Grammar.{Sym, Word, Called, behind2, behind3}
 use Rattle.grammar_laws.proofs.TokenFacts.{room_open}
 use Rattle.grammar_laws.proofs.Follows.{starts_no_symbol, symbol_here}
@@ -94,21 +94,21 @@ module _ (inner : Level → Reader Node) (room : ℕ) where
   unfolding low
   low_is f g n a b = rw (a, b) refl
 
-  pub negated_is : (f g : Front) (n : Node) → is_key keys.Not f ≡ false → comparison inner room f ≡ Ok (n, g) → negated inner room f ≡ Ok (n, g)
-  unfolding negated
+  pub negated_is : (f g : Front) (n : Node) → is_key keys.Not f ≡ false → comparison inner room f ≡ Ok (n, g) → negated_operand inner room f ≡ Ok (n, g)
+  unfolding negated_operand
   negated_is f g n a b = rw (a, b) refl
 
-  pub one_side_is : (f g : Front) (n : Node) → listed inner room f ≡ Ok (n, g) → joint_of chains.Comparison (next_kind g) ≡ None → comparison inner room f ≡ Ok (n, g)
+  pub one_side_is : (f g : Front) (n : Node) → listed_operands inner room f ≡ Ok (n, g) → joint_of chains.Comparison (next_kind g) ≡ None → comparison inner room f ≡ Ok (n, g)
   unfolding comparison
   one_side_is f g n a b = rw (a, b) refl
 
-  pub two_sides_are : (f g h : Front) (a b : Node) (j : Joint) → listed inner room f ≡ Ok (a, g) → joint_of chains.Comparison (next_kind g) ≡ Some j → listed inner room (behind g) ≡ Ok (b, h)
+  pub two_sides_are : (f g h : Front) (a b : Node) (j : Joint) → listed_operands inner room f ≡ Ok (a, g) → joint_of chains.Comparison (next_kind g) ≡ Some j → listed_operands inner room (behind g) ≡ Ok (b, h)
       → comparison inner room f ≡ Ok (joined_nodes j a b, h)
   unfolding comparison
   two_sides_are f g h a b j c d e = rw (c, d, e) refl
 
-  pub no_list_is : (f g : Front) (n : Node) → addition inner room f ≡ Ok (n, g) → is_symbol symbols.DoubleColon g ≡ false → listed inner room f ≡ Ok (n, g)
-  unfolding listed
+  pub no_list_is : (f g : Front) (n : Node) → addition inner room f ≡ Ok (n, g) → is_symbol symbols.DoubleColon g ≡ false → listed_operands inner room f ≡ Ok (n, g)
+  unfolding listed_operands
   no_list_is f g n a b = rw (a, b) refl
 
   pub one_low_is : (f g : Front) (n : Node) → low inner room f ≡ Ok (n, g) → is_symbol symbols.Semicolon g ≡ false → whole inner room f ≡ Ok (n, g)
@@ -117,8 +117,8 @@ module _ (inner : Level → Reader Node) (room : ℕ) where
 
 module _ (inner : Level → Reader Node) (r : ℕ) where
   pub list_is : (f g h : Front) (a b : Node) → addition inner (suc r) f ≡ Ok (a, g) → is_symbol symbols.DoubleColon g ≡ true → begins_operand (behind g) ≡ true → inner levels.Listed (behind g) ≡ Ok (b, h)
-      → listed inner (suc r) f ≡ Ok (consed a b, h)
-  unfolding listed before_list opens_at opens
+      → listed_operands inner (suc r) f ≡ Ok (consed_nodes a b, h)
+  unfolding listed_operands before_list opens_at opens
   list_is f g h a b c d e i = rw (c, d, e, room_open r, i) refl
 
   pub then_is : (f g h : Front) (a b : Node) → low inner (suc r) f ≡ Ok (a, g) → is_symbol symbols.Semicolon g ≡ true → begins_expr (behind g) ≡ true → inner levels.Whole (behind g) ≡ Ok (b, h)
@@ -131,13 +131,13 @@ module _ (inner : Level → Reader Node) (r : ℕ) where
   unfolding low condition opens need_key is_key
   if_is f g h i c a b p q s t u v = rw (p, room_open r, q, s, t, u, v) refl
 
-  pub not_is : (f g : Front) (a : Node) → Word keys.Not f → inner levels.Negated (behind f) ≡ Ok (a, g) → negated inner (suc r) f ≡ Ok (over_one (x.Not a.tree) (place f) a, g)
-  unfolding negated negation opens is_key
+  pub not_is : (f g : Front) (a : Node) → Word keys.Not f → inner levels.Negated (behind f) ≡ Ok (a, g) → negated_operand inner (suc r) f ≡ Ok (over_one (x.Not a.tree) (place f) a, g)
+  unfolding negated_operand negation opens is_key
   not_is f g a p q = rw (p, room_open r, q) refl
 
   pub part_is : (f g : Front) (i : ℕ) (a : Node) → next_kind f ≡ Some (kinds.Part i) → inner levels.Operand (behind f) ≡ Ok (a, g)
       → operand inner (suc r) f ≡ Ok (over_one (x.Part i a.tree) (place f) a, g)
-  unfolding operand picked opens
+  unfolding operand picked_part opens
   part_is f g i a p q = rw (p, room_open r, q) refl
 
   pub no_value_is : (f : Front) → Sym symbols.ParenOpen f → Sym symbols.ParenClose (behind f) → operand inner (suc r) f ≡ Ok (leaf x.Unit (place f), behind2 f)
@@ -145,12 +145,12 @@ module _ (inner : Level → Reader Node) (r : ℕ) where
   no_value_is f p q = rw (p, room_open r, q) refl
 
   -- a bracket in which an expression begins
-  behind_paren : (f : Front) → Sym symbols.ParenOpen f → begins_expr (behind f) ≡ true → operand inner (suc r) f ≡ grouped inner (suc r) (place f) (behind f)
+  behind_paren : (f : Front) → Sym symbols.ParenOpen f → begins_expr (behind f) ≡ true → operand inner (suc r) f ≡ grouped_expression inner (suc r) (place f) (behind f)
   unfolding operand symbol_form parens parens_behind opens
   behind_paren f p begins = rw (p, room_open r, starts_no_symbol symbols.ParenClose (behind f) begins refl, begins) refl
 
-  group_is : (f g : Front) (n : Node) (at : ℕ) → inner levels.Whole f ≡ Ok (n, g) → Sym symbols.ParenClose g → grouped inner (suc r) at f ≡ Ok (n, behind g)
-  unfolding grouped single need_symbol is_symbol
+  group_is : (f g : Front) (n : Node) (at : ℕ) → inner levels.Whole f ≡ Ok (n, g) → Sym symbols.ParenClose g → grouped_expression inner (suc r) at f ≡ Ok (n, behind g)
+  unfolding grouped_expression single need_symbol is_symbol
   group_is f g n at one shut = rw (one, shut) refl
 
   pub in_brackets_is : (f g : Front) (n : Node) → Sym symbols.ParenOpen f → begins_expr (behind f) ≡ true → inner levels.Whole (behind f) ≡ Ok (n, g) → Sym symbols.ParenClose g
@@ -159,8 +159,8 @@ module _ (inner : Level → Reader Node) (r : ℕ) where
 
   several_are : (f g h : Front) (n : Node) (ns : List Node) (at : ℕ) → inner levels.Whole f ≡ Ok (n, g) → Sym symbols.Comma g
       → more (inner levels.Whole) begins_expr symbols.Comma limits.Parts wanted.AnExpr 7 (n ∷ []) g ≡ Ok (n ∷ ns, h) → Sym symbols.ParenClose h
-      → grouped inner (suc r) at f ≡ Ok (over_list (x.Tuple (trees (n ∷ ns))) at (n ∷ ns), behind h)
-  unfolding grouped tuple need_symbol is_symbol
+      → grouped_expression inner (suc r) at f ≡ Ok (over_list (x.Tuple (trees (n ∷ ns))) at (n ∷ ns), behind h)
+  unfolding grouped_expression tuple need_symbol is_symbol
   several_are f g h n ns at one comma many shut = rw (one, comma, many, shut) refl
 
   pub tuple_is : (f g h : Front) (n : Node) (ns : List Node) → Sym symbols.ParenOpen f → begins_expr (behind f) ≡ true → inner levels.Whole (behind f) ≡ Ok (n, g) → Sym symbols.Comma g
@@ -183,13 +183,13 @@ module _ (inner : Level → Reader Node) (r : ℕ) where
 
   listing_is : (f g h : Front) (n : Node) (ns : List Node) → inner levels.Whole f ≡ Ok (n, g)
       → more (inner levels.Whole) begins_expr symbols.Comma limits.Items wanted.AnExpr 62 (n ∷ []) g ≡ Ok (n ∷ ns, h) → Sym symbols.BracketClose h
-      → listing inner (suc r) f ≡ Ok (bracketed (n ∷ ns) (leaf (x.Nil None) (place h)), behind h)
+      → listing inner (suc r) f ≡ Ok (bracketed_nodes (n ∷ ns) (leaf (x.Nil None) (place h)), behind h)
   unfolding listing need_symbol is_symbol
   listing_is f g h n ns one many shut = rw (one, many, shut) refl
 
   pub items_is : (f g h : Front) (n : Node) (ns : List Node) → Sym symbols.BracketOpen f → begins_expr (behind f) ≡ true → inner levels.Whole (behind f) ≡ Ok (n, g)
       → more (inner levels.Whole) begins_expr symbols.Comma limits.Items wanted.AnExpr 62 (n ∷ []) g ≡ Ok (n ∷ ns, h) → Sym symbols.BracketClose h
-      → operand inner (suc r) f ≡ Ok (bracketed (n ∷ ns) (leaf (x.Nil None) (place h)), behind h)
+      → operand inner (suc r) f ≡ Ok (bracketed_nodes (n ∷ ns) (leaf (x.Nil None) (place h)), behind h)
   items_is f g h n ns p begins one many shut = behind_bracket f p begins ∙ listing_is (behind f) g h n ns one many shut
 
   pub val_is : (at : ℕ) (f g h : Front) (name : Name) (t : Ty) (n : Node) → Word keys.Val f → Called name (behind f) → Sym symbols.Colon (behind2 f) → type_to (suc r) (behind3 f) ≡ Ok (t, g)

@@ -21,7 +21,7 @@ use Rattle.plan_grammar.specs.Begins.{kind_type, begins_type, begins_operand, be
 use Rattle.plan_grammar.specs.Types.{past}
 use Rattle.plan_grammar.specs.Joints.{joint_of}
 use Rattle.plan_grammar.specs.Exprs.{begins_clause}
-use Rattle.grammar_laws.specs.Agenda.{StepOf, expected, GrammarStep, GrammarItem, sym, word, a_name, a_type, lists, first_type, behind_first, next_type, behind_next, whole, maybe_next, low, chain, more_of, negated, compared, maybe_compared, listed, maybe_listed, operand, maybe_call, behind_paren, behind_bracket, behind_raise, open_bracket, args, more_items, more_vals, clauses, maybe_clause, types, more_types, params, more_params, declarations, declaration, body, judgement, Counted, enter, key_step, symbol_step, operand_step, name_step, type_step, right_side, body_size, judge, another, step}
+use Rattle.grammar_laws.specs.Agenda.{StepOf, expected_fault, GrammarStep, GrammarItem, sym, word, a_name, a_type, lists, first_type, behind_first, next_type, behind_next, whole, maybe_next, low, chain, more_of, negated, compared, maybe_compared, listed, maybe_listed, operand, maybe_call, behind_paren, behind_bracket, behind_raise, open_bracket, args, more_items, more_vals, clauses, maybe_clause, types, more_types, params, more_params, declarations, declaration, body, judgement, Counted, enter, key_step, symbol_step, operand_step, name_step, type_step, right_side, body_size, judge, another, step}
 
 -- a step that goes on, or refuses for a reason of the tokens' own
 pub Own : {I : Type 0} → StepOf I → Type 0
@@ -32,7 +32,7 @@ pub goes_on : (I : Type 0) (x : List I × Front) → Own (Ok x)
 unfolding Own
 goes_on I x = tt
 
-pub expects : (I : Type 0) (w : Wanted) (f : Front) → Own {I = I} (expected w f)
+pub expects : (I : Type 0) (w : Wanted) (f : Front) → Own {I = I} (expected_fault w f)
 unfolding Own
 expects I w f = λ h. cc
 

@@ -11,7 +11,7 @@ use Rattle.plan_grammar.specs.Ahead.{Front, Reader, behind, next_kind}
 use Rattle.plan_grammar.specs.Types.{more}
 use Rattle.plan_grammar.specs.Joints.{joint_of}
 use Rattle.plan_grammar.specs.Nodes.{joined_nodes}
-use Rattle.plan_grammar.specs.Exprs.{chain_step, chain_from, chained}
+use Rattle.plan_grammar.specs.Exprs.{chain_step, chain_from, chained_operands}
 use Rattle.grammar_laws.specs.Grammar.{Sym, Joins}
 use Rattle.grammar_laws.proofs.ReadSteps.{Reads, found_reads, refusal_reads, after, weaker, if_symbol}
 
@@ -59,6 +59,6 @@ module _ (inner : Level → Reader Node) (room : ℕ) (one : Reader Node) (chain
       go on (Some j) e = after (One (behind g)) (Many f) (one (behind g)) _ (reads (behind g)) (λ b h p. on (joined_nodes j left b) h (next f g h left b j m e p))
       go on None e = found_reads (Many f) left g m
 
-  pub chained_reads : (f : Front) → Reads (Many f) (chained inner room one chain f)
-  unfolding chained
+  pub chained_reads : (f : Front) → Reads (Many f) (chained_operands inner room one chain f)
+  unfolding chained_operands
   chained_reads f = after (One f) (Many f) (one f) _ (reads f) (λ n g p. chain_reads (length g.tokens) f n g (first f g n p))

@@ -7,18 +7,18 @@ use Rattle.plan_grammar.specs.declared.node.Node.{Node}
 use Rattle.plan_grammar.specs.Ahead.{Front, Reader, behind, next_kind}
 use Rattle.plan_grammar.specs.Joints.{joint_of}
 use Rattle.plan_grammar.specs.Nodes.{joined_nodes}
-use Rattle.plan_grammar.specs.Exprs.{chain_from, chained}
+use Rattle.plan_grammar.specs.Exprs.{chain_from, chained_operands}
 use Rattle.grammar_laws.proofs.Follows.{Shorter, joint_stands}
 
 -- the operands up to g are read and joined, and the reading goes on there
 pub record SoFar (inner : Level → Reader Node) (room : ℕ) (one : Reader Node) (chain : Chain) (f : Front) (n : Node) (g : Front) : Type 0 where
   pub fuel : ℕ
   pub enough : length g.tokens ≤ fuel
-  pub goes : chained inner room one chain f ≡ chain_from one chain fuel n g
+  pub goes : chained_operands inner room one chain f ≡ chain_from one chain fuel n g
 
 module _ (inner : Level → Reader Node) (room : ℕ) (one : Reader Node) (chain : Chain) where
   pub so_far_first : (f g : Front) (n : Node) → one f ≡ Ok (n, g) → SoFar inner room one chain f n g
-  unfolding chained
+  unfolding chained_operands
   so_far_first f g n e = record { fuel = length g.tokens; enough = omega arith; goes = rw e refl }
 
   one_step : (fuel : ℕ) (a b : Node) (g h : Front) (j : Joint) → joint_of chain (next_kind g) ≡ Some j → one (behind g) ≡ Ok (b, h)
@@ -44,5 +44,5 @@ module _ (inner : Level → Reader Node) (room : ℕ) (one : Reader Node) (chain
   stops zero n g e = refl
   stops (suc fuel) n g e = rw e refl
 
-  pub so_far_ends : (f g : Front) (n : Node) → SoFar inner room one chain f n g → joint_of chain (next_kind g) ≡ None → chained inner room one chain f ≡ Ok (n, g)
+  pub so_far_ends : (f g : Front) (n : Node) → SoFar inner room one chain f n g → joint_of chain (next_kind g) ≡ None → chained_operands inner room one chain f ≡ Ok (n, g)
   so_far_ends f g n s e = s.goes ∙ stops s.fuel n g e

@@ -67,11 +67,11 @@ module _ (room : ℕ) (inner : Reader Ty) (inside : (r : ℕ) → room ≡ suc r
   tuple_reads r e f g first here one star =
       after (Added (PartsAt r) 7 (first ∷ []) g) (BaseAt (suc r) f) (more inner begins_type symbols.Star limits.Parts wanted.AType 7 (first ∷ []) g) _ (parts_reads r e first g)
       (λ all h a. symbol_then (BaseAt (suc r) f) symbols.ParenClose h _
-      (λ shut. found_reads (BaseAt (suc r) f) (ty.Tuple all) (behind h) (closed a.rest all h a.is a.many a.few shut)))
+      (λ shut. found_reads (BaseAt (suc r) f) (ty.Tuple all) (behind h) (closed_reads_tuple a.rest all h a.is a.many a.few shut)))
     where
-      closed : (rest all : List Ty) (h : Front) → all ≡ first ∷ rest → PartsAt r g rest h → length rest ≤ 7 → Sym symbols.ParenClose h → BaseAt (suc r) f (ty.Tuple all) (behind h)
-      closed [] all h is many few shut = absurd (star_is_no_bracket star (subst (λ k. Sym symbols.ParenClose k) (no_parts many) shut))
-      closed (u ∷ ts) all h is many few shut = subst (λ us. BaseAt (suc r) f (ty.Tuple us) (behind h)) (sym is) (gram.tuple_type here one many few shut)
+      closed_reads_tuple : (rest all : List Ty) (h : Front) → all ≡ first ∷ rest → PartsAt r g rest h → length rest ≤ 7 → Sym symbols.ParenClose h → BaseAt (suc r) f (ty.Tuple all) (behind h)
+      closed_reads_tuple [] all h is many few shut = absurd (star_is_no_bracket star (subst (λ k. Sym symbols.ParenClose k) (no_parts many) shut))
+      closed_reads_tuple (u ∷ ts) all h is many few shut = subst (λ us. BaseAt (suc r) f (ty.Tuple us) (behind h)) (sym is) (gram.tuple_type here one many few shut)
 
   single_reads : (r : ℕ) (f g : Front) (first : Ty) → Sym symbols.ParenOpen f → TypeAt r (behind f) first g
       → Reads (BaseAt (suc r) f) (single_type inner room first g)

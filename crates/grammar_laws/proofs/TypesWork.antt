@@ -17,7 +17,7 @@ use Rattle.plan_grammar.specs.Types.{more, type_or_fault, is_list_word, after_li
 use Rattle.grammar_laws.specs.Agenda.{GrammarItem, a_type, lists, first_type, behind_first, next_type, behind_next, sym, GrammarStep, enter, hand, type_step, step}
 use Rattle.grammar_laws.proofs.TypesRead.{depth_of_lists}
 use Rattle.grammar_laws.proofs.TypesAre.{left_behind}
-use Rattle.grammar_laws.proofs.Works.{Works, Follows, goes_on, stops, begin, after, given, both, symbol_works, enters}
+use Rattle.grammar_laws.proofs.Works.{Works, Follows, goes_on, stops, begin, after, given_works, both, symbol_works, enters}
 
 depth_of_tuple : (ts : List Ty) → type_depth (ty.Tuple ts) ≡ 1 + largest_by type_depth ts
 depth_of_tuple ts = type_depth_out (ty.Tuple ts) ∙ ap (type_depth_level type_depth) (ty.outs-Tuple ts)
@@ -36,24 +36,24 @@ module _ (start end : ℕ) (base : Ty) (more : List GrammarItem) where
   abbrev Judge : ℕ → List Token → GrammarStep
   Judge n ts = if nat_lt 8 (type_depth base + n) then Err (TooDeep start) else Ok (hand (type_depth base + n) more, record { tokens = ts; end = end })
 
-  ended : (n : ℕ) (ts : List Token) → Follows (Judge n ts) Handed (Ends (n, ts))
+  ended_words_follow : (n : ℕ) (ts : List Token) → Follows (Judge n ts) Handed (Ends (n, ts))
   unfolding judged_type
-  ended n ts = go (nat_lt 8 (type_depth base + n))
+  ended_words_follow n ts = go (nat_lt 8 (type_depth base + n))
     where
-      handed : Works (hand (type_depth base + n) more) (record { tokens = ts; end = end }) Handed (Ok (lists_of n base, record { tokens = ts; end = end }))
-      handed =
+      handed_type_works : Works (hand (type_depth base + n) more) (record { tokens = ts; end = end }) Handed (Ok (lists_of n base, record { tokens = ts; end = end }))
+      handed_type_works =
           subst (λ d. Works (hand d more) (record { tokens = ts; end = end }) Handed (Ok (lists_of n base, record { tokens = ts; end = end }))) (depth_of_lists n base)
-          (given Handed (lists_of n base) (record { tokens = ts; end = end }))
+          (given_works Handed (lists_of n base) (record { tokens = ts; end = end }))
 
       go : (b : Bool)
           → Follows (if b then Err (TooDeep start) else Ok (hand (type_depth base + n) more, record { tokens = ts; end = end })) Handed
           ((if b then Err (TooDeep start) else Ok (lists_of n base)) >>= left_behind (record { tokens = ts; end = end }))
       go true = stops (TooDeep start) Handed
-      go false = goes_on handed
+      go false = goes_on handed_type_works
 
   words_work : (ts : List Token) (n : ℕ) → Works (lists start (type_depth base + n) ∷ more) (record { tokens = ts; end = end }) Handed (Ends (after_lists n ts))
   unfolding step is_key next_kind behind
-  words_work [] n = begin (lists start (type_depth base + n)) more (record { tokens = []; end = end }) Handed _ (ended n [])
+  words_work [] n = begin (lists start (type_depth base + n)) more (record { tokens = []; end = end }) Handed _ (ended_words_follow n [])
   words_work (t ∷ ts) n = begin (lists start (type_depth base + n)) more (record { tokens = t ∷ ts; end = end }) Handed _ (go (words_work ts (n + 1)) (is_list_word t))
     where
       go : Works (lists start (type_depth base + (n + 1)) ∷ more) (record { tokens = ts; end = end }) Handed (Ends (after_lists (n + 1) ts)) → (b : Bool)
@@ -62,7 +62,7 @@ module _ (start end : ℕ) (base : Ty) (more : List GrammarItem) where
       go w true =
           goes_on (subst (λ d. Works (lists start d ∷ more) (record { tokens = ts; end = end }) Handed (Ends (after_lists (n + 1) ts)))
           (let e : type_depth base + (n + 1) ≡ type_depth base + n + 1 = omega arith in e) w)
-      go w false = ended n (t ∷ ts)
+      go w false = ended_words_follow n (t ∷ ts)
 
 module _ (room : ℕ) (inner : Reader Ty)
     (inside : (r : ℕ) → room ≡ suc r → (more : List GrammarItem) (f : Front) → Works (a_type r ∷ more) f (λ t. hand (type_depth t) more) (inner f)) where
@@ -72,7 +72,7 @@ module _ (room : ℕ) (inner : Reader Ty)
   unfolding more step
   parts_work r e start rest zero done f =
       let next : List Ty → List GrammarItem = λ ts. sym symbols.ParenClose ∷ lists start (1 + largest_by type_depth ts) ∷ rest in
-      begin (behind_next r start 0 (largest_by type_depth done)) rest f next _ (both (is_symbol symbols.Star f) _ _ next _ _ (stops _ next) (goes_on (given next done f)))
+      begin (behind_next r start 0 (largest_by type_depth done)) rest f next _ (both (is_symbol symbols.Star f) _ _ next _ _ (stops _ next) (goes_on (given_works next done f)))
   parts_work r e start rest (suc left) done f =
       let next : List Ty → List GrammarItem = λ ts. sym symbols.ParenClose ∷ lists start (1 + largest_by type_depth ts) ∷ rest in
       begin (behind_next r start (suc left) (largest_by type_depth done)) rest f next _ (both (is_symbol symbols.Star f) _ _ next _ _
@@ -81,7 +81,7 @@ module _ (room : ℕ) (inner : Reader Ty)
       (inside r e (next_type r start left (largest_by type_depth done) ∷ rest) (behind f))
       (λ t g. subst (λ d. Works (behind_next r start left d ∷ rest) g next (more inner begins_type symbols.Star limits.Parts wanted.AType left (done ++ t ∷ []) g))
       (deepest_last done t) (parts_work r e start rest left (done ++ t ∷ []) g))))
-      (goes_on (given next done f)))
+      (goes_on (given_works next done f)))
 
   abbrev Based : ℕ → List GrammarItem → Ty → List GrammarItem
   Based start more t = lists start (type_depth t) ∷ more
@@ -95,7 +95,7 @@ module _ (room : ℕ) (inner : Reader Ty)
       (subst (λ d. Works (behind_next r start 7 d ∷ rest) f (λ ts. sym symbols.ParenClose ∷ lists start (1 + largest_by type_depth ts) ∷ rest)
       (more inner begins_type symbols.Star limits.Parts wanted.AType 7 (first ∷ []) f)) (alone (type_depth first)) (parts_work r e start rest 7 (first ∷ []) f))
       (λ ts g. symbol_works symbols.ParenClose (lists start (1 + largest_by type_depth ts) ∷ rest) g (Based start rest) _
-      (subst (λ d. Works (lists start d ∷ rest) (behind g) (Based start rest) (Ok (ty.Tuple ts, behind g))) (depth_of_tuple ts) (given (Based start rest) (ty.Tuple ts) (behind g))))
+      (subst (λ d. Works (lists start d ∷ rest) (behind g) (Based start rest) (Ok (ty.Tuple ts, behind g))) (depth_of_tuple ts) (given_works (Based start rest) (ty.Tuple ts) (behind g))))
     where
       alone : (d : ℕ) → max 0 d ≡ d
       alone d = omega arith
@@ -103,7 +103,7 @@ module _ (room : ℕ) (inner : Reader Ty)
   single_works : (start : ℕ) (rest : List GrammarItem) (first : Ty) (f : Front)
       → Works (sym symbols.ParenClose ∷ lists start (type_depth first) ∷ rest) f (Based start rest) (single_type inner room first f)
   unfolding single_type
-  single_works start rest first f = symbol_works symbols.ParenClose (lists start (type_depth first) ∷ rest) f (Based start rest) _ (given (Based start rest) first (behind f))
+  single_works start rest first f = symbol_works symbols.ParenClose (lists start (type_depth first) ∷ rest) f (Based start rest) _ (given_works (Based start rest) first (behind f))
 
   behind_first_works : (r : ℕ) → room ≡ suc r → (start : ℕ) (rest : List GrammarItem) (first : Ty) (f : Front)
       → Works (behind_first r start (type_depth first) ∷ rest) f (Based start rest) (if is_symbol symbols.Star f then tuple_type inner room first f else single_type inner room first f)
@@ -121,7 +121,7 @@ module _ (room : ℕ) (inner : Reader Ty)
       (inside r e (first_type r (place f) ∷ rest) (behind f)) (λ t g. behind_first_works r e (place f) rest t g))
 
   named_works : (rest : List GrammarItem) (f : Front) (o : Option Ty) → Follows (type_step rest f o) (Based (place f) rest) (type_or_fault f o)
-  named_works rest f (Some t) = goes_on (given (Based (place f) rest) t (behind f))
+  named_works rest f (Some t) = goes_on (given_works (Based (place f) rest) t (behind f))
   named_works rest f None = stops _ (Based (place f) rest)
 
   base_works : (rest : List GrammarItem) (f : Front) → Works (a_type room ∷ rest) f (Based (place f) rest) (base_type inner room f)

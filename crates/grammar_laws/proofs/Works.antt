@@ -51,8 +51,8 @@ pub after : {A B : Type 0} (now : List GrammarItem) (f : Front) (mid : A → Lis
 after now f mid next (Ok x) h k more = record { works = through step now f (mid x.0) x.1 next (h x) k.works (more x.0 x.1).works }
 after now f mid next (Err e) h k more = record { works = k.works }
 
-pub given : {A : Type 0} (next : A → List GrammarItem) (x : A) (g : Front) → Works (next x) g next (Ok (x, g))
-given next x g = record { works = λ e. (λ h. h, λ h. h) }
+pub given_works : {A : Type 0} (next : A → List GrammarItem) (x : A) (g : Front) → Works (next x) g next (Ok (x, g))
+given_works next x g = record { works = λ e. (λ h. h, λ h. h) }
 
 pub either_works : {A : Type 0} (now : List GrammarItem) (f : Front) (next : A → List GrammarItem) (b : Bool) (won lost : Result (A × Front) ParseFault)
     → (b ≡ true → Works now f next won) → (b ≡ false → Works now f next lost) → Works now f next (if b then won else lost)

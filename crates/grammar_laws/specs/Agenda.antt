@@ -95,8 +95,8 @@ pub data GrammarItem : Type 0 where
 abbrev pub StepOf : Type 0 → Type 0
 StepOf I = Result (List I × Front) ParseFault
 
-abbrev pub expected : {I : Type 0} → Wanted → Front → StepOf I
-expected what f = Err (Expected what (place f))
+abbrev pub expected_fault : {I : Type 0} → Wanted → Front → StepOf I
+expected_fault what f = Err (Expected what (place f))
 
 abbrev pub GrammarStep : Type 0
 GrammarStep = StepOf GrammarItem
@@ -146,16 +146,16 @@ key_step r more f keys.OnRemote = Ok (open_bracket r on_remote ∷ more, behind 
 key_step r more f keys.OnNeighbor = Ok (open_bracket r on_neighbor ∷ more, behind f)
 key_step r more f keys.True = Ok (more, behind f)
 key_step r more f keys.False = Ok (more, behind f)
-key_step r more f _ = expected wanted.AnExpr f
+key_step r more f _ = expected_fault wanted.AnExpr f
 
 abbrev pub symbol_step : ℕ → List GrammarItem → Front → Symbol → GrammarStep
 symbol_step r more f symbols.ParenOpen = enter r f (λ q. behind_paren q ∷ more) (behind f)
 symbol_step r more f symbols.BracketOpen = enter r f (λ q. behind_bracket q ∷ more) (behind f)
 symbol_step r more f symbols.Bar = Ok (a_name ∷ sym symbols.Bar ∷ open_bracket r a_call ∷ more, behind f)
-symbol_step r more f _ = expected wanted.AnExpr f
+symbol_step r more f _ = expected_fault wanted.AnExpr f
 
 abbrev pub operand_step : ℕ → List GrammarItem → Front → Option TokenKind → GrammarStep
-operand_step r more f None = expected wanted.AnExpr f
+operand_step r more f None = expected_fault wanted.AnExpr f
 operand_step r more f (Some (kinds.Word _)) = Ok (maybe_call r ∷ more, behind f)
 operand_step r more f (Some (kinds.Key k)) = key_step r more f k
 operand_step r more f (Some (kinds.Symbol s)) = symbol_step r more f s
@@ -165,15 +165,15 @@ operand_step r more f (Some _) = Ok (more, behind f)
 -- a name, or a type that one token is
 abbrev pub name_step : List GrammarItem → Front → Option TokenKind → GrammarStep
 name_step more f (Some (kinds.Word _)) = Ok (more, behind f)
-name_step more f _ = expected wanted.AName f
+name_step more f _ = expected_fault wanted.AName f
 
 abbrev pub type_step : List GrammarItem → Front → Option Ty → GrammarStep
 type_step more f (Some t) = Ok (lists (place f) (type_depth t) ∷ more, behind f)
-type_step more f None = expected wanted.AType f
+type_step more f None = expected_fault wanted.AType f
 
 -- a right side that begins there opens a construct
 abbrev pub right_side : (Front → Bool) → ℕ → (ℕ → List GrammarItem) → Front → GrammarStep
-right_side begins r items f = if begins f then enter r f items f else expected wanted.AnExpr f
+right_side begins r items f = if begins f then enter r f items f else expected_fault wanted.AnExpr f
 
 -- the depth and the number of the expressions of the body that begins there
 abbrev pub size_of : Result (Node × Front) ParseFault → ℕ × ℕ
@@ -206,8 +206,8 @@ a_param more = a_name ∷ sym symbols.Colon ∷ a_type 159 ∷ more
 
 -- what is read from the first item of the agenda
 unfoldable pub step : GrammarItem → List GrammarItem → Front → GrammarStep
-step (sym w) more f = if is_symbol w f then Ok (more, behind f) else expected (wanted.Symbol w) f
-step (word k) more f = if is_key k f then Ok (more, behind f) else expected (wanted.Key k) f
+step (sym w) more f = if is_symbol w f then Ok (more, behind f) else expected_fault (wanted.Symbol w) f
+step (word k) more f = if is_key k f then Ok (more, behind f) else expected_fault (wanted.Key k) f
 step a_name more f = name_step more f (next_kind f)
 step (a_type r) more f =
     if is_symbol symbols.ParenOpen f then enter r f (λ q. a_type q ∷ first_type q (place f) ∷ more) (behind f) else type_step more f (kind_type (next_kind f))
@@ -238,20 +238,20 @@ step (maybe_listed r) more f = if is_symbol symbols.DoubleColon f then right_sid
 step (operand r) more f = operand_step r more f (next_kind f)
 step (maybe_call r) more f = if is_symbol symbols.ParenOpen f then Ok (open_bracket r a_call ∷ more, f) else Ok (more, f)
 step (open_bracket r form) more f =
-    if is_symbol symbols.ParenOpen f then enter r f (λ q. inside form q more) (behind f) else expected (wanted.Symbol symbols.ParenOpen) f
+    if is_symbol symbols.ParenOpen f then enter r f (λ q. inside form q more) (behind f) else expected_fault (wanted.Symbol symbols.ParenOpen) f
 step (args r) more f =
     if is_symbol symbols.ParenClose f then Ok (more, behind f)
     else if begins_expr f then Ok (whole r ∷ more_items limits.Arguments r 7 ∷ sym symbols.ParenClose ∷ more, f)
-    else expected (wanted.Symbol symbols.ParenClose) f
+    else expected_fault (wanted.Symbol symbols.ParenClose) f
 step (behind_paren r) more f =
     if is_symbol symbols.ParenClose f then Ok (more, behind f)
     else if begins_expr f then Ok (whole r ∷ more_items limits.Parts r 7 ∷ sym symbols.ParenClose ∷ more, f)
-    else expected (wanted.Symbol symbols.ParenClose) f
+    else expected_fault (wanted.Symbol symbols.ParenClose) f
 step (behind_bracket r) more f =
     if is_symbol symbols.BracketClose f then Ok (more, behind f)
     else if is_symbol symbols.Colon f then Ok (a_type r ∷ sym symbols.BracketClose ∷ more, behind f)
     else if begins_expr f then Ok (whole r ∷ more_items limits.Items r 62 ∷ sym symbols.BracketClose ∷ more, f)
-    else expected (wanted.Symbol symbols.BracketClose) f
+    else expected_fault (wanted.Symbol symbols.BracketClose) f
 step (behind_raise r) more f =
     if is_symbol symbols.BracketOpen f then enter r f (λ q. sym symbols.Colon ∷ a_type q ∷ sym symbols.BracketClose ∷ a_name ∷ more) (behind f)
     else Ok (a_name ∷ more, f)
@@ -266,13 +266,13 @@ step (maybe_clause r left) more f = if is_symbol symbols.Bar f then Ok (clauses 
 step types more f =
     if is_symbol symbols.ParenClose f then Ok (more, behind f)
     else if begins_type f then Ok (a_type 159 ∷ more_types 7 ∷ sym symbols.ParenClose ∷ more, f)
-    else expected (wanted.Symbol symbols.ParenClose) f
+    else expected_fault (wanted.Symbol symbols.ParenClose) f
 step (more_types zero) more f = if is_symbol symbols.Comma f then Err (past begins_type limits.Parameters wanted.AType (behind f)) else Ok (more, f)
 step (more_types (suc left)) more f = if is_symbol symbols.Comma f then Ok (a_type 159 ∷ more_types left ∷ more, behind f) else Ok (more, f)
 step params more f =
     if is_symbol symbols.ParenClose f then Ok (more, behind f)
     else if begins_name f then Ok (a_param (more_params 7 ∷ sym symbols.ParenClose ∷ more), f)
-    else expected (wanted.Symbol symbols.ParenClose) f
+    else expected_fault (wanted.Symbol symbols.ParenClose) f
 step (more_params zero) more f = if is_symbol symbols.Comma f then Err (past begins_name limits.Parameters wanted.AName (behind f)) else Ok (more, f)
 step (more_params (suc left)) more f = if is_symbol symbols.Comma f then Ok (a_param (more_params left ∷ more), behind f) else Ok (more, f)
 step (declarations c) more f =
@@ -283,7 +283,7 @@ step (declaration c) more f =
     if is_key keys.Svc f then another c.svcs limits.Services (a_service c more) f
     else if is_key keys.Exception f then another c.exns limits.Exceptions (a_name ∷ declarations (record c { exns = c.exns + 1 }) ∷ more) f
     else if is_key keys.Fun f then another c.funs limits.Functions (a_function (place f) c more) f
-    else expected wanted.ADecl f
+    else expected_fault wanted.ADecl f
 step (body at c) more f = Ok (whole 160 ∷ judgement at f c ∷ more, f)
 step (judgement at start c) more f = judge at (body_size start) c more f
 

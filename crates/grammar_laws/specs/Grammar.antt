@@ -22,7 +22,7 @@ use Rattle.plan_grammar.specs.declared.node.Caught.{Caught}
 use Rattle.plan_grammar.specs.Ahead.{Front, place, behind, next_kind}
 use Rattle.plan_grammar.specs.Begins.{kind_type}
 use Rattle.plan_grammar.specs.Joints.{joint_of}
-use Rattle.plan_grammar.specs.Nodes.{trees, leaf, over_one, over_two, over_three, over_four, over_list, joined_nodes, consed, bracketed, let_of, try_of}
+use Rattle.plan_grammar.specs.Nodes.{trees, leaf, over_one, over_two, over_three, over_four, over_list, joined_nodes, consed_nodes, bracketed_nodes, let_of, try_of}
 use Rattle.plan_grammar.specs.Exprs.{literal}
 
 -- a symbol, a reserved word, a name or a joint stands next
@@ -111,7 +111,7 @@ mutual
   pub data ConsAt : ℕ → Front → Node → Front → Type 0 where
     no_list : {r : ℕ} {f g : Front} {n : Node} → AddAt r f n g → ConsAt r f n g
     before_list : {r : ℕ} {f g h : Front} {a b : Node}
-        → AddAt (suc r) f a g → Sym symbols.DoubleColon g → ConsAt r (behind g) b h → ConsAt (suc r) f (consed a b) h
+        → AddAt (suc r) f a g → Sym symbols.DoubleColon g → ConsAt r (behind g) b h → ConsAt (suc r) f (consed_nodes a b) h
 
   -- add := mul { (+ - ^) mul }
   pub data AddAt : ℕ → Front → Node → Front → Type 0 where
@@ -151,7 +151,7 @@ mutual
         → AtomAt (suc r) f (leaf (x.Nil (Some t)) (place f)) (behind g)
     items : {r : ℕ} {f g : Front} {ns : List Node}
         → Sym symbols.BracketOpen f → SomeAt r (behind f) ns g → length ns ≤ 63 → Sym symbols.BracketClose g
-        → AtomAt (suc r) f (bracketed ns (leaf (x.Nil None) (place g))) (behind g)
+        → AtomAt (suc r) f (bracketed_nodes ns (leaf (x.Nil None) (place g))) (behind g)
     -- | NAME | ( args )
     chunk : {r : ℕ} {f g : Front} {name : Name} {ns : List Node}
         → Sym symbols.Bar f → Called name (behind f) → Sym symbols.Bar (behind2 f) → ArgsAt r (behind3 f) ns g

@@ -11,7 +11,7 @@ use Rattle.network_plan.specs.declared.event.WorldEvent.TheVariants.{Tick}
 use Rattle.world_model.specs.declared.lines.Wired.{Wired}
 use Rattle.world_model.specs.World.{WorldState}
 use Rattle.wire_numbers.specs.Numbers.{lowest, highest}
-use Rattle.grow_run.specs.Grow.{event_of, drawn, next_event}
+use Rattle.grow_run.specs.Grow.{event_of, drawn_choice, next_event}
 use Rattle.grow_run.specs.declared.choice.Choice.{Choice}
 use Rattle.grow_run.specs.declared.choice.Choice.TheVariants.{Deliver, Lose}
 use Rattle.grow_run.specs.Draws.{draw, choose_tick, choose_inject, choose_send, choose_by, choose}
@@ -42,7 +42,7 @@ choice_is lowest highest g choice after is = subst (λ (p : Choice × Lcg). choi
 pub drawn_is : (ping : Host → Host → Chunk) (g after : Lcg) (w : WorldState) (wire : List Wired) (low high : Option ℕ) (choice : Choice) (e : WorldEvent) → low ≡ lowest wire → high ≡ highest wire → wire ≡ w.wire
     → (choice, after) ≡ choose low high g → e ≡ event_of ping choice → (e, after) ≡ drawn_event ping g w
 drawn_is ping g after w wire low high choice e l h same c is =
-    let own : (choice, after) ≡ drawn g w = c ∙ (λ i. choose ((l ∙ ap lowest same) i) ((h ∙ ap highest same) i) g) in
+    let own : (choice, after) ≡ drawn_choice g w = c ∙ (λ i. choose ((l ∙ ap lowest same) i) ((h ∙ ap highest same) i) g) in
     ap (λ x. (x, after)) is ∙ ap (λ (p : Choice × Lcg). (event_of ping p.0, p.1)) own
 
 module _ (ping : Host → Host → Chunk) (g : Lcg) (w : WorldState) (made : ℕ) (same : made ≡ w.made) where

@@ -16,7 +16,7 @@ use Rattle.network_laws.proofs.Handings.{opening_leaves}
 use Rattle.network_laws.proofs.Opening.{opening_version, opening_sound}
 use Rattle.run_ledger.specs.Stands.{Stands}
 use Rattle.run_ledger.proofs.Runs.{world_after-push, history_of-push, event_fits_ledger}
-use Rattle.grow_run.specs.Grow.{ring, next_event, grown, Grow}
+use Rattle.grow_run.specs.Grow.{ring, next_event, grown_events, Grow}
 use Rattle.grow_run.specs.Summaries.{HasRoom, summary_of, grown_text, GrowText}
 use Rattle.grow_run.proofs.RingRules.{ring_keeps}
 use Rattle.grow_run.proofs.Summing.{room_less, room_first}
@@ -34,7 +34,7 @@ start = opening ring
 -- some of n events were made, and the growth stands for what came of them
 pub record Grows {S : Type 0} (stands : S → ServiceState) (ping : Host → Host → Chunk) (n : ℕ) (first : Lcg) (made : ℕ) (g : Growth S) : Type 0 where
   pub events : List WorldEvent
-  pub all : events ++ grown ping (n - made) g.words (world_after events (opening ring)) ≡ grown ping n first (opening ring)
+  pub all : events ++ grown_events ping (n - made) g.words (world_after events (opening ring)) ≡ grown_events ping n first (opening ring)
   pub many : length events ≡ made
   pub fits : EventsFit One events
   pub world : WorldStands stands g.world (world_after events (opening ring))
@@ -43,13 +43,13 @@ pub record Grows {S : Type 0} (stands : S → ServiceState) (ping : Host → Hos
   pub summary : g.summary ≡ summary_of (history_of events (opening ring))
   pub room : HasRoom ((50000 - made) * 2 ^ 64) g.summary
 
-one_more : (ping : Host → Host → Chunk) (m : ℕ) (g after : Lcg) (w : WorldState) (e : WorldEvent) → (e, after) ≡ next_event ping g w → e ∷ grown ping m after (happens w e).world ≡ grown ping (suc m) g w
-unfolding grown
-one_more ping m g after w e is = ap (λ (p : WorldEvent × Lcg). p.0 ∷ grown ping m p.1 (happens w p.0).world) is
+one_more : (ping : Host → Host → Chunk) (m : ℕ) (g after : Lcg) (w : WorldState) (e : WorldEvent) → (e, after) ≡ next_event ping g w → e ∷ grown_events ping m after (happens w e).world ≡ grown_events ping (suc m) g w
+unfolding grown_events
+one_more ping m g after w e is = ap (λ (p : WorldEvent × Lcg). p.0 ∷ grown_events ping m p.1 (happens w p.0).world) is
 
-none_left : (ping : Host → Host → Chunk) (m : ℕ) (g : Lcg) (w : WorldState) → m ≡ 0 → grown ping m g w ≡ []
-unfolding grown
-none_left ping m g w is = ap (λ k. grown ping k g w) is
+none_left : (ping : Host → Host → Chunk) (m : ℕ) (g : Lcg) (w : WorldState) → m ≡ 0 → grown_events ping m g w ≡ []
+unfolding grown_events
+none_left ping m g w is = ap (λ k. grown_events ping k g w) is
 
 nothing_made : [] ≡ history_of [] start
 unfolding history_of
@@ -63,7 +63,7 @@ module _ {S : Type 0} (stands : S → ServiceState) (ping : Host → Host → Ch
   pub grows_none : (g : Growth S) → g.words ≡ first → WorldStands stands g.world (opening ring) → Stands [] g.ledger → g.summary ≡ summary_of [] → Grows stands ping n first 0 g
   grows_none g words world ledger summary = let all_left : n - 0 ≡ n = omega arith in let back = sym still_start in record {
     events = [];
-    all = ap (λ k. grown ping k g.words (world_after [] start)) all_left ∙ (λ i. grown ping n (words i) (back i));
+    all = ap (λ k. grown_events ping k g.words (world_after [] start)) all_left ∙ (λ i. grown_events ping n (words i) (back i));
     many = refl;
     fits = All-nil (event_fits One);
     world = subst (WorldStands stands g.world) still_start world;
@@ -110,9 +110,9 @@ module _ {S : Type 0} (stands : S → ServiceState) (ping : Host → Host → Ch
       let history = history_of-push grows.events e (opening ring) in
       record {
         events = grows.events ++ e ∷ [];
-        all = ap (λ x. (grows.events ++ e ∷ []) ++ grown ping (n - (made + 1)) new.words x) pushed
-            ∙ append_assoc grows.events (e ∷ []) (grown ping (n - (made + 1)) new.words (happens w e).world)
-            ∙ ap (λ x. grows.events ++ x) (one_more ping (n - (made + 1)) g.words new.words w e (ap (λ x. (e, x)) words ∙ drawn) ∙ ap (λ k. grown ping k g.words w) left)
+        all = ap (λ x. (grows.events ++ e ∷ []) ++ grown_events ping (n - (made + 1)) new.words x) pushed
+            ∙ append_assoc grows.events (e ∷ []) (grown_events ping (n - (made + 1)) new.words (happens w e).world)
+            ∙ ap (λ x. grows.events ++ x) (one_more ping (n - (made + 1)) g.words new.words w e (ap (λ x. (e, x)) words ∙ drawn) ∙ ap (λ k. grown_events ping k g.words w) left)
             ∙ grows.all;
         many = omega (arith, length-append grows.events (e ∷ []), grows.many);
         fits = All-push (event_fits One) grows.events e grows.fits fits;
@@ -123,18 +123,18 @@ module _ {S : Type 0} (stands : S → ServiceState) (ping : Host → Host → Ch
         room = room ((50000 - (made + 1)) * 2 ^ 64) (room_less g.summary ((50000 - made) * 2 ^ 64) ((50000 - (made + 1)) * 2 ^ 64 + 2 ^ 64) (omega (arith, few)) grows.room);
       }
 
-  all_made : (made : ℕ) (g : Growth S) (grows : Grows stands ping n first made g) → n ≤ made → grows.events ≡ grown ping n first (opening ring)
+  all_made : (made : ℕ) (g : Growth S) (grows : Grows stands ping n first made g) → n ≤ made → grows.events ≡ grown_events ping n first (opening ring)
   all_made made g grows done =
       let none : n - made ≡ 0 = omega (arith, done) in
       sym (append-nil grows.events) ∙ ap (λ x. grows.events ++ x) (sym (none_left ping (n - made) g.words (world_after grows.events (opening ring)) none)) ∙ grows.all
 
-  pub grown_ledger : (made : ℕ) (g : Growth S) → Grows stands ping n first made g → n ≤ made → Stands (history_of (grown ping n first (opening ring)) (opening ring)) g.ledger
+  pub grown_ledger : (made : ℕ) (g : Growth S) → Grows stands ping n first made g → n ≤ made → Stands (history_of (grown_events ping n first (opening ring)) (opening ring)) g.ledger
   grown_ledger made g grows done = subst (λ es. Stands (history_of es (opening ring)) g.ledger) (all_made made g grows done) grows.ledger
 
-  pub grown_fit : (made : ℕ) (g : Growth S) → Grows stands ping n first made g → n ≤ made → EventsFit One (grown ping n first (opening ring))
+  pub grown_fit : (made : ℕ) (g : Growth S) → Grows stands ping n first made g → n ≤ made → EventsFit One (grown_events ping n first (opening ring))
   grown_fit made g grows done = subst (EventsFit One) (all_made made g grows done) grows.fits
 
-  pub grown_summary : (made : ℕ) (g : Growth S) → Grows stands ping n first made g → n ≤ made → g.summary ≡ summary_of (history_of (grown ping n first (opening ring)) (opening ring))
+  pub grown_summary : (made : ℕ) (g : Growth S) → Grows stands ping n first made g → n ≤ made → g.summary ≡ summary_of (history_of (grown_events ping n first (opening ring)) (opening ring))
   grown_summary made g grows done = grows.summary ∙ ap (λ es. summary_of (history_of es (opening ring))) (all_made made g grows done)
 
 -- what is written of a network whose pings have the program that was read

@@ -11,7 +11,7 @@ use Rattle.bound_ledger.specs.Rows.{FamilyRow, OneEach, counts_of}
 use Rattle.world_model.specs.declared.lines.Line.{Line}
 use Rattle.world_model.specs.declared.lines.Entry.{Entry}
 use Rattle.world_model.specs.World.{WorldState, entry_at}
-use Rattle.world_model.specs.Counts.{Balanced, granted, hops, evals, left, live, tally}
+use Rattle.world_model.specs.Counts.{Balanced, granted_sum, hops, evals, left_sum, live, tally}
 use Rattle.world_model.specs.Texts.{families}
 use Rattle.network_laws.proofs.CountLaws.{tally-nil, tally-cons, tally-append}
 use Rattle.run_ledger.specs.Stands.{Stands}
@@ -120,11 +120,11 @@ sums_are_counts h w rows d s law =
     let all = standing_rows h rows d s in
     let lives : (f : Family) → (counts f).live ≡ live f w = λ f. omega (arith, (s.counts f).live, (law f).law) in
     λ i. record {
-      granted = (ap (sum_by (λ e. e.1.granted)) all ∙ by_sum (λ r. r.granted) counts (λ f. granted f h) (λ f. (s.counts f).granted) fs) i;
+      granted = (ap (sum_by (λ e. e.1.granted)) all ∙ by_sum (λ r. r.granted) counts (λ f. granted_sum f h) (λ f. (s.counts f).granted) fs) i;
       hops = (ap (sum_by (λ e. e.1.hops)) all ∙ by_sum (λ r. r.hops) counts (λ f. hops f h) (λ f. (s.counts f).hops) fs) i;
       evals = (ap (sum_by (λ e. e.1.evals)) all ∙ by_sum (λ r. r.evals) counts (λ f. evals f h) (λ f. (s.counts f).evals) fs) i;
       live = (ap (sum_by (λ e. e.1.live)) all ∙ by_sum (λ r. r.live) counts (λ f. live f w) lives fs) i;
-      left = (ap (sum_by (λ e. e.1.left)) all ∙ by_sum (λ r. r.left) counts (λ f. left f h) (λ f. (s.counts f).left) fs) i;
+      left = (ap (sum_by (λ e. e.1.left)) all ∙ by_sum (λ r. r.left) counts (λ f. left_sum f h) (λ f. (s.counts f).left) fs) i;
     }
 
 -- so a summary is that of the history

@@ -8,7 +8,7 @@ use Rattle.grow_run.specs.declared.choice.Choice.{Choice}
 use Rattle.grow_run.specs.declared.choice.Choice.TheVariants.{Send}
 use Rattle.world_model.specs.World.{WorldState, history_of, opening}
 use Rattle.world_model.specs.declared.lines.Entry.{Entry}
-use Rattle.grow_run.specs.Grow.{event_of, drawn, ring, grown}
+use Rattle.grow_run.specs.Grow.{event_of, drawn_choice, ring, grown_events}
 
 -- a device is at most 8
 abbrev pub choice_fits : Choice → Type 0
@@ -17,8 +17,8 @@ choice_fits _ = Unit {0}
 
 -- the event that is drawn for a network, and the generator after it
 abbrev pub drawn_event : (Host → Host → Chunk) → Lcg → WorldState → WorldEvent × Lcg
-drawn_event ping g w = (event_of ping (drawn g w).0, (drawn g w).1)
+drawn_event ping g w = (event_of ping (drawn_choice g w).0, (drawn_choice g w).1)
 
 -- the history of the ring after so many events that a generator draws
 abbrev pub grown_history : (Host → Host → Chunk) → ℕ → Lcg → List Entry
-grown_history ping n words = history_of (grown ping n words (opening ring)) (opening ring)
+grown_history ping n words = history_of (grown_events ping n words (opening ring)) (opening ring)

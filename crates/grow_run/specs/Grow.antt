@@ -41,18 +41,18 @@ event_of ping (choice.Lose n) = event.Lose n
 event_of ping (choice.Tick h) = event.Tick h
 
 -- what is drawn for the next event of a network
-abbrev pub drawn : Lcg → WorldState → Choice × Lcg
-drawn g w = choose (lowest w.wire) (highest w.wire) g
+abbrev pub drawn_choice : Lcg → WorldState → Choice × Lcg
+drawn_choice g w = choose (lowest w.wire) (highest w.wire) g
 
 -- the next event, and the generator after it: first each host ticks once, in order, with nothing drawn
 abbrev pub next_event : (Host → Host → Chunk) → Lcg → WorldState → WorldEvent × Lcg
-next_event ping g w = if nat_lt w.made 8 then (event.Tick (host_of (w.made + 1)), g) else (event_of ping (drawn g w).0, (drawn g w).1)
+next_event ping g w = if nat_lt w.made 8 then (event.Tick (host_of (w.made + 1)), g) else (event_of ping (drawn_choice g w).0, (drawn_choice g w).1)
 
 -- the next n events of a network
-unfoldable pub grown : (Host → Host → Chunk) → ℕ → Lcg → WorldState → List WorldEvent
-grown ping zero g w = []
-grown ping (suc n) g w = (next_event ping g w).0 ∷ grown ping n (next_event ping g w).1 (happens w (next_event ping g w).0).world
+unfoldable pub grown_events : (Host → Host → Chunk) → ℕ → Lcg → WorldState → List WorldEvent
+grown_events ping zero g w = []
+grown_events ping (suc n) g w = (next_event ping g w).0 ∷ grown_events ping n (next_event ping g w).1 (happens w (next_event ping g w).0).world
 
 -- the n events that a seed gives
 abbrev pub Grow : (Host → Host → Chunk) → ℕ → ℕ → List WorldEvent
-Grow ping seed n = grown ping n (seeded_generator seed) (opening ring)
+Grow ping seed n = grown_events ping n (seeded_generator seed) (opening ring)

@@ -76,11 +76,11 @@ row_sums rows = record {
 -- the sums of the counts of all families of a history, and of what they have in a network
 unfoldable pub all_sums : List Entry → WorldState → Sums
 all_sums h w = record {
-  granted = sum_by (λ f. count.granted f h) (families h);
+  granted = sum_by (λ f. count.granted_sum f h) (families h);
   hops = sum_by (λ f. count.hops f h) (families h);
   evals = sum_by (λ f. count.evals f h) (families h);
   live = sum_by (λ f. count.live f w) (families h);
-  left = sum_by (λ f. count.left f h) (families h);
+  left = sum_by (λ f. count.left_sum f h) (families h);
 }
 
 -- ---- texts

@@ -67,7 +67,7 @@ pub fn next_event<S: Services>(
         → IfOk result (λ e. (e, words.new) ≡ grow.next_event (spec.ping code.now) words.old w) }
     ensures fits { IfOk result (event_fits One) }
 {
-    let made = world.made();
+    let made = world.event_count();
     if made < HOSTS {
         return Ok(WorldEvent::Tick(Host(made + 1)));
     }

@@ -51,7 +51,7 @@ impl<S: Services + Drop> Growth<S> {
             world,
             words: begin(seed),
             ledger,
-            summary: Summary::begun(),
+            summary: Summary::before_events(),
         })
     }
 }
@@ -93,7 +93,7 @@ impl<S: Services> Growth<S> {
         ensures summary { OnOk result (self.new.summary
             ≡ summary_of (grown_history (spec.ping code.now) events self.old.words)) }
         ensures fits { OnOk result (EventsFit One
-            (grow.grown (spec.ping code.now) events self.old.words (opening grow.ring))) }
+            (grow.grown_events (spec.ping code.now) events self.old.words (opening grow.ring))) }
     {
         for _made in 0..events {
             let event = next_event(alloc, code, &self.world, &mut self.words)?;

@@ -41,7 +41,7 @@ fn drops(line: &Line) -> u128
     }
 }
 
-fn lost(line: &Line) -> u128
+fn losses(line: &Line) -> u128
     ensures lost { result ≡ spec.line_lost line.now }
     ensures few { result ≤ 1 }
 {
@@ -53,7 +53,7 @@ fn lost(line: &Line) -> u128
 
 impl Summary {
     /// The counts before the first event.
-    pub fn begun() -> Summary
+    pub fn before_events() -> Summary
         ensures { result ≡ spec.summary_of [] }
     {
         Summary {
@@ -74,7 +74,7 @@ impl Summary {
             lines: self.lines + 1,
             visits: self.visits + visits(line),
             drops: self.drops + drops(line),
-            lost: self.lost + lost(line),
+            lost: self.lost + losses(line),
         }
     }
 

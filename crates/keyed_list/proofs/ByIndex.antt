@@ -5,7 +5,7 @@ use Rattle.std.proofs.lemmas.List.{length-map, get_or-map, get_or_default}
 use Rattle.std.specs.Prelude.{slice_index}
 use Rattle.std.specs.List.{insert, remove}
 use Rattle.item_keys.specs.Keys.{Key, first_of_key, put, without, IsUnique}
-use Rattle.keyed_list.specs.Index.{no_key, key_at, ranked_at, IsIndex, IsSpot, Splits, moved}
+use Rattle.keyed_list.specs.Index.{no_key, key_at, ranked_at, IsIndex, IsSpot, Splits, place_moved_up}
 use Rattle.keyed_list.proofs.Lists.{found_at, found_nowhere, put_at, put_end, without_at, without_none, unique_put, unique_without}
 use Rattle.keyed_list.proofs.Indexes.{splits_absent, index_more, index_less}
 
@@ -80,7 +80,7 @@ module _ {R : Type 0} (key : R → Key) where
   pub unique_removed : (xs : List R) (order : List ℕ) (j : ℕ) → IsUnique key xs → IsIndex (map key xs) order → j < length order → IsUnique key (remove xs (slice_index order j))
   unique_removed xs order j u ix h = subst (λ ys. IsUnique key ys) (without_found (ranked_at (map key xs) order j) xs order j u ix h refl) (unique_without key (ranked_at (map key xs) order j) xs u)
 
-  pub index_removed : (xs : List R) (order : List ℕ) (j : ℕ) → IsIndex (map key xs) order → j < length order → IsIndex (map key (remove xs (slice_index order j))) (map (moved (slice_index order j)) (remove order j))
+  pub index_removed : (xs : List R) (order : List ℕ) (j : ℕ) → IsIndex (map key xs) order → j < length order → IsIndex (map key (remove xs (slice_index order j))) (map (place_moved_up (slice_index order j)) (remove order j))
   index_removed xs order j ix h = rw (keys_remove xs (slice_index order j)) (index_less (map key xs) order j ix h)
 
   -- an item's key stands in the index with that item's place
@@ -99,14 +99,14 @@ module _ {R : Type 0} (key : R → Key) where
   place_read order j p h e = e ∙ get_or_default order j p 0 h
 
   module _ (xs new : List R) (order : List ℕ) (j p : ℕ) (r : R) (kept : IsUnique key xs × IsIndex (map key xs) order) (spot : (j < length order) × (◌≡◌ {A = Key} (ranked_at (map key xs) order j) (key r))) (e : p ≡ get_or order j p) (f : new ≡ set xs p r) where
-    swapped : new ≡ set xs (slice_index order j) r
-    swapped = f ∙ ap (λ q. set xs q r) (place_read order j p spot.0 e)
+    swap_is_set : new ≡ set xs (slice_index order j) r
+    swap_is_set = f ∙ ap (λ q. set xs q r) (place_read order j p spot.0 e)
 
     pub swapped_kept : IsUnique key new × IsIndex (map key new) order
-    swapped_kept = rw swapped (put_found_unique xs order j r kept.0 kept.1 spot.0 spot.1, put_found_index xs order j r kept.0 kept.1 spot.0 spot.1)
+    swapped_kept = rw swap_is_set (put_found_unique xs order j r kept.0 kept.1 spot.0 spot.1, put_found_index xs order j r kept.0 kept.1 spot.0 spot.1)
 
     pub swapped_is : new ≡ put key r xs
-    swapped_is = swapped ∙ sym (put_found xs order j r kept.0 kept.1 spot.0 spot.1)
+    swapped_is = swap_is_set ∙ sym (put_found xs order j r kept.0 kept.1 spot.0 spot.1)
 
   module _ (xs new : List R) (order later : List ℕ) (i n : ℕ) (r : R) (kept : IsUnique key xs × IsIndex (map key xs) order) (s : Splits (map key xs) order (key r) i i) (e : n ≡ length xs) (f : new ≡ xs ++ r ∷ []) (g : later ≡ insert order i n) where
     pub added_kept : IsUnique key new × IsIndex (map key new) later
@@ -120,5 +120,5 @@ module _ {R : Type 0} (key : R → Key) where
     unique_taken u ix h e f = rw (f, e) (unique_removed xs order j u ix h)
 
   module _ (xs new : List R) (order later : List ℕ) (j p : ℕ) where
-    pub index_taken : IsIndex (map key xs) order → j < length order → p ≡ slice_index order j → new ≡ remove xs p → later ≡ map (moved p) (remove order j) → IsIndex (map key new) later
+    pub index_taken : IsIndex (map key xs) order → j < length order → p ≡ slice_index order j → new ≡ remove xs p → later ≡ map (place_moved_up p) (remove order j) → IsIndex (map key new) later
     index_taken ix h e f g = rw (f, g, e) (index_removed xs order j ix h)

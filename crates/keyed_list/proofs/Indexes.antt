@@ -9,7 +9,7 @@ use Rattle.std.specs.List.{insert, remove}
 use Rattle.std.specs.declared.cmp.Ordering.TheVariants.{Less, Equal, Greater}
 use Rattle.item_keys.specs.Keys.{Key}
 use Rattle.keyed_list.specs.Order.{key_cmp}
-use Rattle.keyed_list.specs.Index.{no_key, key_at, ranked_at, IsIndex, Splits, moved}
+use Rattle.keyed_list.specs.Index.{no_key, key_at, ranked_at, IsIndex, Splits, place_moved_up}
 use Rattle.keyed_list.proofs.Orders.{key_cmp_trans, key_cmp_turned, key_cmp_equal, less_differs}
 
 -- ---- the search
@@ -66,8 +66,8 @@ module _ (ks : List Key) (order : List ℕ) (k : Key) (at : ℕ) (ix : IsIndex k
   more : List ℕ
   more = insert order at (length ks)
 
-  grown : List Key
-  grown = ks ++ k ∷ []
+  grown_keys : List Key
+  grown_keys = ks ++ k ∷ []
 
   length_more : length more ≡ length order + 1
   unfolding more
@@ -92,24 +92,24 @@ module _ (ks : List Key) (order : List ℕ) (k : Key) (at : ℕ) (ix : IsIndex k
   ]
 
   -- the key at an old place, and the new key
-  old_key : (p : ℕ) → p < length ks → key_at grown p ≡ key_at ks p
-  unfolding grown
+  old_key : (p : ℕ) → p < length ks → key_at grown_keys p ≡ key_at ks p
+  unfolding grown_keys
   old_key p h = get_or_append_left ks (k ∷ []) no_key p h
 
-  new_key : key_at grown (length ks) ≡ k
-  unfolding grown
+  new_key : key_at grown_keys (length ks) ≡ k
+  unfolding grown_keys
   new_key = let n : length ks ≡ length ks + 0 = omega arith in ap (key_at (ks ++ k ∷ [])) n ∙ get_or-append-add ks (k ∷ []) 0 no_key
 
-  stays : (j m : ℕ) → m < length order → slice_index more j ≡ slice_index order m → ◌≡◌ {A = Key} (ranked_at grown more j) (ranked_at ks order m)
-  stays j m h e = ap (key_at grown) e ∙ old_key (slice_index order m) (ix.within m h)
+  stays : (j m : ℕ) → m < length order → slice_index more j ≡ slice_index order m → ◌≡◌ {A = Key} (ranked_at grown_keys more j) (ranked_at ks order m)
+  stays j m h e = ap (key_at grown_keys) e ∙ old_key (slice_index order m) (ix.within m h)
 
-  comes : (j : ℕ) → slice_index more j ≡ length ks → ◌≡◌ {A = Key} (ranked_at grown more j) k
-  comes j e = ap (key_at grown) e ∙ new_key
+  comes : (j : ℕ) → slice_index more j ≡ length ks → ◌≡◌ {A = Key} (ranked_at grown_keys more j) k
+  comes j e = ap (key_at grown_keys) e ∙ new_key
 
   less_by : (a b c d : Key) → ◌≡◌ {A = Key} a c → ◌≡◌ {A = Key} b d → key_cmp c d ≡ Less → key_cmp a b ≡ Less
   less_by a b c d e f h = rw (e, f) h
 
-  rises : (i j : ℕ) → i < j → Came i → Came j → key_cmp (ranked_at grown more i) (ranked_at grown more j) ≡ Less
+  rises : (i j : ℕ) → i < j → Came i → Came j → key_cmp (ranked_at grown_keys more i) (ranked_at grown_keys more j) ≡ Less
   rises i j h (front a b c) (front d e f) = less_by _ _ _ _ (stays i i b c) (stays j j e f) (ix.sorted i j h e)
   rises i j h (front a b c) (middle d e) = less_by _ _ _ _ (stays i i b c) (comes j e) (s.below i a)
   rises i j h (front a b c) (back m d e f g) = less_by _ _ _ _ (stays i i b c) (stays j m f g) (ix.sorted i m (omega arith) f)
@@ -136,7 +136,7 @@ module _ (ks : List Key) (order : List ℕ) (k : Key) (at : ℕ) (ix : IsIndex k
   ]
 
   pub index_more : IsIndex (ks ++ k ∷ []) (insert order at (length ks))
-  unfolding more grown
+  unfolding more grown_keys
   index_more = let n = length_more in let g = length-append ks (k ∷ []) in record {
     same = let e = ix.same in omega arith;
     within = λ j h. let b = below_grown j (came j h) in omega arith;
@@ -146,14 +146,14 @@ module _ (ks : List Key) (order : List ℕ) (k : Key) (at : ℕ) (ix : IsIndex k
 
 -- ---- a key less
 
-moved_below : (p q : ℕ) → q ≤ p → moved p q ≡ q
+moved_below : (p q : ℕ) → q ≤ p → place_moved_up p q ≡ q
 moved_below p q h = grind (arith, nat_tests)
 
-moved_above : (p q : ℕ) → p < q → moved p q ≡ q - 1
+moved_above : (p q : ℕ) → p < q → place_moved_up p q ≡ q - 1
 moved_above p q h = grind (arith, nat_tests)
 
 -- the key at a place that moves up with those behind it
-key_moved : (ks : List Key) (p q : ℕ) → p < length ks → p ≢ q → ◌≡◌ {A = Key} (key_at (remove ks p) (moved p q)) (key_at ks q)
+key_moved : (ks : List Key) (p q : ℕ) → p < length ks → p ≢ q → ◌≡◌ {A = Key} (key_at (remove ks p) (place_moved_up p q)) (key_at ks q)
 key_moved ks p q h n = elim (cases_lt q p) [
   | inl l ↦ rw (moved_below p q (omega arith)) (get_or-remove_below ks p no_key q l h)
   | inr g ↦ let l : p < q = elim (cases_lt p q) [ inl l ↦ l | inr m ↦ absurd (n (omega arith)) ] in
@@ -204,14 +204,14 @@ removed_at order at j h = elim (cases_lt j at) [
   | inr g ↦ rw (before_above at j g) (get_or-remove_above order at 0 j g h)
 ]
 
-moved_within : (p q n : ℕ) → q < n → p < n → p ≢ q → moved p q + 1 < n
+moved_within : (p q n : ℕ) → q < n → p < n → p ≢ q → place_moved_up p q + 1 < n
 moved_within p q n h k o = elim (cases_lt q p) [
   | inl l ↦ let e = moved_below p q (omega arith) in omega arith
   | inr g ↦ let l : p < q = elim (cases_lt p q) [ inl l ↦ l | inr m ↦ absurd (o (omega arith)) ] in
       let e = moved_above p q l in omega arith
 ]
 
-moved_before : (p q : ℕ) → moved p (before p q) ≡ q
+moved_before : (p q : ℕ) → place_moved_up p (before p q) ≡ q
 moved_before p q = elim (cases_lt q p) [
   | inl l ↦ rw (before_below p q l) (moved_below p q (omega arith))
   | inr g ↦ rw (before_above p q g) (moved_above p (q + 1) (omega arith) ∙ omega arith)
@@ -222,15 +222,15 @@ module _ (ks : List Key) (order : List ℕ) (at : ℕ) (ix : IsIndex ks order) (
   gap = slice_index order at
 
   less : List ℕ
-  less = map (moved gap) (remove order at)
+  less = map (place_moved_up gap) (remove order at)
 
   length_less : length less + 1 ≡ length order
   unfolding less
-  length_less = let e = length-map (remove order at) (moved gap) in let r = length-remove order at h in omega arith
+  length_less = let e = length-map (remove order at) (place_moved_up gap) in let r = length-remove order at h in omega arith
 
-  less_at : (j : ℕ) → j < length less → slice_index less j ≡ moved gap (slice_index order (before at j))
+  less_at : (j : ℕ) → j < length less → slice_index less j ≡ place_moved_up gap (slice_index order (before at j))
   unfolding less
-  less_at j w = get_or-map (moved gap) (remove order at) j 0 0 (let e = length-map (remove order at) (moved gap) in omega arith) ∙ ap (moved gap) (removed_at order at j h)
+  less_at j w = get_or-map (place_moved_up gap) (remove order at) j 0 0 (let e = length-map (remove order at) (place_moved_up gap) in omega arith) ∙ ap (place_moved_up gap) (removed_at order at j h)
 
   at_gap : slice_index order at ≡ gap
   unfolding gap
@@ -262,9 +262,9 @@ module _ (ks : List Key) (order : List ℕ) (at : ℕ) (ix : IsIndex ks order) (
       let n : c.0 ≢ at = λ e. before_other gap p (sym c.2 ∙ ap (slice_index order) e ∙ at_gap) in
       let b = before_all at c.0 n in
       let w : b.0 < length less = (let k = b.2 (length order) h c.1 in let e = length_less in omega arith) in
-      (b.0, w, less_at b.0 w ∙ ap (λ i. moved gap (slice_index order i)) b.1 ∙ ap (moved gap) c.2 ∙ moved_before gap p)
+      (b.0, w, less_at b.0 w ∙ ap (λ i. place_moved_up gap (slice_index order i)) b.1 ∙ ap (place_moved_up gap) c.2 ∙ moved_before gap p)
 
-  pub index_less : IsIndex (remove ks (slice_index order at)) (map (moved (slice_index order at)) (remove order at))
+  pub index_less : IsIndex (remove ks (slice_index order at)) (map (place_moved_up (slice_index order at)) (remove order at))
   unfolding less gap
   index_less = let n = length_less in let r = length-remove ks gap gap_within in record {
     same = let e = ix.same in omega arith;

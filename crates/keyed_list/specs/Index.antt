@@ -36,5 +36,5 @@ IsSpot ks order k (Ok j) = (j < length order) × (ranked_at ks order j ≡ k)
 IsSpot ks order k (Err i) = Splits ks order k i i
 
 -- a place behind the one taken away moves up
-abbrev pub moved : ℕ → ℕ → ℕ
-moved p q = if nat_lt p q then q - 1 else q
+abbrev pub place_moved_up : ℕ → ℕ → ℕ
+place_moved_up p q = if nat_lt p q then q - 1 else q

@@ -2,7 +2,7 @@ ghost use Rattle.std.specs.Prelude.{◌≡◌, ◌+◌, ◌<◌, ◌≤◌, leng
 ghost use Rattle.std.specs.List.{insert, remove};
 ghost use Rattle.std.specs.Vec.{vec_len, vec_capacity};
 ghost use Rattle.item_keys.specs.Keys.{IsUnique};
-ghost use Rattle.keyed_list.specs.Index.{IsIndex, moved};
+ghost use Rattle.keyed_list.specs.Index.{IsIndex, place_moved_up};
 
 use item_keys::HasKey;
 
@@ -39,14 +39,14 @@ pub fn put_place(order: &mut Vec<usize>, i: usize, place: usize)
 
 /// The place of an item once the one at `gap` is gone.
 fn place_after(gap: usize, place: usize) -> usize
-    ensures { result ≡ moved gap place }
+    ensures { result ≡ place_moved_up gap place }
 {
     if gap < place { place - 1 } else { place }
 }
 
 /// Moves each place behind `gap` up by one.
 fn close_gap(order: &mut [usize], gap: usize)
-    ensures { order.new ≡ map (moved gap) order.old }
+    ensures { order.new ≡ map (place_moved_up gap) order.old }
 {
     for place in order {
         *place = place_after(gap, *place);
@@ -57,7 +57,7 @@ fn close_gap(order: &mut [usize], gap: usize)
 pub fn drop_place(order: &mut Vec<usize>, j: usize) -> usize
     requires { j < vec_len order.old }
     ensures place { result ≡ slice_index order.old.items j }
-    ensures items { order.new.items ≡ map (moved result) (remove order.old.items j) }
+    ensures items { order.new.items ≡ map (place_moved_up result) (remove order.old.items j) }
     ensures len { vec_len order.new + 1 ≡ vec_len order.old }
     ensures capacity { vec_capacity order.new ≡ vec_capacity order.old }
 {

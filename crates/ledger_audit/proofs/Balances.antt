@@ -24,7 +24,7 @@ use Rattle.serve_model.specs.Runs.{acts_of, node_by, node_after}
 use Rattle.world_model.specs.World.{Cables}
 use Rattle.ledger_audit.specs.Crossings.{Crossing, Arrival, crossings, AtMost}
 use Rattle.ledger_audit.specs.Runs.{is_accepted, accepts, sends_frame, sends, numbered_arrivals, accepted_in, sent_in, acts_in, crossing_to, crossing_from}
-use Rattle.ledger_audit.specs.Audits.{Logged, all_accepted, all_sent, read_live, crossing_live, granted, hops, evals, left, queued, AddsUp}
+use Rattle.ledger_audit.specs.Audits.{Logged, all_accepted, all_sent, read_live, crossing_live, granted_sum, hops, evals, left_sum, queued_sum, AddsUp}
 use Rattle.ledger_audit.specs.Spelling.{Begins, FrameReads, BytesCome, EntryReads, EntriesRead, ReadsAgain}
 use Rattle.ledger_audit.proofs.Multisets.{parted_sum}
 use Rattle.ledger_audit.proofs.Refusals.{refused_came, IsTaken, accepted_taken, none_event}
@@ -44,14 +44,14 @@ accepts_came f links node event.Tick k = refl
 accepts_came f links node (event.Take d) k = refl
 accepts_came f links node (event.Frame d bytes) k = by (is_accepted (node_step node (event.Frame d bytes)).acts) refl
   where
-    taken : IsTaken node d bytes → crossing_live f (crossing_to links node.here d bytes) ≡ came f node (event.Frame d bytes)
-    taken t =
+    taken_crossing_came : IsTaken node d bytes → crossing_live f (crossing_to links node.here d bytes) ≡ came f node (event.Frame d bytes)
+    taken_crossing_came t =
         let v = version_told node.version bytes t.frame (found_by node.version bytes t.frame k t.read) t.way in
         ap (λ w. read_live f (read_by w bytes)) v ∙ ap (read_live f) t.read
         ∙ sym (ap (bytes_came f node d) t.read ∙ ap (λ s. if_fresh s (frame_live f t.frame.frame)) t.fresh)
 
     by : (t : Bool) → is_accepted (node_step node (event.Frame d bytes)).acts ≡ t → Live f (if t then crossing_to links node.here d bytes ∷ [] else []) ≡ came f node (event.Frame d bytes)
-    by true q = one_live f (crossing_to links node.here d bytes) ∙ taken (accepted_taken node d bytes q)
+    by true q = one_live f (crossing_to links node.here d bytes) ∙ taken_crossing_came (accepted_taken node d bytes q)
     by false q = sym (refused_came f node d bytes q)
 
 taken_live : (f : Family) (h : Host) (d : Dev) (o : Option PlainStamped) → FrameReads o → Live f (sends_frame h d o) ≡ taken_sum (frame_live f) o
@@ -126,7 +126,7 @@ empty_live f node link e = ap (queues_sum (frame_live f)) e
 
 -- all logs
 pub record AllBalance (f : Family) (links : Cables) (k : ℕ) (ls : List Logged) : Type 0 where
-  pub law : granted f ls + Live f (crossings (all_accepted links k ls)) ≡ hops f ls + evals f ls + left f ls + queued f ls + Live f (all_sent ls)
+  pub law : granted_sum f ls + Live f (crossings (all_accepted links k ls)) ≡ hops f ls + evals f ls + left_sum f ls + queued_sum f ls + Live f (all_sent ls)
 
 pub all_balance : (f : Family) (links : Cables) (k : ℕ) (ls : List Logged) → AllByRecursion Begins ls → AllByRecursion ReadsAgain ls → AllBalance f links k ls
 all_balance f links k [] b r = record { law = omega arith }

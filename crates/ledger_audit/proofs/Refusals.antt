@@ -30,7 +30,7 @@ use Rattle.node_model.specs.declared.acts.Lane.{Lane}
 use Rattle.node_model.specs.State.{Queues, NodeState, routing_of, is_host}
 use Rattle.settled_visit.specs.declared.settling.Settled.{Settled}
 use Rattle.node_model.specs.Visits.{visit_at, settled_at}
-use Rattle.node_model.specs.Node.{node_step, arrive_step, arrived, asked_plain, asked, drop_act, lane_room, mark, takes_as, stamped_as, stamped_step, control_step, packet_step, forward_step, forward_by, frame_step, visited, handled_acts, visit_acts, visit_sends, sends_acts, send_act, send_queues, has_room, packet_sending}
+use Rattle.node_model.specs.Node.{node_step, arrive_step, arrived_read, asked_plain, asked_read, drop_act, lane_room, mark, takes_as, stamped_as, stamped_step, control_step, packet_step, forward_step, forward_by, frame_step, visit_step, handled_acts, visit_acts, visit_sends, sends_acts, send_act, send_queues, has_room, packet_sending}
 use Rattle.node_laws.proofs.Staying.{inject_frame, arrive_frame, tick_frame}
 use Rattle.node_model.specs.Counts.{came, frame_live, if_fresh, bytes_came}
 use Rattle.ledger_audit.specs.Runs.{is_refusal, is_accepted}
@@ -105,10 +105,10 @@ clean_forward node d p = by (p.bound == 0)
     by false = clean_by node d p (hop (all_routes (routing_of node)) p.route node.here p.dest)
 
 clean_packet : (node : NodeState) (d : Dev) (p : Packet) → Clean (packet_step node d p).acts
-unfolding packet_step visited
+unfolding packet_step visit_step
 clean_packet node d p = by (is_host p.dest node.here)
   where
-    by : (t : Bool) → Clean (cond t (visited (Arrived d ∷ []) node p) (forward_step node d p)).acts
+    by : (t : Bool) → Clean (cond t (visit_step (Arrived d ∷ []) node p) (forward_step node d p)).acts
     by true = clean_visit (mark node) node.queues p (visit_at node p).left (settled_at node p)
     by false = clean_forward node d p
 
@@ -127,7 +127,7 @@ refused_came f node d bytes e = by (read_by node.version bytes) e
     among x Repeated q = refl
     among x TooOld q = refl
 
-    by : (r : Result PlainStamped FrameFault) → is_accepted (arrived node d r).acts ≡ false → bytes_came f node d r ≡ 0
+    by : (r : Result PlainStamped FrameFault) → is_accepted (arrived_read node d r).acts ≡ false → bytes_came f node d r ≡ 0
     by (Err e) q = refl
     by (Ok x) q = among x (takes_as node.seen d x.stamp) q
 
@@ -152,7 +152,7 @@ accepted_taken node d bytes e = by (read_by node.version bytes) refl e
     among x Repeated r s q = absurd (true≢false (sym q))
     among x TooOld r s q = absurd (true≢false (sym q))
 
-    by : (r : Result PlainStamped FrameFault) → read_by node.version bytes ≡ r → is_accepted (arrived node d r).acts ≡ true → IsTaken node d bytes
+    by : (r : Result PlainStamped FrameFault) → read_by node.version bytes ≡ r → is_accepted (arrived_read node d r).acts ≡ true → IsTaken node d bytes
     by (Err e) r q = absurd (true≢false (sym q))
     by (Ok x) r q = among x (takes_as node.seen d x.stamp) r refl q
 
@@ -163,7 +163,7 @@ none_asked_plain node (PlainFrame.Packet p) = refl
 none_asked_plain node (PlainFrame.Advert a) = refl
 none_asked_plain node (PlainFrame.Ask b c) = inject_frame (Asked ∷ []) node c b None
 
-none_asked : (node : NodeState) (r : Result PlainStamped FrameFault) → (asked node r).frame ≡ None
+none_asked : (node : NodeState) (r : Result PlainStamped FrameFault) → (asked_read node r).frame ≡ None
 none_asked node (Err e) = refl
 none_asked node (Ok x) = none_asked_plain node x.frame
 

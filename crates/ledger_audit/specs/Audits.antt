@@ -51,8 +51,8 @@ abbrev pub crossing_live : Family → Crossing → ℕ
 crossing_live f c = read_live f (read_by (version_in c.bytes) c.bytes)
 
 -- what it was granted, over the acts of all logs
-abbrev pub granted : Family → List Logged → ℕ
-granted f ls = sum_by (λ l. act_sum (act_granted f) (acts_in l.node l.entries)) ls
+abbrev pub granted_sum : Family → List Logged → ℕ
+granted_sum f ls = sum_by (λ l. act_sum (act_granted f) (acts_in l.node l.entries)) ls
 
 -- the hops that it paid
 abbrev pub hops : Family → List Logged → ℕ
@@ -63,12 +63,12 @@ abbrev pub evals : Family → List Logged → ℕ
 evals f ls = sum_by (λ l. act_sum (act_evals f) (acts_in l.node l.entries)) ls
 
 -- what was left of it
-abbrev pub left : Family → List Logged → ℕ
-left f ls = sum_by (λ l. act_sum (act_left f) (acts_in l.node l.entries)) ls
+abbrev pub left_sum : Family → List Logged → ℕ
+left_sum f ls = sum_by (λ l. act_sum (act_left f) (acts_in l.node l.entries)) ls
 
 -- queued at the ends of the logs
-abbrev pub queued : Family → List Logged → ℕ
-queued f ls = sum_by (λ l. node_live f (node_after l.node l.entries)) ls
+abbrev pub queued_sum : Family → List Logged → ℕ
+queued_sum f ls = sum_by (λ l. node_live f (node_after l.node l.entries)) ls
 
 -- sent and not accepted
 abbrev pub on_the_way : Family → Cables → List Logged → ℕ
@@ -77,13 +77,13 @@ on_the_way f links ls = sum_by (crossing_live f) (less_each (crossings (all_acce
 -- all its counts; what is queued and what is on the way is live
 abbrev pub row_of : Family → Cables → List Logged → Row
 row_of f links ls = record {
-  granted = granted f ls;
+  granted = granted_sum f ls;
   hops = hops f ls;
   evals = evals f ls;
-  live = queued f ls + on_the_way f links ls;
-  left = left f ls;
+  live = queued_sum f ls + on_the_way f links ls;
+  left = left_sum f ls;
 }
 
 -- what a family was granted is what it paid, what is live and what was left
 abbrev pub AddsUp : Family → Cables → List Logged → Type 0
-AddsUp f links ls = granted f ls ≡ hops f ls + evals f ls + (queued f ls + on_the_way f links ls) + left f ls
+AddsUp f links ls = granted_sum f ls ≡ hops f ls + evals f ls + (queued_sum f ls + on_the_way f links ls) + left_sum f ls

@@ -7,7 +7,7 @@ use Rattle.std.proofs.lemmas.Bool.Decides.{nat_tests}
 use Rattle.std.proofs.lemmas.Fmt.{decimal_by_steps}
 use Rattle.plan_items.proofs.Bools.{both_true, and_both}
 use Rattle.line_files.specs.Lines.{lines, words}
-use Rattle.line_files.specs.Numbers.{is_digit, digits_from, is_padded, spelled, within, number_in}
+use Rattle.line_files.specs.Numbers.{is_digit, digits_from, is_padded, spelled_number, within, number_in}
 
 -- no byte is this one
 abbrev pub without : ℕ → List ℕ → Bool
@@ -100,7 +100,7 @@ not_padded [] n s = absurd (omega (arith, s.some))
 not_padded (d ∷ []) n s = refl
 not_padded (d ∷ e ∷ ds) n s = ne_eqb d 48 (s.first (omega (arith, s.long (omega arith))))
 
-spelled_is : (n : ℕ) (ds : List ℕ) → Spells n ds → spelled ds ≡ Some n
+spelled_is : (n : ℕ) (ds : List ℕ) → Spells n ds → spelled_number ds ≡ Some n
 spelled_is n ds s = rw (not_padded ds n s, s.digits) (ap Some s.value)
 
 within_is : (low high n : ℕ) → low ≤ n → n ≤ high → within low high (Some n) ≡ Some n

@@ -7,7 +7,7 @@ use Rattle.line_files.specs.Lines.{lines}
 use Rattle.line_files.specs.Reads.{◌>>=◌, and_then}
 use Rattle.line_files.specs.Files.{Format, read_on, file_of}
 use Rattle.line_files.specs.Inside.{after_lines}
-use Rattle.line_files.specs.Counting.{moved, moved_fault, moved_by, CountsOnly}
+use Rattle.line_files.specs.Counting.{moved_line, moved_fault, moved_by, CountsOnly}
 
 -- what is read, changed by a function
 abbrev pub changed_read : {A : Type 0} → (A → A) → Result A LineReason → Result A LineReason
@@ -19,7 +19,7 @@ then_changed f (Ok x) g h k = k x
 then_changed f (Err e) g h k = refl
 
 -- a line behind the first ones has a number one higher
-pub moved_more : (first number : ℕ) → first < number → moved first number ≡ number + 1
+pub moved_more : (first number : ℕ) → first < number → moved_line first number ≡ number + 1
 moved_more first number lt = rw (lt-leb number first lt) refl
 
 -- lines that were read in front of others

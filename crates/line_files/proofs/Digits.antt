@@ -2,7 +2,7 @@
 use Rattle.std.proofs.Common.{◌≡◌, ℕ, ◌+◌, ◌*◌, ◌-◌, ◌^◌, ◌<◌, ◌≤◌, Bool, true, false, cond, List, [], ◌∷◌, length, get_or, drop, leb, ◌&&◌, Option, Some, None, refl, sym, ap, subst, ◌∙◌, arith}
 use Rattle.std.proofs.lemmas.Bool.{le-leb, lt-leb, leb-false}
 use Rattle.std.proofs.lemmas.List.{at_drop_more, at_drop_all}
-use Rattle.line_files.specs.Numbers.{digits_from, spelled, within, number_in}
+use Rattle.line_files.specs.Numbers.{digits_from, spelled_number, within, number_in}
 
 grows : (ds : List ℕ) (n : ℕ) → n ≤ digits_from n ds
 grows [] n = omega arith
@@ -48,7 +48,7 @@ within_all false low high top n h e =
 
 -- a range is not changed by what is over it
 pub within_narrow : (low high : ℕ) (word : List ℕ) → high ≤ 18446744073709551615 → within low high (number_in 0 18446744073709551615 word) ≡ number_in low high word
-within_narrow low high word h = by (spelled word)
+within_narrow low high word h = by (spelled_number word)
   where
     by : (o : Option ℕ) → within low high (within 0 18446744073709551615 o) ≡ within low high o
     by None = refl

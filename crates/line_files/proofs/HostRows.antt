@@ -7,11 +7,11 @@ use Rattle.line_files.specs.declared.fault.LineReason.{LineReason}
 use Rattle.line_files.specs.declared.fault.LineReason.TheVariants.{BadNumber, TooMany, BadArgument}
 use Rattle.line_files.specs.declared.fault.LineStop.{LineStop}
 use Rattle.line_files.specs.declared.fault.LineStop.TheVariants as stops
-use Rattle.line_files.specs.Reads.{◌>>=◌, has_word, allowed, Fails}
+use Rattle.line_files.specs.Reads.{◌>>=◌, has_word, allowed_or_reason, Fails}
 use Rattle.line_files.specs.Numbers.{number_in, number_at}
 use Rattle.line_files.specs.HostLists.{is_above, host_more, hosts_from}
 
-last_step : (t u : Bool) (next : List Host) (ws : List (List ℕ)) (x : List Host × List (List ℕ)) → (allowed t TooMany >>= λ _. allowed u BadArgument >>= λ _. Ok (next, ws)) ≡ Ok x → ws ≡ x.1
+last_step : (t u : Bool) (next : List Host) (ws : List (List ℕ)) (x : List Host × List (List ℕ)) → (allowed_or_reason t TooMany >>= λ _. allowed_or_reason u BadArgument >>= λ _. Ok (next, ws)) ≡ Ok x → ws ≡ x.1
 last_step true true next ws x e = cc
 last_step true false next ws x e = absurd cc
 last_step false u next ws x e = absurd cc
@@ -20,7 +20,7 @@ abbrev with_rest : List (List ℕ) → ℕ → Result (ℕ × List (List ℕ)) L
 with_rest ws n = Ok (n, ws)
 
 number_step : (o : Option ℕ) (t : Bool) (u : ℕ → Bool) (seen : List Host) (ws : List (List ℕ)) (x : List Host × List (List ℕ))
-    → (ok_or o BadNumber >>= with_rest ws >>= λ n. allowed t TooMany >>= λ _. allowed (u n.0) BadArgument >>= λ _. Ok (seen ++ host_of n.0 ∷ [], n.1)) ≡ Ok x → ws ≡ x.1
+    → (ok_or o BadNumber >>= with_rest ws >>= λ n. allowed_or_reason t TooMany >>= λ _. allowed_or_reason (u n.0) BadArgument >>= λ _. Ok (seen ++ host_of n.0 ∷ [], n.1)) ≡ Ok x → ws ≡ x.1
 number_step None t u seen ws x e = absurd cc
 number_step (Some n) t u seen ws x e = last_step t (u n) (seen ++ host_of n ∷ []) ws x e
 

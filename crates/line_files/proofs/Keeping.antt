@@ -21,10 +21,10 @@ use Rattle.line_files.specs.declared.fault.LineReason.{LineReason}
 use Rattle.line_files.specs.declared.fault.LineReason.TheVariants.{BadHeader, BadWord, BadNumber, TwiceNamed, TooMany, BadArgument}
 use Rattle.line_files.specs.declared.fault.LineFault.{LineFault}
 use Rattle.line_files.specs.declared.fault.LineFault.TheVariants as faults
-use Rattle.line_files.specs.Headers.{versioned}
-use Rattle.line_files.specs.Reads.{◌>>=◌, and_then, word_at, allowed}
+use Rattle.line_files.specs.Headers.{next_by_version}
+use Rattle.line_files.specs.Reads.{◌>>=◌, and_then, word_at, allowed_or_reason}
 use Rattle.line_files.specs.Files.{Format, at_line, read_on}
-use Rattle.line_files.specs.Numbers.{spelled, within, number_in, number_at}
+use Rattle.line_files.specs.Numbers.{spelled_number, within, number_in, number_at}
 use Rattle.line_files.specs.HexWords.{hex_of, within_size, hex_at}
 use Rattle.line_files.specs.FileNames.{file_name_at}
 use Rattle.line_files.specs.Packages.{package_of, same_package, package_at, one_package, packages_at}
@@ -35,10 +35,10 @@ use Rattle.line_files.specs.HostLists.{is_above, host_more, hosts_from, hosts_wi
 abbrev pub IfRead : {B : Type 0} → (B → Type 0) → Result B LineReason → Type 0
 IfRead {B} P r = (y : B) → r ≡ Ok y → P y
 
-abbrev done : {B : Type 0} → B → Result B LineReason
-done x = Ok x
+abbrev done_value : {B : Type 0} → B → Result B LineReason
+done_value x = Ok x
 
-pub ok_is : {B : Type 0} (x y : B) → done x ≡ done y → x ≡ y
+pub ok_is : {B : Type 0} (x y : B) → done_value x ≡ done_value y → x ≡ y
 ok_is x y e = cc
 
 pub then_keeps : {A B : Type 0} (P : B → Type 0) (r : Result A LineReason) (f : A → Result B LineReason) → ((x : A) → r ≡ Ok x → IfRead P (f x)) → IfRead P (r >>= f)
@@ -51,16 +51,16 @@ done_keeps P x p y e = subst P (ok_is x y e) p
 pub none_keeps : {B : Type 0} (P : B → Type 0) (r : LineReason) → IfRead {B = B} P (Err r)
 none_keeps P r y e = absurd cc
 
-pub allowed_true : (b : Bool) (r : LineReason) (u : Unit {0}) → allowed b r ≡ Ok u → b ≡ true
+pub allowed_true : (b : Bool) (r : LineReason) (u : Unit {0}) → allowed_or_reason b r ≡ Ok u → b ≡ true
 allowed_true true r u e = refl
 allowed_true false r u e = absurd cc
 
 -- what may not be is not
-pub allowed_not : (b : Bool) (r : LineReason) (u : Unit {0}) → allowed (not b) r ≡ Ok u → b ≡ false
+pub allowed_not : (b : Bool) (r : LineReason) (u : Unit {0}) → allowed_or_reason (not b) r ≡ Ok u → b ≡ false
 allowed_not b r u e = not-true b (allowed_true (not b) r u e)
 
 -- a number that may be below another is
-pub allowed_below : (a b : ℕ) (r : LineReason) (u : Unit {0}) → allowed (ltb a b) r ≡ Ok u → a < b
+pub allowed_below : (a b : ℕ) (r : LineReason) (u : Unit {0}) → allowed_or_reason (ltb a b) r ≡ Ok u → a < b
 allowed_below a b r u e = ltb-true a b (allowed_true (ltb a b) r u e)
 
 pub ok_or_is : {A : Type 0} (o : Option A) (r : LineReason) (x : A) → ok_or o r ≡ Ok x → o ≡ Some x
@@ -88,7 +88,7 @@ unfolding number_at
 number_is low high ws =
     then_keeps (λ x. InRange low high x.0) (word_at ws) _ (λ w hw.
     then_keeps (λ x. InRange low high x.0) (ok_or (number_in low high w.0) BadNumber) _ (λ n hn.
-    done_keeps (λ x. InRange low high x.0) (n, w.1) (within_is low high (spelled w.0) n (ok_or_is (number_in low high w.0) BadNumber n hn))))
+    done_keeps (λ x. InRange low high x.0) (n, w.1) (within_is low high (spelled_number w.0) n (ok_or_is (number_in low high w.0) BadNumber n hn))))
 
 -- ---- bytes in hex
 
@@ -121,7 +121,7 @@ pub file_name_is : (ws : List (List ℕ)) → IfRead (λ x. is_file_name x.0 ≡
 unfolding file_name_at
 file_name_is ws =
     then_keeps (λ x. is_file_name x.0 ≡ true) (word_at ws) _ (λ w hw.
-    then_keeps (λ x. is_file_name x.0 ≡ true) (allowed (is_file_name w.0) BadWord) _ (λ u hu.
+    then_keeps (λ x. is_file_name x.0 ≡ true) (allowed_or_reason (is_file_name w.0) BadWord) _ (λ u hu.
     done_keeps (λ x. is_file_name x.0 ≡ true) w (allowed_true (is_file_name w.0) BadWord u hu)))
 
 -- ---- packages
@@ -151,14 +151,14 @@ unfolding package_at
 package_is seen ws d =
     then_keeps (λ x. PackagesDiffer x.0) (word_at ws) _ (λ p hp.
     then_keeps (λ x. PackagesDiffer x.0) (ok_or (package_of p.0) BadWord) _ (λ k hk.
-    then_keeps (λ x. PackagesDiffer x.0) (allowed (not (list_any (same_package k) seen)) TwiceNamed) _ (λ u hu.
+    then_keeps (λ x. PackagesDiffer x.0) (allowed_or_reason (not (list_any (same_package k) seen)) TwiceNamed) _ (λ u hu.
     done_keeps (λ x. PackagesDiffer x.0) (seen ++ k ∷ [], p.1) (differ_push seen k (allowed_not (list_any (same_package k) seen) TwiceNamed u hu) d))))
 
 one_package_is : (seen : List PackageName) (ws : List (List ℕ)) → PackagesDiffer seen → IfRead (λ x. PackagesDiffer x.0) (one_package seen ws)
 unfolding one_package
 one_package_is seen ws d =
     then_keeps (λ x. PackagesDiffer x.0) (word_at ws) _ (λ w hw.
-    then_keeps (λ x. PackagesDiffer x.0) (allowed _ BadWord) _ (λ u hu.
+    then_keeps (λ x. PackagesDiffer x.0) (allowed_or_reason _ BadWord) _ (λ u hu.
     package_is seen w.1 d))
 
 pub packages_are : (seen : List PackageName) (ws : List (List ℕ)) → PackagesDiffer seen → IfRead PackagesDiffer (packages_at seen ws)
@@ -186,8 +186,8 @@ host_is : (seen : List Host) (ws : List (List ℕ)) → Rises seen → IfRead (�
 unfolding host_more
 host_is seen ws r =
     then_keeps (λ x. Rises x.0) (number_at 0 4294967295 ws) _ (λ n hn.
-    then_keeps (λ x. Rises x.0) (allowed (ltb (length seen) 32) TooMany) _ (λ u hu.
-    then_keeps (λ x. Rises x.0) (allowed (is_above seen n.0) BadArgument) _ (λ v hv.
+    then_keeps (λ x. Rises x.0) (allowed_or_reason (ltb (length seen) 32) TooMany) _ (λ u hu.
+    then_keeps (λ x. Rises x.0) (allowed_or_reason (is_above seen n.0) BadArgument) _ (λ v hv.
     done_keeps (λ x. Rises x.0) (seen ++ host_of n.0 ∷ [], n.1) (record {
       few = omega (arith, length-append seen (host_of n.0 ∷ []), allowed_below (length seen) 32 TooMany u hu);
       ascend = ascend_push seen n.0 (allowed_true (is_above seen n.0) BadArgument v hv) r.ascend;
@@ -208,7 +208,7 @@ pub hosts_with_is : (here : Host) (ws : List (List ℕ)) → IfRead (AreHosts he
 unfolding hosts_with
 hosts_with_is here ws =
     then_keeps (AreHosts here) (hosts_from [] ws) _ (λ hosts hh.
-    then_keeps (AreHosts here) (allowed (is_listed here hosts) BadArgument) _ (λ u hu.
+    then_keeps (AreHosts here) (allowed_or_reason (is_listed here hosts) BadArgument) _ (λ u hu.
     done_keeps (AreHosts here) hosts (record {
       rises = hosts_are [] ws (record { few = omega arith; ascend = tt; numbers = All-nil (λ h. h.0 < 2 ^ 32) }) hosts hh;
       listed = allowed_true (is_listed here hosts) BadArgument u hu;
@@ -219,10 +219,10 @@ hosts_with_is here ws =
 abbrev pub IfStep : {B : Type 0} → (B → Type 0) → Result B LineFault → Type 0
 IfStep {B} P r = (y : B) → r ≡ Ok y → P y
 
-abbrev stepped : {B : Type 0} → B → Result B LineFault
-stepped x = Ok x
+abbrev stepped_value : {B : Type 0} → B → Result B LineFault
+stepped_value x = Ok x
 
-pub step_is : {B : Type 0} (x y : B) → stepped x ≡ stepped y → x ≡ y
+pub step_is : {B : Type 0} (x y : B) → stepped_value x ≡ stepped_value y → x ≡ y
 step_is x y e = cc
 
 pub step_done : {B : Type 0} (P : B → Type 0) (x : B) → P x → IfStep P (Ok x)
@@ -243,7 +243,7 @@ pub either_keeps : {B : Type 0} (P : B → Type 0) (t : Bool) (a b : Result B Li
 either_keeps P true a b h k = h
 either_keeps P false a b h k = k
 
-pub version_keeps : {B : Type 0} (P : B → Type 0) (number : ℕ) (next : Version → B) (v : Option Version) → ((version : Version) → P (next version)) → IfStep P (versioned number next v)
+pub version_keeps : {B : Type 0} (P : B → Type 0) (number : ℕ) (next : Version → B) (v : Option Version) → ((version : Version) → P (next version)) → IfStep P (next_by_version number next v)
 version_keeps P number next (Some version) h = step_done P (next version) (h version)
 version_keeps P number next None h = step_none P (faults.Line number BadHeader)
 

@@ -13,7 +13,7 @@ use Rattle.link_window.specs.declared.window.Version.TheVariants.{One, Two}
 use Rattle.network_plan.specs.Rules.{MayName, KeepsInjection}
 use Rattle.line_files.specs.declared.fault.LineReason.{LineReason}
 use Rattle.line_files.specs.declared.fault.LineReason.TheVariants.{BadArgument}
-use Rattle.line_files.specs.Reads.{word_at, allowed}
+use Rattle.line_files.specs.Reads.{word_at, allowed_or_reason}
 use Rattle.line_files.specs.Numbers.{number_at}
 use Rattle.line_files.specs.Programs.{named_word, entry_at, args_at, chunk_with, typed_chunk}
 use Rattle.line_files.specs.Handlers.{comes, named_handler, handler_at}
@@ -35,7 +35,7 @@ named_is program ws =
     then_keeps (MayNameFor Two program) (word_at ws) _ (λ first hf.
     then_keeps (MayNameFor Two program) (word_at first.1) _ (λ w hw.
     then_keeps (MayNameFor Two program) (named_word w.0 BadArgument) _ (λ name hn.
-    then_keeps (MayNameFor Two program) (allowed (is_handler program name) BadArgument) _ (λ u hu.
+    then_keeps (MayNameFor Two program) (allowed_or_reason (is_handler program name) BadArgument) _ (λ u hu.
     done_keeps (MayNameFor Two program) (Some name, w.1) (λ c e. subst (λ p. is_handler p name ≡ true) (sym e) (allowed_true (is_handler program name) BadArgument u hu))))))
 
 -- so is one that is read
@@ -50,7 +50,7 @@ HasCode program c = c.code ≡ program
 code_is : (c : Chunk) → IfRead (HasCode c.code) (typed_chunk c)
 unfolding typed_chunk
 code_is c =
-    then_keeps (HasCode c.code) (allowed (not (is_some (refusal_of c))) BadArgument) _ (λ u hu.
+    then_keeps (HasCode c.code) (allowed_or_reason (not (is_some (refusal_of c))) BadArgument) _ (λ u hu.
     done_keeps (HasCode c.code) c refl)
 
 abbrev pub KeepsAll : Version → Chunk × ℕ × Option Name → Type 0

@@ -13,12 +13,12 @@ use Rattle.chunk_types.specs.Chunks.{refusal_of, IsCheckedChunk}
 use Rattle.program_text.specs.declared.fault.TextFault.{TextFault}
 use Rattle.program_text.specs.Texts.{program_of, args_of_text}
 use Rattle.line_files.specs.declared.fault.LineReason.TheVariants.{TooMany, BadArgument}
-use Rattle.line_files.specs.Reads.{rest_at, allowed}
-use Rattle.line_files.specs.Programs.{accepted, program_in, entry_at, args_at, chunk_with, typed_chunk, call_at, weighed}
+use Rattle.line_files.specs.Reads.{rest_at, allowed_or_reason}
+use Rattle.line_files.specs.Programs.{accepted_program, program_in, entry_at, args_at, chunk_with, typed_chunk, call_at, weighed_sum}
 use Rattle.line_files.proofs.TextLaws.{AreGood, program_checked, args_good, chunk_checked}
 use Rattle.line_files.proofs.Keeping.{IfRead, ok_is, then_keeps, done_keeps, allowed_true, ok_or_is}
 
-accepted_is : (r : Result Program TextFault) (p : Program) → accepted r ≡ Ok p → r ≡ Ok p
+accepted_is : (r : Result Program TextFault) (p : Program) → accepted_program r ≡ Ok p → r ≡ Ok p
 accepted_is (Ok q) p e = let same = ok_is q p e in ap (λ z. Ok z) same
 accepted_is (Err why) p e = absurd cc
 
@@ -26,20 +26,20 @@ accepted_is (Err why) p e = absurd cc
 pub program_is : (text : List ℕ) → IfRead IsChecked (program_in text)
 unfolding program_in
 program_is text =
-    then_keeps IsChecked (allowed (leb (length text) 65536) TooMany) _ (λ u small p hp.
+    then_keeps IsChecked (allowed_or_reason (leb (length text) 65536) TooMany) _ (λ u small p hp.
     program_checked text p (leb-true (length text) 65536 (allowed_true (leb (length text) 65536) TooMany u small)) (accepted_is (program_of text) p hp))
 
 pub args_are : (ws : List (List ℕ)) → IfRead AreGood (args_at ws)
 unfolding args_at
 args_are ws =
     then_keeps AreGood (rest_at ws) _ (λ text ht.
-    then_keeps AreGood (allowed (leb (length text) 65536) BadArgument) _ (λ u small vs e.
+    then_keeps AreGood (allowed_or_reason (leb (length text) 65536) BadArgument) _ (λ u small vs e.
     args_good text vs (leb-true (length text) 65536 (allowed_true (leb (length text) 65536) BadArgument u small)) (ok_or_is (args_of_text text) BadArgument vs e)))
 
 pub chunk_is : (c : Chunk) → IsChecked c.code → AreGood c.args → IfRead IsCheckedChunk (typed_chunk c)
 unfolding typed_chunk
 chunk_is c code good =
-    then_keeps IsCheckedChunk (allowed (not (is_some (refusal_of c))) BadArgument) _ (λ u hu.
+    then_keeps IsCheckedChunk (allowed_or_reason (not (is_some (refusal_of c))) BadArgument) _ (λ u hu.
     done_keeps IsCheckedChunk c (chunk_checked c code good.0 good.1 (allowed_true (not (is_some (refusal_of c))) BadArgument u hu)))
 
 -- a call is typed
@@ -54,8 +54,8 @@ abbrev pub IsWeighed : ℕ → Chunk → ℕ → Type 0
 IsWeighed sum chunk total = (total ≡ sum + (1 + chunk_weight chunk)) × (total ≤ 16777216)
 
 -- the weight that is counted is within the limit
-pub weighed_is : (sum : ℕ) (chunk : Chunk) → IfRead (IsWeighed sum chunk) (weighed sum chunk)
-unfolding weighed
+pub weighed_is : (sum : ℕ) (chunk : Chunk) → IfRead (IsWeighed sum chunk) (weighed_sum sum chunk)
+unfolding weighed_sum
 weighed_is sum chunk =
-    then_keeps (IsWeighed sum chunk) (allowed (leb (sum + (1 + chunk_weight chunk)) 16777216) TooMany) _ (λ u hu.
+    then_keeps (IsWeighed sum chunk) (allowed_or_reason (leb (sum + (1 + chunk_weight chunk)) 16777216) TooMany) _ (λ u hu.
     done_keeps (IsWeighed sum chunk) (sum + (1 + chunk_weight chunk)) (refl, leb-true (sum + (1 + chunk_weight chunk)) 16777216 (allowed_true (leb (sum + (1 + chunk_weight chunk)) 16777216) TooMany u hu)))

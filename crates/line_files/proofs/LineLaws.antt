@@ -8,10 +8,10 @@ use Rattle.line_files.specs.Reads.{and_then}
 use Rattle.line_files.specs.Files.{Format, read_on, file_of}
 use Rattle.line_files.specs.Inside.{after_lines, AreInside, Placed, OnFault, RefusesRead}
 
-abbrev failed : {B : Type 0} → LineFault → Result B LineFault
-failed e = Err e
+abbrev failed_line : {B : Type 0} → LineFault → Result B LineFault
+failed_line e = Err e
 
-pub err_is : {B : Type 0} (d e : LineFault) → failed {B = B} d ≡ failed e → d ≡ e
+pub err_is : {B : Type 0} (d e : LineFault) → failed_line {B = B} d ≡ failed_line e → d ≡ e
 err_is d e h = cc
 
 placed_to : (high more : ℕ) (e : LineFault) → high ≤ more → Placed high e → Placed more e
@@ -66,7 +66,7 @@ module _ {S T : Type 0} (f : Format S T) (begin : S) (places : RefusesRead f beg
       by : (r : Result S LineFault) → f.step (1 + length ls) line s ≡ r → and_then r (λ t. read_on f (1 + length ls + 1) rest t) ≡ Err e
           → ((t : S) → f.step (1 + length ls) line s ≡ Ok t → OnFault (1 + length (ls ++ line ∷ []) + length rest) (read_on f (1 + length (ls ++ line ∷ [])) rest t)) → Placed (1 + length ls + length (line ∷ rest)) e
       by (Ok t) is q more = placed_to (1 + length (ls ++ line ∷ []) + length rest) (1 + length ls + length (line ∷ rest)) e (omega (arith, length-append ls (line ∷ []))) (more t is e (subst (λ n. read_on f n rest t ≡ Err e) (next_is ls line) q))
-      by (Err d) is q more = placed_to (1 + length ls) (1 + length ls + length (line ∷ rest)) e (omega arith) (places.step ls line s b.said e (is ∙ ap (λ z. failed z) (err_is {B = T} d e q)))
+      by (Err d) is q more = placed_to (1 + length ls) (1 + length ls + length (line ∷ rest)) e (omega arith) (places.step ls line s b.said e (is ∙ ap (λ z. failed_line z) (err_is {B = T} d e q)))
 
   reaches : (k : ℕ) (ls rest : List (List ℕ)) (s : S) (n : ℕ) (r : LineReason) → Behind ls s → read_on f (1 + length ls) rest s ≡ Err (faults.Line n r) → length ls + k < n → AreInside f begin (ls ++ take k rest)
   unfolding read_on
@@ -78,7 +78,7 @@ module _ {S T : Type 0} (f : Format S T) (begin : S) (places : RefusesRead f beg
           → ((t : S) → f.step (1 + length ls) line s ≡ Ok t → read_on f (1 + length (ls ++ line ∷ [])) rest t ≡ Err (faults.Line n r) → AreInside f begin ((ls ++ line ∷ []) ++ take k rest)) → AreInside f begin (ls ++ line ∷ take k rest)
       by (Ok t) is q more = subst (λ all. AreInside f begin all) (append_assoc ls (line ∷ []) (take k rest)) (more t is (subst (λ m. read_on f m rest t ≡ Err (faults.Line n r)) (next_is ls line) q))
       by (Err d) is q more =
-          let p = places.step ls line s b.said (faults.Line n r) (is ∙ ap (λ z. failed z) (err_is {B = T} d (faults.Line n r) q)) in
+          let p = places.step ls line s b.said (faults.Line n r) (is ∙ ap (λ z. failed_line z) (err_is {B = T} d (faults.Line n r) q)) in
           absurd (omega (arith, p.1, lt))
 
   nothing_behind : Behind [] begin

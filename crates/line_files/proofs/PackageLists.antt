@@ -9,19 +9,19 @@ use Rattle.line_files.specs.declared.fault.LineReason.TheVariants.{BadWord, Twic
 use Rattle.line_files.specs.declared.fault.LineStop.{LineStop}
 use Rattle.line_files.specs.declared.fault.LineStop.TheVariants as stops
 use Rattle.service_api.specs.declared.package.PackageName.{PackageName}
-use Rattle.line_files.specs.Reads.{◌>>=◌, has_word, allowed, Fails}
+use Rattle.line_files.specs.Reads.{◌>>=◌, has_word, allowed_or_reason, Fails}
 use Rattle.line_files.specs.Packages.{package_of, same_package, package_at, one_package, packages_at}
 
-alone : {A : Type 0} (t : Bool) (y : Result A LineReason) → (allowed t BadWord >>= λ _. Err BadWord) ≡ y → Err BadWord ≡ y
+alone : {A : Type 0} (t : Bool) (y : Result A LineReason) → (allowed_or_reason t BadWord >>= λ _. Err BadWord) ≡ y → Err BadWord ≡ y
 alone true y e = e
 alone false y e = e
 
-last_step : (t : Bool) (next : List PackageName) (ws : List (List ℕ)) (x : List PackageName × List (List ℕ)) → (allowed t TwiceNamed >>= λ _. Ok (next, ws)) ≡ Ok x → ws ≡ x.1
+last_step : (t : Bool) (next : List PackageName) (ws : List (List ℕ)) (x : List PackageName × List (List ℕ)) → (allowed_or_reason t TwiceNamed >>= λ _. Ok (next, ws)) ≡ Ok x → ws ≡ x.1
 last_step true next ws x e = cc
 last_step false next ws x e = absurd cc
 
 last_is : (t : Bool) (o : Option PackageName) (u : PackageName → Bool) (seen : List PackageName) (ws : List (List ℕ)) (x : List PackageName × List (List ℕ))
-    → (allowed t BadWord >>= λ _. ok_or o BadWord >>= λ k. allowed (u k) TwiceNamed >>= λ _. Ok (seen ++ k ∷ [], ws)) ≡ Ok x → ws ≡ x.1
+    → (allowed_or_reason t BadWord >>= λ _. ok_or o BadWord >>= λ k. allowed_or_reason (u k) TwiceNamed >>= λ _. Ok (seen ++ k ∷ [], ws)) ≡ Ok x → ws ≡ x.1
 last_is false o u seen ws x e = absurd cc
 last_is true None u seen ws x e = absurd cc
 last_is true (Some k) u seen ws x e = last_step (u k) (seen ++ k ∷ []) ws x e

@@ -7,7 +7,7 @@ use Rattle.line_files.specs.declared.fault.LineFault.{LineFault}
 use Rattle.line_files.specs.declared.fault.LineFault.TheVariants as faults
 use Rattle.line_files.specs.Reads.{and_then}
 use Rattle.line_files.specs.Files.{Format, at_line}
-use Rattle.line_files.specs.Headers.{versioned}
+use Rattle.line_files.specs.Headers.{next_by_version}
 use Rattle.line_files.specs.Inside.{after_lines, Placed, OnFault, RefusesRead}
 use Rattle.line_files.proofs.Keeping.{IfStep}
 use Rattle.line_files.proofs.LineLaws.{err_is}
@@ -26,7 +26,7 @@ pub either_placed : {B : Type 0} (high : ℕ) (t : Bool) (a b : Result B LineFau
 either_placed high true a b h k = h
 either_placed high false a b h k = k
 
-pub version_placed : {B : Type 0} (number : ℕ) (next : Version → B) (v : Option Version) → 1 ≤ number → OnFault number (versioned number next v)
+pub version_placed : {B : Type 0} (number : ℕ) (next : Version → B) (v : Option Version) → 1 ≤ number → OnFault number (next_by_version number next v)
 version_placed number next (Some version) low = fault_done number (next version)
 version_placed {B} number next None low = fault_here {B = B} number number BadHeader low (omega arith)
 

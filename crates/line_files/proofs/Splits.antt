@@ -5,7 +5,7 @@ use Rattle.std.proofs.lemmas.Bool.{eqb-true}
 use Rattle.std.proofs.lemmas.List.{take_all, drop_all}
 use Rattle.line_files.specs.declared.fault.LineReason.TheVariants.{BadWord}
 use Rattle.line_files.specs.Lines.{begin_with, lines, words, words_left, behind}
-use Rattle.line_files.specs.Reads.{word_at, rest_at, end_at, has_word, allowed}
+use Rattle.line_files.specs.Reads.{word_at, rest_at, end_at, has_word, allowed_or_reason}
 
 abbrev is_byte : ℕ → ℕ → Bool
 is_byte sep x = eqb x sep
@@ -119,6 +119,6 @@ pub goes_on_is : (more : Bool) (xs : List ℕ) → more ≡ has_word (words_left
 goes_on_is true xs = let w = a_word xs in rw (w.is) refl
 goes_on_is false xs = refl
 
-pub ended_is : (more : Bool) (xs : List ℕ) → allowed (not more) BadWord ≡ end_at (words_left more xs)
+pub ended_is : (more : Bool) (xs : List ℕ) → allowed_or_reason (not more) BadWord ≡ end_at (words_left more xs)
 ended_is true xs = sym (not_ended xs)
 ended_is false xs = refl

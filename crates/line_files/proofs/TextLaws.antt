@@ -7,7 +7,7 @@ use Rattle.plan_base.specs.declared.tree.Draft.{Draft}
 use Rattle.plan_base.specs.declared.tree.Program.{Program}
 use Rattle.plan_base.specs.declared.tree.Value.{Value}
 use Rattle.typing_rules.specs.declared.type_fault.TypeFault.{TypeFault}
-use Rattle.typing_rules.specs.TypingOrder.{annotated}
+use Rattle.typing_rules.specs.TypingOrder.{annotated_program}
 use Rattle.plan_base.specs.WellFormed.{IsWellFormedProgram, well_formed_value, value_has_types}
 use Rattle.plan_lexer.specs.declared.fault.LexFault.{LexFault}
 use Rattle.plan_lexer.specs.declared.token.Token.{Token}
@@ -23,16 +23,16 @@ use Rattle.plan_parser.proofs.FormedValues as read
 use Rattle.plan_types.specs.Kept.{IsChecked}
 use Rattle.plan_types.proofs.Answered.{checked_by}
 use Rattle.program_text.specs.Scanned.{tokens_of}
-use Rattle.program_text.specs.Texts.{placed, typed_of, parsed_of, program_of, args_by, args_in, args_of_text}
+use Rattle.program_text.specs.Texts.{placed_result, typed_of, parsed_of, program_of, args_by, args_in, args_of_text}
 use Rattle.program_text.proofs.Scanning.{has_tokens, is_refused}
 use Rattle.chunk_types.specs.declared.fault.Ill.{Ill}
 use Rattle.chunk_types.specs.Chunks.{right, ill_call, is_small_chunk, as_fault, or_large, refusal_of, IsCheckedChunk}
 use Rattle.chunk_types.proofs.Values.{call_found, call_only}
 
-abbrev scanned : List Token → Result (List Token) LexFault
-scanned ts = Ok ts
+abbrev scanned_result : List Token → Result (List Token) LexFault
+scanned_result ts = Ok ts
 
-tokens_are : (ts us : List Token) → scanned ts ≡ scanned us → ts ≡ us
+tokens_are : (ts us : List Token) → scanned_result ts ≡ scanned_result us → ts ≡ us
 tokens_are ts us e = cc
 
 tokens_kept : (text : List ℕ) (ts : List Token) → length text ≤ 65536 → tokens_of text ≡ Ok ts → AreTokens 0 (length text) ts
@@ -44,12 +44,12 @@ tokens_kept text ts small e = by (tokens_or_refusal 0 text)
 
 -- ---- programs
 
-placed_ok : (decls nodes : List ℕ) (r : Result Program TypeFault) (p : Program) → placed decls nodes r ≡ Ok p → r ≡ Ok p
+placed_ok : (decls nodes : List ℕ) (r : Result Program TypeFault) (p : Program) → placed_result decls nodes r ≡ Ok p → r ≡ Ok p
 placed_ok decls nodes (Ok q) p e = let same : q ≡ p = cc in ap (λ z. Ok z) same
 placed_ok decls nodes (Err f) p e = absurd cc
 
 draft_checked : (r : Result Draft ParseFault) (p : Program) → ((d : Draft) → r ≡ Ok d → IsWellFormedProgram d.program) → typed_of r ≡ Ok p → IsChecked p
-draft_checked (Ok d) p w e = (checked_by d.program p (placed_ok d.decl_at d.node_at (annotated d.program) p e) (w d refl)).1
+draft_checked (Ok d) p w e = (checked_by d.program p (placed_ok d.decl_at d.node_at (annotated_program d.program) p e) (w d refl)).1
 draft_checked (Err f) p w e = absurd cc
 
 tokens_checked : (len : ℕ) (r : Result (List Token) LexFault) (p : Program) → ((ts : List Token) → r ≡ Ok ts → AreTokens 0 len ts) → parsed_of len r ≡ Ok p → IsChecked p

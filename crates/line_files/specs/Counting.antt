@@ -5,12 +5,12 @@ use Rattle.line_files.specs.declared.fault.LineFault.TheVariants as faults
 use Rattle.line_files.specs.Files.{Format}
 
 -- the number that a line gets where one more stands behind the first ones
-abbrev pub moved : ℕ → ℕ → ℕ
-moved first n = if nat_le n first then n else n + 1
+abbrev pub moved_line : ℕ → ℕ → ℕ
+moved_line first n = if nat_le n first then n else n + 1
 
 -- a refusal with the number that its line gets
 abbrev pub moved_fault : ℕ → LineFault → LineFault
-moved_fault first (faults.Line n r) = faults.Line (moved first n) r
+moved_fault first (faults.Line n r) = faults.Line (moved_line first n) r
 moved_fault first faults.NoMemory = faults.NoMemory
 
 -- what is read, changed by a function, or the refusal with the number that its line gets

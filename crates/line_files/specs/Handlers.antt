@@ -8,7 +8,7 @@ use Rattle.typing_rules.specs.Handlers.{is_handler}
 use Rattle.link_window.specs.declared.window.Version.{Version}
 use Rattle.link_window.specs.declared.window.Version.TheVariants.{One, Two}
 use Rattle.line_files.specs.declared.fault.LineReason.TheVariants.{BadArgument}
-use Rattle.line_files.specs.Reads.{◌>>=◌, Part, word_at, allowed}
+use Rattle.line_files.specs.Reads.{◌>>=◌, Part, word_at, allowed_or_reason}
 use Rattle.line_files.specs.Programs.{named_word}
 
 -- whether what was read is this word
@@ -31,7 +31,7 @@ named_handler program ws = do
   first ← word_at ws
   w ← word_at first.1
   name ← named_word w.0 BadArgument
-  _ ← allowed (is_handler program name) BadArgument
+  _ ← allowed_or_reason (is_handler program name) BadArgument
   Ok (Some name, w.1)
 
 -- the handler where one comes next, else none

@@ -17,10 +17,10 @@ abbrev pub version_in : List ℕ → List ℕ → Option Version
 version_in front line = version_by (front ++ codes "1") (front ++ codes "2") line
 
 -- what comes behind a first line, by its version
-abbrev pub versioned : {A : Type 0} → ℕ → (Version → A) → Option Version → Result A LineFault
-versioned number next (Some version) = Ok (next version)
-versioned number next None = Err (faults.Line number BadHeader)
+abbrev pub next_by_version : {A : Type 0} → ℕ → (Version → A) → Option Version → Result A LineFault
+next_by_version number next (Some version) = Ok (next version)
+next_by_version number next None = Err (faults.Line number BadHeader)
 
 -- a first line, whose digit gives the version
 abbrev pub version_line : {A : Type 0} → List ℕ → ℕ → List ℕ → (Version → A) → Result A LineFault
-version_line front number line next = versioned number next (version_in front line)
+version_line front number line next = next_by_version number next (version_in front line)

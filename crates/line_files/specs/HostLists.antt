@@ -5,7 +5,7 @@ use Rattle.plan_base.specs.declared.ids.Host.{Host}
 use Rattle.network_plan.specs.Hosts.{host_of, is_listed}
 use Rattle.line_files.specs.declared.fault.LineReason.{LineReason}
 use Rattle.line_files.specs.declared.fault.LineReason.TheVariants.{TooMany, BadArgument}
-use Rattle.line_files.specs.Reads.{◌>>=◌, Part, allowed}
+use Rattle.line_files.specs.Reads.{◌>>=◌, Part, allowed_or_reason}
 use Rattle.line_files.specs.Numbers.{number_at}
 
 -- whether a host is above each of these
@@ -16,8 +16,8 @@ is_above seen n = list_all (λ h. nat_lt h.0 n) seen
 unfoldable pub host_more : List Host → List (List ℕ) → Part (List Host)
 host_more seen ws = do
   n ← number_at 0 4294967295 ws
-  _ ← allowed (nat_lt (length seen) 32) TooMany
-  _ ← allowed (is_above seen n.0) BadArgument
+  _ ← allowed_or_reason (nat_lt (length seen) 32) TooMany
+  _ ← allowed_or_reason (is_above seen n.0) BadArgument
   Ok (seen ++ host_of n.0 ∷ [], n.1)
 
 -- hosts until the line ends
@@ -31,5 +31,5 @@ hosts_from seen (w ∷ ws) = do
 unfoldable pub hosts_with : Host → List (List ℕ) → Result (List Host) LineReason
 hosts_with here ws = do
   hosts ← hosts_from [] ws
-  _ ← allowed (is_listed here hosts) BadArgument
+  _ ← allowed_or_reason (is_listed here hosts) BadArgument
   Ok hosts

@@ -22,9 +22,9 @@ behind [] = []
 behind (w ∷ ws) = 32 ∷ w ++ behind ws
 
 -- words as one line
-abbrev pub spaced : List (List ℕ) → List ℕ
-spaced [] = []
-spaced (w ∷ ws) = w ++ behind ws
+abbrev pub spaced_words : List (List ℕ) → List ℕ
+spaced_words [] = []
+spaced_words (w ∷ ws) = w ++ behind ws
 
 -- the words that are left where the line goes on with bytes, none where it has ended
 abbrev pub words_left : Bool → List ℕ → List (List ℕ)

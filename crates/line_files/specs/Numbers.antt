@@ -21,8 +21,8 @@ is_padded (d ∷ []) = false
 is_padded (d ∷ e ∷ ds) = d == 48
 
 -- the number that a word spells, if it spells one
-abbrev pub spelled : List ℕ → Option ℕ
-spelled word = if is_padded word then None else (if list_all is_digit word then Some (digits_from 0 word) else None)
+abbrev pub spelled_number : List ℕ → Option ℕ
+spelled_number word = if is_padded word then None else (if list_all is_digit word then Some (digits_from 0 word) else None)
 
 -- a number from low to high
 abbrev pub within : ℕ → ℕ → Option ℕ → Option ℕ
@@ -31,7 +31,7 @@ within low high (Some n) = if nat_le low n && nat_le n high then Some n else Non
 
 -- the number from low to high that a word spells
 abbrev pub number_in : ℕ → ℕ → List ℕ → Option ℕ
-number_in low high word = within low high (spelled word)
+number_in low high word = within low high (spelled_number word)
 
 -- the next word as a number from low to high
 unfoldable pub number_at : ℕ → ℕ → List (List ℕ) → Part ℕ

@@ -8,7 +8,7 @@ use Rattle.service_api.specs.declared.package.PackageName.{PackageName}
 use Rattle.service_api.specs.declared.package.PackageName.TheVariants as packages
 use Rattle.line_files.specs.declared.fault.LineReason.{LineReason}
 use Rattle.line_files.specs.declared.fault.LineReason.TheVariants.{BadWord, TwiceNamed}
-use Rattle.line_files.specs.Reads.{◌>>=◌, Part, word_at, allowed}
+use Rattle.line_files.specs.Reads.{◌>>=◌, Part, word_at, allowed_or_reason}
 
 -- the package that a word names
 abbrev pub package_of : List ℕ → Option PackageName
@@ -26,14 +26,14 @@ unfoldable pub package_at : List PackageName → List (List ℕ) → Part (List 
 package_at seen ws = do
   p ← word_at ws
   k ← ok_or (package_of p.0) BadWord
-  _ ← allowed (not (list_any (same_package k) seen)) TwiceNamed
+  _ ← allowed_or_reason (not (list_any (same_package k) seen)) TwiceNamed
   Ok (seen ++ k ∷ [], p.1)
 
 -- one `without PACKAGE` behind others
 unfoldable pub one_package : List PackageName → List (List ℕ) → Part (List PackageName)
 one_package seen ws = do
   w ← word_at ws
-  _ ← allowed (bytes_eq w.0 (codes "without")) BadWord
+  _ ← allowed_or_reason (bytes_eq w.0 (codes "without")) BadWord
   package_at seen w.1
 
 -- `without PACKAGE` until the line ends

@@ -16,7 +16,7 @@ use Rattle.program_text.specs.Texts.{program_of, args_of_text}
 use Rattle.line_files.specs.declared.fault.LineReason.{LineReason}
 use Rattle.line_files.specs.declared.fault.LineReason.TheVariants.{TooMany, ProgramRefused, BadArgument}
 use Rattle.line_files.specs.declared.programs.OpenProgram.{OpenProgram}
-use Rattle.line_files.specs.Reads.{◌>>=◌, Part, word_at, allowed, rest_at}
+use Rattle.line_files.specs.Reads.{◌>>=◌, Part, word_at, allowed_or_reason, rest_at}
 
 -- a program without text, begun at a line
 abbrev pub opened_program : ℕ → OpenProgram
@@ -27,15 +27,15 @@ abbrev pub with_line : OpenProgram → List ℕ → OpenProgram
 with_line begun line = record begun { text = begun.text ++ line ++ 10 ∷ [] }
 
 -- a typed program, or its refusal as a reason
-abbrev pub accepted : Result Program TextFault → Result Program LineReason
-accepted (Ok program) = Ok program
-accepted (Err why) = Err (ProgramRefused why)
+abbrev pub accepted_program : Result Program TextFault → Result Program LineReason
+accepted_program (Ok program) = Ok program
+accepted_program (Err why) = Err (ProgramRefused why)
 
 -- the typed program of a text of at most 65,536 bytes
 unfoldable pub program_in : List ℕ → Result Program LineReason
 program_in text = do
-  _ ← allowed (nat_le (length text) 65536) TooMany
-  accepted (program_of text)
+  _ ← allowed_or_reason (nat_le (length text) 65536) TooMany
+  accepted_program (program_of text)
 
 -- a word as a name, or else a reason
 abbrev pub named_word : List ℕ → LineReason → Result Name LineReason
@@ -56,7 +56,7 @@ entry_at funs ws = do
 unfoldable pub args_at : List (List ℕ) → Result (List Value) LineReason
 args_at ws = do
   text ← rest_at ws
-  _ ← allowed (nat_le (length text) 65536) BadArgument
+  _ ← allowed_or_reason (nat_le (length text) 65536) BadArgument
   ok_or (args_of_text text) BadArgument
 
 -- a function of a program with arguments
@@ -66,7 +66,7 @@ chunk_with program entry args = record { code = program; entry = entry; args = a
 -- a chunk that is typed and small
 unfoldable pub typed_chunk : Chunk → Result Chunk LineReason
 typed_chunk chunk = do
-  _ ← allowed (not (is_some (refusal_of chunk))) BadArgument
+  _ ← allowed_or_reason (not (is_some (refusal_of chunk))) BadArgument
   Ok chunk
 
 -- `ENTRY ARGS` of a program
@@ -77,7 +77,7 @@ call_at program ws = do
   typed_chunk (chunk_with program f.0.name args)
 
 -- the weights of all injected chunks in sum, with one chunk more, whose tag as a value is counted
-unfoldable pub weighed : ℕ → Chunk → Result ℕ LineReason
-weighed sum chunk = do
-  _ ← allowed (nat_le (sum + (1 + chunk_weight chunk)) 16777216) TooMany
+unfoldable pub weighed_sum : ℕ → Chunk → Result ℕ LineReason
+weighed_sum sum chunk = do
+  _ ← allowed_or_reason (nat_le (sum + (1 + chunk_weight chunk)) 16777216) TooMany
   Ok (sum + (1 + chunk_weight chunk))

@@ -1,7 +1,7 @@
 -- Reading a line word by word from the left: the value and the words still to come, or the reason of the first wrong word.
 use Rattle.std.specs.Prelude.{◌≡◌, ℕ, Bool, true, false, List, [], ◌∷◌, Result, Ok, Err}
 use Rattle.plan_base.specs.declared.memory.NoMemory.{NoMemory}
-use Rattle.line_files.specs.Lines.{spaced}
+use Rattle.line_files.specs.Lines.{spaced_words}
 use Rattle.line_files.specs.declared.fault.LineReason.{LineReason}
 use Rattle.line_files.specs.declared.fault.LineReason.TheVariants.{BadWord}
 use Rattle.line_files.specs.declared.fault.LineFault.{LineFault}
@@ -49,14 +49,14 @@ has_word [] = false
 has_word (w ∷ ws) = true
 
 -- nothing where a rule is kept, else its reason
-abbrev pub allowed : Bool → LineReason → Result (Unit {0}) LineReason
-allowed true reason = Ok tt
-allowed false reason = Err reason
+abbrev pub allowed_or_reason : Bool → LineReason → Result (Unit {0}) LineReason
+allowed_or_reason true reason = Ok tt
+allowed_or_reason false reason = Err reason
 
 -- the rest of the line
 abbrev pub rest_at : List (List ℕ) → Result (List ℕ) LineReason
 rest_at [] = Err BadWord
-rest_at (w ∷ ws) = Ok (spaced (w ∷ ws))
+rest_at (w ∷ ws) = Ok (spaced_words (w ∷ ws))
 
 -- what a reader that takes memory gave is what is read
 abbrev pub Gives : {X Y : Type 0} → (X → Y) → Result X LineStop → Result Y LineReason → Type 0

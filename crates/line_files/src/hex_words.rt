@@ -11,7 +11,7 @@ use plan_base::{Bytes, NoMemory};
 use std::alloc::Global;
 
 /// The bytes that a word spells in hex digits of either case, or none.
-pub fn decoded(alloc: Global, word: &[u8]) -> Result<Option<Bytes>, NoMemory>
+pub fn bytes_of_hex(alloc: Global, word: &[u8]) -> Result<Option<Bytes>, NoMemory>
     ensures { Finds result (spec.hex_of (decode_of word.now)) }
 {
     match hex::decode(alloc, word) {
@@ -50,7 +50,7 @@ pub fn hex_bytes(
     ensures within { IfOk result (λ b. length b ≤ high) }
 {
     let word = words.next()?;
-    let bytes = decoded(alloc, word)?;
+    let bytes = bytes_of_hex(alloc, word)?;
     let bytes = in_size(bytes, low, high).ok_or(LineReason::BadArgument)?;
     Ok(bytes)
 }

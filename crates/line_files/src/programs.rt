@@ -6,7 +6,7 @@ ghost use Rattle.std.specs.Option.{option_copied};
 ghost use Rattle.plan_base.specs.WellFormed.{well_formed_value, value_has_types};
 ghost use Rattle.program_text.specs.Texts.{program_of};
 ghost use Rattle.line_files.specs.Programs as spec;
-ghost use Rattle.line_files.specs.Programs.{opened_program, with_line, accepted, program_in, named_word, has_name, entry_at, args_at, chunk_with, call_at, weighed};
+ghost use Rattle.line_files.specs.Programs.{opened_program, with_line, accepted_program, program_in, named_word, has_name, entry_at, args_at, chunk_with, call_at, weighed_sum};
 ghost use Rattle.line_files.specs.Injections.{injection_at};
 ghost use Rattle.line_files.specs.Reads.{Reads, Gives, Tells};
 
@@ -33,7 +33,7 @@ pub struct OpenProgram {
 
 impl OpenProgram {
     /// A program without text, begun at a line. Takes no memory.
-    pub fn begun(alloc: Global, line: u32) -> OpenProgram
+    pub fn begin_at(alloc: Global, line: u32) -> OpenProgram
         ensures { result ≡ opened_program line }
     {
         OpenProgram {
@@ -55,7 +55,7 @@ impl OpenProgram {
 /// The typed program of a text. Reason: `ProgramRefused`.
 fn accept(alloc: Global, text: &[u8]) -> Result<Checked, LineStop>
     requires { length text.now ≤ 65536 }
-    ensures { Gives (λ p. p) result (accepted (program_of text.now)) }
+    ensures { Gives (λ p. p) result (accepted_program (program_of text.now)) }
 {
     match read_program(alloc, text) {
         Ok(program) => Ok(program),
@@ -171,9 +171,9 @@ pub fn call(
 }
 
 /// The sum of the weights of all injected chunks with one chunk more. Reason: `TooMany` where it passes 16,777,216.
-#[tactic(auto, unfolding(crate::specs::Programs::weighed))]
-pub fn weighed(sum: u64, chunk: &Chunk) -> Result<u64, LineReason>
-    ensures { Tells (λ n. n) result (spec.weighed sum chunk.now) }
+#[tactic(auto, unfolding(crate::specs::Programs::weighed_sum))]
+pub fn add_weight(sum: u64, chunk: &Chunk) -> Result<u64, LineReason>
+    ensures { Tells (λ n. n) result (spec.weighed_sum sum chunk.now) }
 {
     let weight = chunk_weight(chunk).saturating_add(1).saturating_add(sum);
     allow(weight <= 16_777_216, LineReason::TooMany)?;

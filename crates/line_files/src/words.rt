@@ -4,7 +4,7 @@ ghost use Rattle.std.specs.Str.{bytes_eq};
 ghost use Rattle.line_files.specs.Lines.{lines, words_left};
 ghost use Rattle.line_files.specs.Files.{is_skipped};
 ghost use Rattle.line_files.specs.Handlers.{comes};
-ghost use Rattle.line_files.specs.Reads.{Reads, word_at, rest_at, end_at, has_word, allowed, fault_at};
+ghost use Rattle.line_files.specs.Reads.{Reads, word_at, rest_at, end_at, has_word, allowed_or_reason, fault_at};
 
 use crate::fault::{LineFault, LineReason, LineStop};
 use memchr::memchr;
@@ -49,7 +49,7 @@ pub fn is(word: &[u8], text: &[u8]) -> bool
 
 /// Nothing where a rule is kept, else the reason that stands for it.
 pub fn allow(kept: bool, reason: LineReason) -> Result<(), LineReason>
-    ensures { result ≡ allowed kept reason }
+    ensures { result ≡ allowed_or_reason kept reason }
 {
     if kept { Ok(()) } else { Err(reason) }
 }

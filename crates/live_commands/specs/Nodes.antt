@@ -11,7 +11,7 @@ use Rattle.node_model.specs.State.{NodeState, new_node}
 use Rattle.service_api.specs.Services.{ServiceState}
 use Rattle.service_meaning.specs.Beginning.{opening_standing, present_without}
 use Rattle.node_serve.specs.Desks.{Serving}
-use Rattle.node_serve.specs.Moments.{booted, ServesFrom}
+use Rattle.node_serve.specs.Moments.{booted_config, ServesFrom}
 use Rattle.node_serve.specs.declared.fault.ServeFault.{ServeFault}
 use Rattle.node_serve.specs.declared.fault.ServeFault.TheVariants.{LinkFault, WriteFault, NoMemory}
 use Rattle.call_causes.specs.declared.status.Cause.{Cause}
@@ -43,7 +43,7 @@ behind_moment Two clock = record { observable = clock.observable; answers = drop
 
 -- the configuration with which a run begins
 abbrev pub begun_config : ServeConfig → Serving → ServeConfig
-begun_config cfg old = booted (moment cfg.node.version old.clock) cfg
+begun_config cfg old = booted_config (moment cfg.node.version old.clock) cfg
 
 -- what its turns are handed
 abbrev pub begun_with : ServeConfig → Serving → Serving

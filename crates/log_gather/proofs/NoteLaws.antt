@@ -11,7 +11,7 @@ use Rattle.node_model.specs.State.{NodeState}
 use Rattle.serve_model.specs.Runs.{acts_of, node_by}
 use Rattle.frag_chunks.specs.declared.holding.Entry.{Entry}
 use Rattle.frag_chunks.specs.declared.gather.Held.{Held}
-use Rattle.frag_chunks.specs.Gathers.{gathered, holding_of, held_of}
+use Rattle.frag_chunks.specs.Gathers.{gathered_entries, holding_of, held_of}
 use Rattle.frag_chunks.specs.Messages.{held_now, held_after}
 use Rattle.frag_chunks.proofs.Keys.{key_is}
 use Rattle.log_gather.specs.declared.counting.Counting.{Counting}
@@ -44,12 +44,12 @@ entries_noted node (e ∷ es) c =
     ∙ ap (with_notes (log_notes (node_by node e) es)) (acts_noted (acts_of node e) c)
     ∙ sym (notes_more (notes_in (acts_of node e)) (log_notes (node_by node e) es) c)
 
-notes_gathered : (notes : List Note) (c : Counting) → (with_notes notes c).gather.entries ≡ gathered c.gather.port notes c.gather.entries
+notes_gathered : (notes : List Note) (c : Counting) → (with_notes notes c).gather.entries ≡ gathered_entries c.gather.port notes c.gather.entries
 unfolding with_note
 notes_gathered [] c = refl
 notes_gathered (note ∷ more) c = notes_gathered more (with_note note c)
 
-log_gathered : (port : ℕ) (node : NodeState) (es : List LogEvent) → (with_entries node es (nothing port)).gather.entries ≡ gathered port (log_notes node es) []
+log_gathered : (port : ℕ) (node : NodeState) (es : List LogEvent) → (with_entries node es (nothing port)).gather.entries ≡ gathered_entries port (log_notes node es) []
 log_gathered port node es = ap (λ c. c.gather.entries) (entries_noted node es (nothing port)) ∙ notes_gathered (log_notes node es) (nothing port)
 
 -- ---- lines

@@ -6,7 +6,7 @@ ghost use Rattle.node_model.specs.State.{NodeState, new_node};
 ghost use Rattle.node_model.specs.Node.{node_step};
 ghost use Rattle.node_core.specs.Stands.{version_of, NodeStands, IsStep};
 ghost use Rattle.node_core.specs.Turns.{IsResting};
-ghost use Rattle.serve_model.specs.Runs.{acts_of, node_by, entries_at, played, node_after};
+ghost use Rattle.serve_model.specs.Runs.{acts_of, node_by, entries_at, played_entries, node_after};
 ghost use Rattle.serve_model.specs.Texts.{lines_text, whole_trace};
 
 use crate::fault::ReplayFault;
@@ -105,7 +105,7 @@ fn write_entries<S: Services, K: Sink>(
     requires few { length entries.now ≤ 50000 }
     requires version { version_of node.old ≡ config.now.version }
     ensures { (s : NodeState) → NodeStands S.stands node.old s
-        → Prints (lines_text config.now.here (played 0 s entries.now))
+        → Prints (lines_text config.now.here (played_entries 0 s entries.now))
         (K.state out.old) (K.state out.new) result }
 {
     let mut number = 0;
@@ -165,7 +165,7 @@ pub fn run_log<S: Services + Drop, K: Sink>(
     requires services { IsResting (S.stands services) }
     ensures { Prints
         (whole_trace log.now.node.here
-        (played 0 (new_node log.now.node (S.stands services)) log.now.events))
+        (played_entries 0 (new_node log.now.node (S.stands services)) log.now.events))
         (K.state out.old) (K.state out.new) result }
 {
     let Ok(mut node) = begin_node(alloc, &log.node, services) else {

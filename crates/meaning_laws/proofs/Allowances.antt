@@ -11,9 +11,9 @@ use Rattle.plan_meaning.specs.declared.outcome.Outcome.TheVariants as outcome
 use Rattle.plan_meaning.specs.declared.outcome.Visit.{Visit}
 use Rattle.plan_meaning.specs.State.{VisitState}
 use Rattle.plan_meaning.specs.Run.{After, gave, stopped, RunStep}
-use Rattle.plan_meaning.specs.Meaning.{meaning, visited}
+use Rattle.plan_meaning.specs.Meaning.{meaning, visited_chunk}
 use Rattle.plan_meaning.specs.Safe.{IsGoodState}
-use Rattle.plan_meaning.specs.Visit.{IsVisit, Ends, begun, ended, spent}
+use Rattle.plan_meaning.specs.Visit.{IsVisit, Ends, begun_state, ended_visit, spent_visit}
 use Rattle.service_api.specs.Services.{IsGoodChunk}
 use Rattle.meaning_laws.specs.Laws.{IsSpent, more, after_more, with_allowance, VisitEnds, VisitsAlike, NoneSuffices}
 use Rattle.meaning_laws.proofs.Halting.{more_lasts}
@@ -24,7 +24,7 @@ use Rattle.meaning_laws.proofs.Sound.{visit_ends}
 same_work : (v w k : ℕ) → (v + k) - (w + k) ≡ v - w
 same_work v w k = omega arith
 
-ended_more : (v k : ℕ) (how : Outcome) (s : VisitState) → ended (v + k) how (more k s) ≡ ended v how s
+ended_more : (v k : ℕ) (how : Outcome) (s : VisitState) → ended_visit (v + k) how (more k s) ≡ ended_visit v how s
 ended_more v k how s = ap (λ n. record { outcome = how; evals = s.evals; left = s.ctx.purse; outbox = s.outbox; notes = s.notes; work = n }) (same_work v s.work k)
 
 ends_more : (v k bound : ℕ) (a : After Value) (r : Visit) (new : ServiceState) → ¬ IsSpent a → Ends v bound a r new → Ends (v + k) bound (after_more k a) r new
@@ -66,7 +66,7 @@ spent_or_not (stopped NoMemory s) = inr (λ h. h)
 module _ (k : Chunk) (ctx : Ctx) (family : Family) (n : ServiceState) where
   -- with more work the evaluation ends as with less
   with_more : (v j : ℕ) → ¬ IsSpent (with_allowance v k ctx family n) → with_allowance (v + j) k ctx family n ≡ after_more j (with_allowance v k ctx family n)
-  with_more v j h = ap (λ (r : RunStep Value). r.after) (visit_allowance k (begun v ctx family n) j h)
+  with_more v j h = ap (λ (r : RunStep Value). r.after) (visit_allowance k (begun_state v ctx family n) j h)
 
   visit_more : (v j : ℕ) (r : Visit) (new : ServiceState) → IsVisit v k ctx family n r new → r.outcome ≢ outcome.WorkSpent → IsVisit (v + j) k ctx family n r new
   unfolding IsVisit
@@ -96,5 +96,5 @@ module _ (k : Chunk) (ctx : Ctx) (family : Family) (n : ServiceState) where
       let all : w ≤ w = omega arith in
       (λ h v l. spent_below v w l (outcome_spent w ctx.purse (with_allowance w k ctx family n) r new e h), λ h. spent_outcome w ctx.purse (with_allowance w k ctx family n) r new e (h w all))
 
-  pub visit_can_end : IsGoodChunk k → (w : ℕ) → IsGoodState (begun w ctx family n) → VisitEnds k ctx family n
-  visit_can_end g w i = visit_ends k g (begun w ctx family n) i
+  pub visit_can_end : IsGoodChunk k → (w : ℕ) → IsGoodState (begun_state w ctx family n) → VisitEnds k ctx family n
+  visit_can_end g w i = visit_ends k g (begun_state w ctx family n) i

@@ -17,12 +17,12 @@ use Rattle.service_api.specs.declared.answer.Answer.TheVariants.{Gives, Raises}
 use Rattle.service_api.specs.declared.router.Hop.{Hop}
 use Rattle.service_api.specs.declared.router.Hop.TheVariants.{To, NoService, NoRoute}
 use Rattle.service_api.specs.Routes.{hop, default_route}
-use Rattle.service_api.specs.Services.{served}
+use Rattle.service_api.specs.Services.{served_call}
 use Rattle.plan_meaning.specs.declared.sent.Sent.{Sent}
 use Rattle.plan_meaning.specs.declared.stop.EvalStop.TheVariants.{Raised, WorkSpent, Wrong, NoMemory}
 use Rattle.plan_meaning.specs.State.{VisitState}
-use Rattle.plan_meaning.specs.Run.{After, gave, stopped, RunStep, Run, «next», quiet, raise, otherwise, spend, serve, answered}
-use Rattle.plan_meaning.specs.Meaning.{Env, pay_eval, no_bound, is_paid, bound_of, sent, sent_by, send_remote, is_next, not_neighbour, send_neighbour, run_to, meaning, visited}
+use Rattle.plan_meaning.specs.Run.{After, gave, stopped, RunStep, Run, «next», quiet, raise, otherwise, spend, serve, answered_call}
+use Rattle.plan_meaning.specs.Meaning.{Env, pay_eval, no_bound, is_paid, bound_of, sent_packet, sent_by, send_remote, is_next, not_neighbour, send_neighbour, run_to, meaning, visited_chunk}
 use Rattle.plan_meaning.specs.Visit.{bounds}
 use Rattle.meaning_laws.specs.Laws.{left_by, total, IsBalanced}
 use Rattle.meaning_laws.proofs.Walk.{Kept, run_kept, visited_kept}
@@ -62,7 +62,7 @@ send_sum purse n evals b h = omega arith
 bounds_behind : (xs : List Sent) (x : Sent) → bounds (xs ++ x ∷ []) ≡ bounds xs + x.packet.bound
 bounds_behind xs x = sum_by-append (λ p. p.packet.bound) xs (x ∷ []) ∙ ap (λ n. bounds xs + n) (grind arith)
 
-sent_even : (s : VisitState) (dev : Dev) (k : Chunk) (h : Host) (n : ℕ) (r : Name) → n ≤ s.ctx.purse → Has (total s) (sent dev k h n r s).after
+sent_even : (s : VisitState) (dev : Dev) (k : Chunk) (h : Host) (n : ℕ) (r : Name) → n ≤ s.ctx.purse → Has (total s) (sent_packet dev k h n r s).after
 sent_even s dev k h n r e =
     ap (λ b. (s.ctx.purse - n) + s.evals + b) (bounds_behind s.outbox _) ∙ send_sum s.ctx.purse n s.evals (bounds s.outbox) e
 
@@ -84,11 +84,11 @@ remote_even s k h n r true e = sent_by_even s (hop s.ctx.router r s.ctx.here h) 
 remote_even s k h n r false e = refl
 
 neighbour_even : (s : VisitState) (k : Chunk) (h : Host) (n : ℤ) (d : Dev) (b : Bool) → is_paid n s.ctx.purse ≡ b
-    → Has (total s) (if b then (if is_next s d h then sent d k h (bound_of n) default_route s else raise not_neighbour s) else raise no_bound s).after
+    → Has (total s) (if b then (if is_next s d h then sent_packet d k h (bound_of n) default_route s else raise not_neighbour s) else raise no_bound s).after
 neighbour_even s k h n d true e = choose _ (is_next s d h) _ _ (sent_even s d k h (bound_of n) default_route (bound_within n _ e)) refl
 neighbour_even s k h n d false e = refl
 
-served_even : (s t : VisitState) → total t ≡ total s → (a : Answer) → Has (total s) (answered a t)
+served_even : (s t : VisitState) → total t ≡ total s → (a : Answer) → Has (total s) (answered_call a t)
 served_even s t e (Gives v told) = e
 served_even s t e (Raises x) = e
 
@@ -111,7 +111,7 @@ neighbours k h n d s = neighbour_even s k h n d (is_paid n s.ctx.purse) refl
 
 serves : (d : Svc) (args : List Value) → Even Value (serve d args) (serve d args)
 unfolding serve
-serves d args s = served_even s _ refl (served s.services d args s.ctx).answer
+serves d args s = served_even s _ refl (served_call s.services d args s.ctx).answer
 
 pub even_kept : Kept Even
 even_kept = record {
@@ -134,5 +134,5 @@ pub balance : (code : Program) (seen : ℕ) (env : Env) (e : Expr) (s : VisitSta
 unfolding meaning
 balance code seen env e s = run_even (suc s.work) code seen env e s
 
-pub visit_balance : (k : Chunk) (s : VisitState) → IsBalanced (visited meaning k) s
+pub visit_balance : (k : Chunk) (s : VisitState) → IsBalanced (visited_chunk meaning k) s
 visit_balance k = visited_kept Even even_kept meaning meaning balance k

@@ -16,11 +16,11 @@ use Rattle.service_api.specs.declared.answer.Answer.TheVariants.{Gives, Raises}
 use Rattle.service_api.specs.declared.router.Hop.{Hop}
 use Rattle.service_api.specs.declared.router.Hop.TheVariants.{To, NoService, NoRoute}
 use Rattle.service_api.specs.Routes.{hop, default_route}
-use Rattle.service_api.specs.Services.{Served, served, called}
+use Rattle.service_api.specs.Services.{Served, served_call, called_services}
 use Rattle.plan_meaning.specs.declared.stop.EvalStop.TheVariants.{Raised, WorkSpent, Wrong, NoMemory}
 use Rattle.plan_meaning.specs.State.{VisitState}
-use Rattle.plan_meaning.specs.Run.{After, gave, stopped, Run, «next», quiet, otherwise, spend, serve, answered, noted}
-use Rattle.plan_meaning.specs.Meaning.{Env, pay_eval, no_bound, is_paid, bound_of, sent, sent_by, send_remote, is_next, not_neighbour, send_neighbour, run_to, meaning, visited}
+use Rattle.plan_meaning.specs.Run.{After, gave, stopped, Run, «next», quiet, otherwise, spend, serve, answered_call, notes_after}
+use Rattle.plan_meaning.specs.Meaning.{Env, pay_eval, no_bound, is_paid, bound_of, sent_packet, sent_by, send_remote, is_next, not_neighbour, send_neighbour, run_to, meaning, visited_chunk}
 use Rattle.meaning_laws.specs.Laws.{left_by, Extends, HasGrown}
 use Rattle.meaning_laws.proofs.Walk.{Kept, choose, run_kept, visited_kept}
 
@@ -73,7 +73,7 @@ rescue_grown r (stopped WorkSpent s) f h k = h
 rescue_grown r (stopped Wrong s) f h k = h
 rescue_grown r (stopped NoMemory s) f h k = h
 
-sent_grown : (s : VisitState) (dev : Dev) (k : Chunk) (h : Host) (n : ℕ) (r : Name) → Has s (sent dev k h n r s).after
+sent_grown : (s : VisitState) (dev : Dev) (k : Chunk) (h : Host) (n : ℕ) (r : Name) → Has s (sent_packet dev k h n r s).after
 sent_grown s dev k h n r = record { purse = less_number s.ctx.purse n; evals = same_number s.evals; outbox = one_more s.outbox _; notes = itself s.notes }
 
 sent_by_grown : (s : VisitState) (hop : Hop) (k : Chunk) (h : Host) (n : ℕ) (r : Name) → Has s (sent_by hop k h n r s).after
@@ -81,11 +81,11 @@ sent_by_grown s (To via dev) k h n r = sent_grown s dev k h n r
 sent_by_grown s NoService k h n r = grown_itself s
 sent_by_grown s NoRoute k h n r = grown_itself s
 
-noted_grown : (notes : List Note) (o : Option Note) → Extends notes (noted o notes)
+noted_grown : (notes : List Note) (o : Option Note) → Extends notes (notes_after o notes)
 noted_grown notes None = itself notes
 noted_grown notes (Some note) = one_more notes note
 
-answered_grown : (s : VisitState) (r : Served) (a : Answer) → Has s (answered a (record s { services = called r.rows s.services }))
+answered_grown : (s : VisitState) (r : Served) (a : Answer) → Has s (answered_call a (record s { services = called_services r.rows s.services }))
 answered_grown s r (Gives v told) = record { purse = same_number s.ctx.purse; evals = same_number s.evals; outbox = itself s.outbox; notes = noted_grown s.notes told }
 answered_grown s r (Raises x) = record { purse = same_number s.ctx.purse; evals = same_number s.evals; outbox = itself s.outbox; notes = itself s.notes }
 
@@ -110,12 +110,12 @@ remotes k h n r s = choose HasGrown s (is_paid n s.ctx.purse) (sent_by (hop s.ct
 neighbours : (k : Chunk) (h : Host) (n : ℤ) (d : Dev) → Growing (Unit {0}) (send_neighbour k h n d) (send_neighbour k h n d)
 unfolding send_neighbour
 neighbours k h n d s =
-    choose HasGrown s (is_paid n s.ctx.purse) (if is_next s d h then sent d k h (bound_of n) default_route s else quiet (stopped (Raised not_neighbour) s)) (quiet (stopped (Raised no_bound) s))
-    (choose HasGrown s (is_next s d h) (sent d k h (bound_of n) default_route s) (quiet (stopped (Raised not_neighbour) s)) (sent_grown s d k h (bound_of n) default_route) (grown_itself s)) (grown_itself s)
+    choose HasGrown s (is_paid n s.ctx.purse) (if is_next s d h then sent_packet d k h (bound_of n) default_route s else quiet (stopped (Raised not_neighbour) s)) (quiet (stopped (Raised no_bound) s))
+    (choose HasGrown s (is_next s d h) (sent_packet d k h (bound_of n) default_route s) (quiet (stopped (Raised not_neighbour) s)) (sent_grown s d k h (bound_of n) default_route) (grown_itself s)) (grown_itself s)
 
 serves : (d : Svc) (args : List Value) → Growing Value (serve d args) (serve d args)
 unfolding serve
-serves d args s = answered_grown s (served s.services d args s.ctx) (served s.services d args s.ctx).answer
+serves d args s = answered_grown s (served_call s.services d args s.ctx) (served_call s.services d args s.ctx).answer
 
 pub growing_kept : Kept Growing
 growing_kept = record {
@@ -138,5 +138,5 @@ pub growth : (code : Program) (seen : ℕ) (env : Env) (e : Expr) (s : VisitStat
 unfolding meaning
 growth code seen env e s = run_growing (suc s.work) code seen env e s
 
-pub visit_growth : (k : Chunk) (s : VisitState) → HasGrown s (left_by (visited meaning k s).after)
+pub visit_growth : (k : Chunk) (s : VisitState) → HasGrown s (left_by (visited_chunk meaning k s).after)
 visit_growth k = visited_kept Growing growing_kept meaning meaning growth k

@@ -18,17 +18,17 @@ use Rattle.service_api.specs.declared.answer.Answer.TheVariants.{Gives, Raises}
 use Rattle.service_api.specs.declared.router.Hop.{Hop}
 use Rattle.service_api.specs.declared.router.Hop.TheVariants.{To, NoService, NoRoute}
 use Rattle.service_api.specs.Routes.{hop, default_route}
-use Rattle.service_api.specs.Services.{served, IsGoodChunk, AreGoodValues}
+use Rattle.service_api.specs.Services.{served_call, IsGoodChunk, AreGoodValues}
 use Rattle.plan_meaning.specs.declared.stop.EvalStop.TheVariants.{Raised, WorkSpent, Wrong, NoMemory}
 use Rattle.plan_meaning.specs.State.{VisitState}
-use Rattle.plan_meaning.specs.Run.{After, gave, stopped, RunStep, nothing, both, Run, «next», and_then, ◌>>=◌, ◌>>◌, quiet, pure, raise, or_wrong, given, otherwise, rescued, rescue, spend, is_too_large, weighed, whole, serve, answered}
-use Rattle.plan_meaning.specs.Meaning.{pay_eval, no_bound, is_paid, bound_of, sent, sent_by, send_remote, is_next, not_neighbour, send_neighbour}
+use Rattle.plan_meaning.specs.Run.{After, gave, stopped, RunStep, nothing, both, Run, «next», and_then, ◌>>=◌, ◌>>◌, quiet, pure, raise, or_wrong, given_value, otherwise, rescued_step, rescue, spend, is_too_large, weighed_value, whole, serve, answered_call}
+use Rattle.plan_meaning.specs.Meaning.{pay_eval, no_bound, is_paid, bound_of, sent_packet, sent_by, send_remote, is_next, not_neighbour, send_neighbour}
 use Rattle.plan_meaning.specs.Safe.{IsGoodState, Holds, IsRight, Yields}
 use Rattle.meaning_laws.specs.Laws.{left_by, IsSpent, more, after_more, step_more, at_work, EndsFrom}
 use Rattle.meaning_laws.proofs.Growing.{Growing, growing_kept, between, same_number}
 use Rattle.meaning_laws.proofs.Keeps.{Keeps}
 use Rattle.meaning_laws.proofs.Longer.{Longer, longer_kept, first_lasts, rescue_lasts}
-use Rattle.meaning_laws.proofs.Right.{Good, Mild, raised, weaker, is_small, mild_good, pure_yields, raise_yields, spent_state, spend_yields, paid_state, remote_yields, neighbour_yields, serve_yields}
+use Rattle.meaning_laws.proofs.Right.{Good, Mild, raised_not_wrong, weaker, is_small, mild_good, pure_yields, raise_yields, spent_state, spend_yields, paid_state, remote_yields, neighbour_yields, serve_yields}
 
 pub record HaltsAt {A : Type 0} (P : A → Type 0) (p : Run A) (s : VisitState) : Type 0 where
   pub right : IsRight P (p s)
@@ -132,19 +132,19 @@ module _ (b : ℕ) where
       sinks : (left_by (otherwise a f).after).ctx.purse ≤ (left_by a).ctx.purse
       long : (n : ℕ) → ¬ IsSpent (otherwise a f).after → otherwise (after_more n a) f ≡ step_more n (otherwise a f)
 
-    kept : (a : After Value) → Holds P a → otherwise a f ≡ quiet a → ((n : ℕ) → otherwise (after_more n a) f ≡ step_more n (otherwise a f)) → Otherwise a
-    kept a g e l = record {
+    kept_as_otherwise : (a : After Value) → Holds P a → otherwise a f ≡ quiet a → ((n : ℕ) → otherwise (after_more n a) f ≡ step_more n (otherwise a f)) → Otherwise a
+    kept_as_otherwise a g e l = record {
       right = subst (λ r. IsRight P r) (sym e) (record { safe = tt; holds = g });
       sinks = subst (λ (r : RunStep Value). (left_by r.after).ctx.purse ≤ (left_by a).ctx.purse) (sym e) (same_number (left_by a).ctx.purse);
       long = λ n m. l n;
     }
 
     rescuing : (a : After Value) → Holds P a → (left_by a).ctx.purse ≤ b → Otherwise a
-    rescuing (gave x s) g l = kept (gave x s) g refl (λ n. refl)
+    rescuing (gave x s) g l = kept_as_otherwise (gave x s) g refl (λ n. refl)
     rescuing (stopped (Raised x) s) g l = let r = k x s (record { good = g.1; purse = l }) in record { right = r.right; sinks = r.sinks; long = r.long }
-    rescuing (stopped WorkSpent s) g l = kept (stopped WorkSpent s) g refl (λ n. refl)
-    rescuing (stopped Wrong s) g l = kept (stopped Wrong s) g refl (λ n. refl)
-    rescuing (stopped NoMemory s) g l = kept (stopped NoMemory s) g refl (λ n. refl)
+    rescuing (stopped WorkSpent s) g l = kept_as_otherwise (stopped WorkSpent s) g refl (λ n. refl)
+    rescuing (stopped Wrong s) g l = kept_as_otherwise (stopped Wrong s) g refl (λ n. refl)
+    rescuing (stopped NoMemory s) g l = kept_as_otherwise (stopped NoMemory s) g refl (λ n. refl)
 
     at_once : (s : VisitState) (j : ℕ) (a : After Value) → (p (at_work j s)).after ≡ a → otherwise a f ≡ quiet a → ¬ IsSpent a → EndsFrom (rescue p f) s
     at_once s j a d e m = (j, λ x. m (subst (λ (r : RunStep Value). IsSpent r.after) e (subst (λ y. IsSpent (otherwise y f).after) d x)))
@@ -173,14 +173,14 @@ module _ (b : ℕ) where
         record {
           right = record { safe = (first.right.safe, o.right.safe); holds = o.right.holds };
           sinks = between _ (left_by (p s).after).ctx.purse s.ctx.purse o.sinks first.sinks;
-          long = λ n m. ap (λ r. rescued r f) (first.long n (rescue_lasts n (p s).after f m)) ∙
+          long = λ n m. ap (λ r. rescued_step r f) (first.long n (rescue_lasts n (p s).after f m)) ∙
               (λ j. record { after = (o.long n m j).after; asks = both (p s).asks (o.long n m j).asks });
           ends = rescue_ending s e.0 i (p (at_work e.0 s)).after refl at.right.holds (between _ s.ctx.purse b at.sinks i.purse) e.1;
         }
 
   -- ---- the steps
 
-  pub given_halts : (t : Ty) (g : Given) → Fits t g → Keeps g → Halts b (Mild t) (given g)
+  pub given_halts : (t : Ty) (g : Given) → Fits t g → Keeps g → Halts b (Mild t) (given_value g)
   given_halts t (gives v) h k = pure_halts (Mild t) v (λ s. (h, k s))
   given_halts t (raises x) h k = raise_halts (Mild t) x
   given_halts t unfit h k = absurd h
@@ -199,14 +199,14 @@ module _ (b : ℕ) where
   weighed_by t v true e h = raise_halts (Good t) too_large
   weighed_by t v false e h = then_halts (λ _. Unit {0}) (Good t) (spend (weight v)) (λ _. pure v) (spend_halts (weight v)) (λ _ _. pure_halts (Good t) v (mild_good t v e h))
 
-  weighed_halts : (t : Ty) (v : Value) → Mild t v → Halts b (Good t) (weighed v)
-  unfolding weighed
+  weighed_halts : (t : Ty) (v : Value) → Mild t v → Halts b (Good t) (weighed_value v)
+  unfolding weighed_value
   weighed_halts t v h = weighed_by t v (is_too_large v) refl h
 
   pub whole_halts : (t : Ty) (p : Run Value) → Halts b (Mild t) p → Halts b (Good t) (whole p)
   unfolding whole
   whole_halts t p h =
-      then_halts (Mild t) (Good t) (spend 1 >> p) weighed (then_halts (λ _. Unit {0}) (Mild t) (spend 1) (λ _. p) (spend_halts 1) (λ _ _. h)) (weighed_halts t)
+      then_halts (Mild t) (Good t) (spend 1 >> p) weighed_value (then_halts (λ _. Unit {0}) (Mild t) (spend 1) (λ _. p) (spend_halts 1) (λ _ _. h)) (weighed_halts t)
 
   module _ {B : Type 0} (Q : B → Type 0) (q : Run B) (h : (c : ℕ) → c < b → Halts c Q q) where
     abbrev Paying : Bool → Run B
@@ -216,7 +216,7 @@ module _ (b : ℕ) where
     less_purse n e l = grind (arith, nat_tests)
 
     paying : (t : Bool) (s : VisitState) → (s.ctx.purse == 0) ≡ t → Inv b s → HaltsAt Q (Paying t) s
-    paying true s e i = record { right = record { safe = (tt, tt); holds = (raised no_bound, i.good) }; sinks = same_number s.ctx.purse; long = λ n m. refl; ends = (0, λ x. x) }
+    paying true s e i = record { right = record { safe = (tt, tt); holds = (raised_not_wrong no_bound, i.good) }; sinks = same_number s.ctx.purse; long = λ n m. refl; ends = (0, λ x. x) }
     paying false s e i =
         let r = h (s.ctx.purse - 1) (less_purse s.ctx.purse e i.purse) (record s { ctx = record s.ctx { purse = s.ctx.purse - 1 }; evals = s.evals + 1 })
         (record { good = paid_state s (s.ctx.purse - 1) (s.evals + 1) i.good; purse = same_number (s.ctx.purse - 1) }) in
@@ -253,20 +253,20 @@ module _ (b : ℕ) where
   unfolding send_neighbour is_next
   neighbour_ends k h n d s = (
     0,
-    choose_lasts (is_paid n s.ctx.purse) (if is_next s d h then sent d k h (bound_of n) default_route (at_work 0 s) else raise not_neighbour (at_work 0 s)) (raise no_bound (at_work 0 s))
-        (choose_lasts (is_next s d h) (sent d k h (bound_of n) default_route (at_work 0 s)) (raise not_neighbour (at_work 0 s)) (λ x. x) (λ x. x)) (λ x. x),
+    choose_lasts (is_paid n s.ctx.purse) (if is_next s d h then sent_packet d k h (bound_of n) default_route (at_work 0 s) else raise not_neighbour (at_work 0 s)) (raise no_bound (at_work 0 s))
+        (choose_lasts (is_next s d h) (sent_packet d k h (bound_of n) default_route (at_work 0 s)) (raise not_neighbour (at_work 0 s)) (λ x. x) (λ x. x)) (λ x. x),
   )
 
   pub neighbour_halts : (k : Chunk) (h : Host) (n : ℤ) (d : Dev) → IsGoodChunk k → Halts b {A = Unit {0}} (λ _. Unit {0}) (send_neighbour k h n d)
   neighbour_halts k h n d g = from_yields (λ _. Unit {0}) (send_neighbour k h n d) (neighbour_yields k h n d g) (growing_kept.neighbours k h n d) (λ m. (longer_kept m).neighbours k h n d) (neighbour_ends k h n d)
 
-  answered_lasts : (a : Answer) (s : VisitState) → ¬ IsSpent (answered a s)
+  answered_lasts : (a : Answer) (s : VisitState) → ¬ IsSpent (answered_call a s)
   answered_lasts (Gives v told) s x = x
   answered_lasts (Raises y) s x = x
 
   serve_ends : (d : Svc) (args : List Value) (s : VisitState) → EndsFrom (serve d args) s
   unfolding serve
-  serve_ends d args s = (0, answered_lasts (served s.services d args s.ctx).answer _)
+  serve_ends d args s = (0, answered_lasts (served_call s.services d args s.ctx).answer _)
 
   pub serve_halts : (d : Svc) (args : List Value) → AreGoodValues d.params args → Halts b (Good d.result) (serve d args)
   serve_halts d args h = from_yields (Good d.result) (serve d args) (serve_yields d args h) (growing_kept.serves d args) (λ m. (longer_kept m).serves d args) (serve_ends d args)

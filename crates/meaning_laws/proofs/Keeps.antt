@@ -21,7 +21,7 @@ use Rattle.plan_base.specs.WellFormed.{well_formed_text}
 use Rattle.typing_rules.specs.Typing.{IsSmall, HasType}
 use Rattle.typing_rules.specs.TypingNames.{of_list, takes, makes, kind_of, joining, listing, is_joined, is_joined_at}
 use Rattle.value_rules.specs.Rules as rules
-use Rattle.value_rules.specs.Rules.{Given, gives, raises, unfit, limited, joined_values, put_first, binary, found_value, part, first_item, later_items, of_one, primitive, printed_int, printed_host, too_large}
+use Rattle.value_rules.specs.Rules.{Given, gives, raises, unfit, limited_value, joined_values, put_first, binary, found_value, part, first_item, later_items, of_one, primitive, printed_int, printed_host, too_large}
 use Rattle.plan_items.proofs.Bools.{and_both, and_left}
 use Rattle.value_rules.proofs.Fitting.{list_shape}
 use Rattle.value_rules.proofs.Shapes.{Shape, shape_of, shape_at}
@@ -39,8 +39,8 @@ choose : (b : Bool) (g h : Given) → Keeps g → Keeps h → Keeps (if b then g
 choose true g h x y = x
 choose false g h x y = y
 
-limited_keeps : (v : Value) → (IsSmall v → IsFormed v) → Keeps (limited v)
-unfolding limited
+limited_keeps : (v : Value) → (IsSmall v → IsFormed v) → Keeps (limited_value v)
+unfolding limited_value
 limited_keeps v h = choose (nat_lt 16384 (weight v)) (raises too_large) (gives v) tt h
 
 -- ---- by the type alone
@@ -108,21 +108,21 @@ joined_keeps t Ty-F.Chunk a b o e i j h k fits = cc
 joined_keeps t (Ty-F.List u) a b o e i j h k fits = cc
 joined_keeps t (Ty-F.Tuple ts) a b o e i j h k fits = cc
 
-pub concatenated : (o : Op) (a b : Value) (t : Ty) → kind_of o ≡ joining → is_joined t ≡ true → HasType a t → HasType b t → IsFormed a → IsFormed b → Fits t (binary o a b) → Keeps (binary o a b)
+pub concatenation_keeps : (o : Op) (a b : Value) (t : Ty) → kind_of o ≡ joining → is_joined t ≡ true → HasType a t → HasType b t → IsFormed a → IsFormed b → Fits t (binary o a b) → Keeps (binary o a b)
 unfolding binary
-concatenated op.Cat a b t e i h k f g fits = joined_keeps t (out-Ty t) a b refl i (shape_of h) (shape_of k) f g fits
-concatenated op.Add a b t e i h k f g fits = cc
-concatenated op.Sub a b t e i h k f g fits = cc
-concatenated op.Mul a b t e i h k f g fits = cc
-concatenated op.Div a b t e i h k f g fits = cc
-concatenated op.Mod a b t e i h k f g fits = cc
-concatenated op.Eq a b t e i h k f g fits = cc
-concatenated op.Ne a b t e i h k f g fits = cc
-concatenated op.Lt a b t e i h k f g fits = cc
-concatenated op.Le a b t e i h k f g fits = cc
-concatenated op.Gt a b t e i h k f g fits = cc
-concatenated op.Ge a b t e i h k f g fits = cc
-concatenated op.Cons a b t e i h k f g fits = cc
+concatenation_keeps op.Cat a b t e i h k f g fits = joined_keeps t (out-Ty t) a b refl i (shape_of h) (shape_of k) f g fits
+concatenation_keeps op.Add a b t e i h k f g fits = cc
+concatenation_keeps op.Sub a b t e i h k f g fits = cc
+concatenation_keeps op.Mul a b t e i h k f g fits = cc
+concatenation_keeps op.Div a b t e i h k f g fits = cc
+concatenation_keeps op.Mod a b t e i h k f g fits = cc
+concatenation_keeps op.Eq a b t e i h k f g fits = cc
+concatenation_keeps op.Ne a b t e i h k f g fits = cc
+concatenation_keeps op.Lt a b t e i h k f g fits = cc
+concatenation_keeps op.Le a b t e i h k f g fits = cc
+concatenation_keeps op.Gt a b t e i h k f g fits = cc
+concatenation_keeps op.Ge a b t e i h k f g fits = cc
+concatenation_keeps op.Cons a b t e i h k f g fits = cc
 
 -- ---- lists
 

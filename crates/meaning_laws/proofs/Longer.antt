@@ -15,11 +15,11 @@ use Rattle.service_api.specs.declared.answer.Answer.TheVariants.{Gives, Raises}
 use Rattle.service_api.specs.declared.router.Hop.{Hop}
 use Rattle.service_api.specs.declared.router.Hop.TheVariants.{To, NoService, NoRoute}
 use Rattle.service_api.specs.Routes.{hop, default_route}
-use Rattle.service_api.specs.Services.{served}
+use Rattle.service_api.specs.Services.{served_call}
 use Rattle.plan_meaning.specs.declared.stop.EvalStop.TheVariants.{Raised, WorkSpent, Wrong, NoMemory}
 use Rattle.plan_meaning.specs.State.{VisitState}
-use Rattle.plan_meaning.specs.Run.{After, gave, stopped, RunStep, service, both, Run, «next», and_then, ◌>>=◌, quiet, raise, otherwise, rescued, rescue, spend, serve, answered}
-use Rattle.plan_meaning.specs.Meaning.{Env, pay_eval, no_bound, is_paid, bound_of, sent, sent_by, send_remote, is_next, not_neighbour, send_neighbour, run_to, meaning, visited}
+use Rattle.plan_meaning.specs.Run.{After, gave, stopped, RunStep, service, both, Run, «next», and_then, ◌>>=◌, quiet, raise, otherwise, rescued_step, rescue, spend, serve, answered_call}
+use Rattle.plan_meaning.specs.Meaning.{Env, pay_eval, no_bound, is_paid, bound_of, sent_packet, sent_by, send_remote, is_next, not_neighbour, send_neighbour, run_to, meaning, visited_chunk}
 use Rattle.meaning_laws.specs.Laws.{IsSpent, more, after_more, step_more, IsLonger}
 use Rattle.meaning_laws.proofs.Walk.{Kept, run_kept, visited_kept}
 
@@ -65,7 +65,7 @@ module _ (k : ℕ) where
 
   rescue_longer : (p q : Run Value) (f g : Exn → Run Value) → Longer Value p q → ((x : Exn) → Longer Value (f x) (g x)) → Longer Value (rescue p f) (rescue q g)
   rescue_longer p q f g h l s n =
-      ap (λ r. rescued r g) (h s (rescue_lasts (p s).after f n)) ∙
+      ap (λ r. rescued_step r g) (h s (rescue_lasts (p s).after f n)) ∙
       (λ i. record { after = (otherwise_longer (p s).after f g l n i).after; asks = both (p s).asks (otherwise_longer (p s).after f g l n i).asks })
 
   spent_by : VisitState → ℕ → Bool → RunStep (Unit {0})
@@ -107,16 +107,16 @@ module _ (k : ℕ) where
   neighbours : (c : Chunk) (h : Host) (n : ℤ) (d : Dev) → Longer (Unit {0}) (send_neighbour c h n d) (send_neighbour c h n d)
   unfolding send_neighbour is_next
   neighbours c h n d s e =
-      choose (is_paid n s.ctx.purse) (λ t. if is_next s d h then sent d c h (bound_of n) default_route t else raise not_neighbour t) (raise no_bound) s
-      (choose (is_next s d h) (sent d c h (bound_of n) default_route) (raise not_neighbour) s refl refl) refl
+      choose (is_paid n s.ctx.purse) (λ t. if is_next s d h then sent_packet d c h (bound_of n) default_route t else raise not_neighbour t) (raise no_bound) s
+      (choose (is_next s d h) (sent_packet d c h (bound_of n) default_route) (raise not_neighbour) s refl refl) refl
 
-  serve_longer : (s : VisitState) (a : Answer) → answered a (more k s) ≡ after_more k (answered a s)
+  serve_longer : (s : VisitState) (a : Answer) → answered_call a (more k s) ≡ after_more k (answered_call a s)
   serve_longer s (Gives v told) = refl
   serve_longer s (Raises x) = refl
 
   serves : (d : Svc) (args : List Value) → Longer Value (serve d args) (serve d args)
   unfolding serve
-  serves d args s h = ap (λ a. record { after = a; asks = service d args }) (serve_longer _ (served s.services d args s.ctx).answer)
+  serves d args s h = ap (λ a. record { after = a; asks = service d args }) (serve_longer _ (served_call s.services d args s.ctx).answer)
 
   pub longer_kept : Kept Longer
   longer_kept = record {
@@ -139,11 +139,11 @@ module _ (k : ℕ) where
   unfolding meaning
   longer code seen env e s h = run_longer (suc s.work) (suc (s.work + k)) (omega arith) code seen env e s h
 
-  pub visit_longer : (c : Chunk) → Longer Value (visited meaning c) (visited meaning c)
+  pub visit_longer : (c : Chunk) → Longer Value (visited_chunk meaning c) (visited_chunk meaning c)
   visit_longer c = visited_kept Longer longer_kept meaning meaning longer c
 
 pub allowance : (code : Program) (seen : ℕ) (env : Env) (e : Expr) (s : VisitState) → IsLonger (meaning code seen env e) s
 allowance code seen env e s k h = longer k code seen env e s h
 
-pub visit_allowance : (c : Chunk) (s : VisitState) → IsLonger (visited meaning c) s
+pub visit_allowance : (c : Chunk) (s : VisitState) → IsLonger (visited_chunk meaning c) s
 visit_allowance c s k h = visit_longer k c s h

@@ -20,18 +20,18 @@ use Rattle.service_api.specs.declared.answer.Answer.TheVariants.{Gives, Raises}
 use Rattle.service_api.specs.declared.router.Hop.{Hop}
 use Rattle.service_api.specs.declared.router.Hop.TheVariants.{To, NoService, NoRoute}
 use Rattle.service_api.specs.Routes.{hop, default_route}
-use Rattle.service_api.specs.Services.{Served, served, called, IsGoodValue, IsGoodChunk, AreGoodValues, IsGoodAnswer, IsGoodServed, IsGoodNote, IsGoodOptionNote, AreGoodRows}
+use Rattle.service_api.specs.Services.{Served, served_call, called_services, IsGoodValue, IsGoodChunk, AreGoodValues, IsGoodAnswer, IsGoodServed, IsGoodNote, IsGoodOptionNote, AreGoodRows}
 use Rattle.plan_meaning.specs.declared.stop.EvalStop.TheVariants.{Raised, WorkSpent, Wrong, NoMemory}
 use Rattle.plan_meaning.specs.State.{VisitState}
-use Rattle.plan_meaning.specs.Run.{After, gave, stopped, RunStep, Run, «next», ◌>>=◌, ◌>>◌, pure, stop, raise, or_wrong, given, otherwise, rescue, spend, is_too_large, weighed, whole, serve, answered, noted}
-use Rattle.plan_meaning.specs.Meaning.{pay_eval, no_bound, is_paid, bound_of, sent, sent_by, send_remote, is_next, not_neighbour, send_neighbour}
+use Rattle.plan_meaning.specs.Run.{After, gave, stopped, RunStep, Run, «next», ◌>>=◌, ◌>>◌, pure, stop, raise, or_wrong, given_value, otherwise, rescue, spend, is_too_large, weighed_value, whole, serve, answered_call, notes_after}
+use Rattle.plan_meaning.specs.Meaning.{pay_eval, no_bound, is_paid, bound_of, sent_packet, sent_by, send_remote, is_next, not_neighbour, send_neighbour}
 use Rattle.plan_meaning.specs.Safe.{AreGoodNotes, IsGoodSent, IsGoodState, Holds, IsRight, Yields}
 use Rattle.meaning_laws.proofs.Formed.{IsFormed, well_formed}
 use Rattle.value_rules.specs.Typed.{Fits}
 use Rattle.meaning_laws.proofs.Keeps.{Keeps}
 
-pub raised : (x : Exn) → Raised x ≢ Wrong
-raised x e = cc
+pub raised_not_wrong : (x : Exn) → Raised x ≢ Wrong
+raised_not_wrong x e = cc
 
 work_spent : WorkSpent ≢ Wrong
 work_spent e = cc
@@ -44,7 +44,7 @@ module _ {A : Type 0} (P : A → Type 0) where
   pure_yields a h s g = record { safe = tt; holds = (h, g) }
 
   pub raise_yields : (x : Exn) → Yields P (raise x)
-  raise_yields x s g = record { safe = tt; holds = (raised x, g) }
+  raise_yields x s g = record { safe = tt; holds = (raised_not_wrong x, g) }
 
   pub choose : (b : Bool) (x y : RunStep A) → IsRight P x → IsRight P y → IsRight P (if b then x else y)
   choose true x y h k = h
@@ -92,7 +92,7 @@ alone P x h (suc i) d l = absurd (omega arith)
 all_behind : {X : Type 0} (P : X → Type 0) (xs : List X) (x : X) → All P xs → P x → All P (xs ++ x ∷ [])
 all_behind P xs x h k = All-append P xs (x ∷ []) h (λ i d l. alone P x k i d l)
 
-sent_right : (dev : Dev) (k : Chunk) (h : Host) (n : ℕ) (r : Name) → IsGoodChunk k → Yields {A = Unit {0}} (λ _. Unit {0}) (sent dev k h n r)
+sent_right : (dev : Dev) (k : Chunk) (h : Host) (n : ℕ) (r : Name) → IsGoodChunk k → Yields {A = Unit {0}} (λ _. Unit {0}) (sent_packet dev k h n r)
 sent_right dev k h n r t s g =
     record { safe = t; holds = (tt, record { services = g.services; notes = g.notes; outbox = all_behind IsGoodSent s.outbox _ g.outbox (t, refl); near = g.near }) }
 
@@ -104,29 +104,29 @@ sent_by_right NoRoute k h n r t = raise_yields (λ _. Unit {0}) _
 pub remote_yields : (k : Chunk) (h : Host) (n : ℤ) (r : Name) → IsGoodChunk k → Yields {A = Unit {0}} (λ _. Unit {0}) (send_remote k h n r)
 unfolding send_remote
 remote_yields k h n r t s g =
-    choose (λ _. Unit {0}) (is_paid n s.ctx.purse) _ _ (sent_by_right (hop s.ctx.router r s.ctx.here h) k h (bound_of n) r t s g) (record { safe = tt; holds = (raised no_bound, g) })
+    choose (λ _. Unit {0}) (is_paid n s.ctx.purse) _ _ (sent_by_right (hop s.ctx.router r s.ctx.here h) k h (bound_of n) r t s g) (record { safe = tt; holds = (raised_not_wrong no_bound, g) })
 
 pub neighbour_yields : (k : Chunk) (h : Host) (n : ℤ) (d : Dev) → IsGoodChunk k → Yields {A = Unit {0}} (λ _. Unit {0}) (send_neighbour k h n d)
 unfolding send_neighbour
 neighbour_yields k h n d t s g =
     choose (λ _. Unit {0}) (is_paid n s.ctx.purse) _ _
-    (choose (λ _. Unit {0}) (is_next s d h) _ _ (sent_right d k h (bound_of n) default_route t s g) (record { safe = tt; holds = (raised not_neighbour, g) }))
-    (record { safe = tt; holds = (raised no_bound, g) })
+    (choose (λ _. Unit {0}) (is_next s d h) _ _ (sent_right d k h (bound_of n) default_route t s g) (record { safe = tt; holds = (raised_not_wrong not_neighbour, g) }))
+    (record { safe = tt; holds = (raised_not_wrong no_bound, g) })
 
-noted_good : (o : Option Note) (notes : List Note) → IsGoodOptionNote o → AreGoodNotes notes → AreGoodNotes (noted o notes)
+noted_good : (o : Option Note) (notes : List Note) → IsGoodOptionNote o → AreGoodNotes notes → AreGoodNotes (notes_after o notes)
 noted_good None notes h k = k
 noted_good (Some n) notes h k = all_behind IsGoodNote notes n k h
 
-left_good : (s : VisitState) (r : Served) → IsGoodState s → AreGoodRows r.rows → IsGoodState (record s { services = called r.rows s.services })
+left_good : (s : VisitState) (r : Served) → IsGoodState s → AreGoodRows r.rows → IsGoodState (record s { services = called_services r.rows s.services })
 left_good s r g h = record { services = record { serve = g.services.serve; rows = h }; notes = g.notes; outbox = g.outbox; near = g.near }
 
-answered_good : (d : Svc) (a : Answer) (s : VisitState) → IsGoodAnswer d a → IsGoodState s → Holds (Good d.result) (answered a s)
+answered_good : (d : Svc) (a : Answer) (s : VisitState) → IsGoodAnswer d a → IsGoodState s → Holds (Good d.result) (answered_call a s)
 answered_good d (Gives v told) s h g = (h.0, record { services = g.services; notes = noted_good told s.notes h.1 g.notes; outbox = g.outbox; near = g.near })
-answered_good d (Raises x) s h g = (raised x, g)
+answered_good d (Raises x) s h g = (raised_not_wrong x, g)
 
 pub serve_yields : (d : Svc) (args : List Value) → AreGoodValues d.params args → Yields (Good d.result) (serve d args)
 unfolding serve
 serve_yields d args h s g =
-    let r = served s.services d args s.ctx in
+    let r = served_call s.services d args s.ctx in
     let k : IsGoodServed d r = g.services.serve d args s.ctx s.services.rows g.services.rows h g.near in
     record { safe = h; holds = answered_good d r.answer _ k.answer (left_good s r g k.rows) }

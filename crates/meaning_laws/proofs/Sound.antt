@@ -38,7 +38,7 @@ use Rattle.service_api.specs.Services.{IsGoodChunk, AreGoodValues}
 use Rattle.plan_meaning.specs.State.{VisitState}
 use Rattle.plan_meaning.specs.Run.{Run, ◌>>◌, pure}
 use Rattle.plan_meaning.specs.Meaning as m
-use Rattle.plan_meaning.specs.Meaning.{Env, Runs, as_bool, bool_at, as_int, int_at, as_host, host_at, as_dev, dev_at, as_chunk, chunk_at, as_items, items_at, value_of, value_if, bound_behind, bound, pay_eval, send_remote, send_neighbour, values_behind, values, entered, applied_at, applied, served_or, called_by, called, left_along, right_along, handled, visited, opened_at, opened, node, run_to, meaning, catches}
+use Rattle.plan_meaning.specs.Meaning.{Env, Runs, as_bool, bool_at, as_int, int_at, as_host, host_at, as_dev, dev_at, as_chunk, chunk_at, as_items, items_at, value_of, value_if, bound_behind, bound, pay_eval, send_remote, send_neighbour, values_behind, values, entered_function, applied_at, applied_function, served_or, called_by, called_name, left_along, right_along, handled_exception, visited_chunk, opened_at, opened_expression, node, run_to, meaning, catches}
 use Rattle.plan_meaning.specs.Safe.{HasEnv, IsGoodState, Yields}
 use Rattle.plan_items.proofs.Bools.{and_left, and_right, both_true}
 use Rattle.value_rules.proofs.Shapes.{shape_at}
@@ -51,7 +51,7 @@ use Rattle.value_rules.specs.Typed.{Fits}
 use Rattle.value_rules.proofs.Fitting as given
 use Rattle.meaning_laws.proofs.Right.{Good, Mild}
 use Rattle.meaning_laws.proofs.Halting.{Halts, HaltsAt, Inv, pure_halts, raise_halts, known_halts, cond_halts, mild_halts, then_halts, known_then_halts, rescue_halts, given_halts, whole_halts, paid_halts, remote_halts, neighbour_halts, serve_halts}
-use Rattle.meaning_laws.proofs.Within.{fixed}
+use Rattle.meaning_laws.proofs.Within.{meaning_is_fixed}
 use Rattle.meaning_laws.specs.Laws.{EndsFrom}
 
 -- ---- what good values are taken for
@@ -203,10 +203,10 @@ bindings_agree x (p ∷ c) (b ∷ env) h =
 bindings_agree x [] (b ∷ env) h = absurd h
 bindings_agree x (p ∷ c) [] h = absurd h
 
-agreed : (t : Ty) (o : Option Ty) (w : Option Value) → o ≡ Some t → Agrees o w → (v : Value) × (w ≡ Some v) × Good t v
-agreed t (Some u) (Some v) e h = let same : u ≡ t = cc in (v, refl, subst (λ x. Good x v) same h)
-agreed t None w e h = cc
-agreed t (Some u) None e h = absurd h
+agreed_value_good : (t : Ty) (o : Option Ty) (w : Option Value) → o ≡ Some t → Agrees o w → (v : Value) × (w ≡ Some v) × Good t v
+agreed_value_good t (Some u) (Some v) e h = let same : u ≡ t = cc in (v, refl, subst (λ x. Good x v) same h)
+agreed_value_good t None w e h = cc
+agreed_value_good t (Some u) None e h = absurd h
 
 -- ---- the forms
 
@@ -248,10 +248,10 @@ module _ (limit : ℕ) where
 
   -- so do the functions before a place, and chunks with a lower purse
   abbrev CallsHalt : Program → ℕ → Type 0
-  CallsHalt code seen = (at : ℕ) (d : Fun) (args : List Value) → at < seen → slice_get code.funs at ≡ Some d → AreGoodValues (param_types d.params) args → Halts limit (Good d.result) (entered meaning code at args)
+  CallsHalt code seen = (at : ℕ) (d : Fun) (args : List Value) → at < seen → slice_get code.funs at ≡ Some d → AreGoodValues (param_types d.params) args → Halts limit (Good d.result) (entered_function meaning code at args)
 
   abbrev pub EvalsHalt : Type 0
-  EvalsHalt = (c : ℕ) → c < limit → (k : Chunk) → IsGoodChunk k → Halts c {A = Value} (λ _. Unit {0}) (visited meaning k)
+  EvalsHalt = (c : ℕ) → c < limit → (k : Chunk) → IsGoodChunk k → Halts c {A = Value} (λ _. Unit {0}) (visited_chunk meaning k)
 
   good_mild : {p : Run Value} (t : Ty) → Halts limit (Good t) p → Halts limit (Mild t) p
   good_mild {p} t h = mild_halts limit (Good t) (Mild t) (λ v g _. (g.typed, formed_of v g.formed)) p h
@@ -278,27 +278,27 @@ module _ (limit : ℕ) where
   values_good code seen env es ts k =
       mild_halts limit (Behind [] ts) (AreGoodValues ts) (λ vs x. subst (λ xs. AreGoodValues ts xs) (sym x.1) x.2) _ (values_from code seen env es ts k [])
 
-  applied_at_good : (code : Program) (o : Option ℕ) (at : ℕ) (P : Value → Type 0) (args : List Value) → o ≡ Some at → Halts limit P (entered meaning code at args) → Halts limit P (applied_at meaning code o args)
+  applied_at_good : (code : Program) (o : Option ℕ) (at : ℕ) (P : Value → Type 0) (args : List Value) → o ≡ Some at → Halts limit P (entered_function meaning code at args) → Halts limit P (applied_at meaning code o args)
   applied_at_good code o at P args e h = subst (λ x. Halts limit P (applied_at meaning code x args)) (sym e) h
 
   applied_good : (code : Program) (seen : ℕ) (f : Name) (at : ℕ) (d : Fun) (args : List Value) → CallsHalt code seen → place_of f (take seen code.funs) ≡ Some at → slice_get code.funs at ≡ Some d
-      → AreGoodValues (param_types d.params) args → Halts limit (Good d.result) (applied meaning code seen f args)
-  unfolding applied
+      → AreGoodValues (param_types d.params) args → Halts limit (Good d.result) (applied_function meaning code seen f args)
+  unfolding applied_function
   applied_good code seen f at d args q e g k = applied_at_good code (place_of f (take seen code.funs)) at (Good d.result) args e (q at d args (place_below f code.funs seen at e) g k)
 
-  by_prim : (code : Program) (seen : ℕ) (f : Name) (p : Primitive) (vs : List Value) (t : Ty) → prim_of f ≡ Some p → Fits t (rules.primitive p vs) → Keeps (rules.primitive p vs) → Halts limit (Mild t) (called meaning code seen f vs)
-  unfolding called
+  by_prim : (code : Program) (seen : ℕ) (f : Name) (p : Primitive) (vs : List Value) (t : Ty) → prim_of f ≡ Some p → Fits t (rules.primitive p vs) → Keeps (rules.primitive p vs) → Halts limit (Mild t) (called_name meaning code seen f vs)
+  unfolding called_name
   by_prim code seen f p vs t e h k = subst (λ o. Halts limit (Mild t) (called_by meaning o code seen f vs)) (sym e) (given_halts limit t _ h k)
 
-  by_service : (code : Program) (seen : ℕ) (f : Name) (d : Svc) (vs : List Value) → prim_of f ≡ None → service_of f code.svcs ≡ Some d → AreGoodValues d.params vs → Halts limit (Good d.result) (called meaning code seen f vs)
-  unfolding called
+  by_service : (code : Program) (seen : ℕ) (f : Name) (d : Svc) (vs : List Value) → prim_of f ≡ None → service_of f code.svcs ≡ Some d → AreGoodValues d.params vs → Halts limit (Good d.result) (called_name meaning code seen f vs)
+  unfolding called_name
   by_service code seen f d vs e g h =
       subst (λ o. Halts limit (Good d.result) (called_by meaning o code seen f vs)) (sym e)
       (subst (λ o. Halts limit (Good d.result) (served_or meaning o code seen f vs)) (sym g) (serve_halts limit d vs h))
 
   by_function : (code : Program) (seen : ℕ) (f : Name) (at : ℕ) (d : Fun) (vs : List Value) → CallsHalt code seen → prim_of f ≡ None → service_of f code.svcs ≡ None → place_of f (take seen code.funs) ≡ Some at
-      → slice_get code.funs at ≡ Some d → AreGoodValues (param_types d.params) vs → Halts limit (Good d.result) (called meaning code seen f vs)
-  unfolding called
+      → slice_get code.funs at ≡ Some d → AreGoodValues (param_types d.params) vs → Halts limit (Good d.result) (called_name meaning code seen f vs)
+  unfolding called_name
   by_function code seen f at d vs q e g p l h =
       subst (λ o. Halts limit (Good d.result) (called_by meaning o code seen f vs)) (sym e)
       (subst (λ o. Halts limit (Good d.result) (served_or meaning o code seen f vs)) (sym g) (applied_good code seen f at d vs q p l h))
@@ -317,7 +317,7 @@ module _ (limit : ℕ) where
       then_halts limit (Good d.result) (Good t) _ _ (applied_good code seen f at d (x ∷ acc ∷ []) y p l (subst (λ ts. AreGoodValues ts (x ∷ acc ∷ [])) (sym e) (h.0, (g, tt))))
       (λ v k. along_right code seen f at d t u y p l e q v xs (subst (λ z. Good z v) q k) h.1)
 
-  handled_good : (code : Program) (seen : ℕ) (env : Env) (ks : List Clause) (t : Ty) → ClausesHalt code seen env t ks → (x : Exn) → Halts limit (Mild t) (handled meaning code seen env ks x)
+  handled_good : (code : Program) (seen : ℕ) (env : Env) (ks : List Clause) (t : Ty) → ClausesHalt code seen env t ks → (x : Exn) → Halts limit (Mild t) (handled_exception meaning code seen env ks x)
   handled_good code seen env [] t h x = raise_halts limit (Mild t) x
   handled_good code seen env (k ∷ ks) t h x = cond_halts limit (Mild t) (catches k.name x) _ _ (good_mild t h.0) (handled_good code seen env ks t h.1 x)
 
@@ -342,8 +342,8 @@ module _ (limit : ℕ) where
   Any u = Unit {0}
 
   -- an expression whose level is known
-  at_level : (code : Program) (seen : ℕ) (env : Env) (e : Expr) (l : ExprLayer) (t : Ty) → out-Expr e ≡ l → Halts limit (Mild t) (opened_at meaning code seen env l) → Halts limit (Mild t) (opened meaning code seen env e)
-  unfolding opened
+  at_level : (code : Program) (seen : ℕ) (env : Env) (e : Expr) (l : ExprLayer) (t : Ty) → out-Expr e ≡ l → Halts limit (Mild t) (opened_at meaning code seen env l) → Halts limit (Mild t) (opened_expression meaning code seen env e)
+  unfolding opened_expression
   at_level code seen env e l t o h = subst (λ x. Halts limit (Mild t) (opened_at meaning code seen env x)) (sym o) h
 
   module _ (code : Program) (seen : ℕ) (env : Env) (y : GoodCode code) where
@@ -408,12 +408,12 @@ module _ (limit : ℕ) where
               (subst (λ x. (nat_le 2 x && nat_le x 8) ≡ true) (z ∙ values_count ts vs g) n) (form.shapes vs (formed_all ts vs g)) (form.tuple_depth vs ts (typed_all ts vs g) s),
         )))
 
-    call_good : (t : Ty) (f : Name) (es : List Expr) (ts : List Ty) → PartsHalt code seen env es ts → ((vs : List Value) → AreGoodValues ts vs → Halts limit (Mild t) (called meaning code seen f vs)) → Halts limit (Mild t) (m.call meaning code seen env f es)
+    call_good : (t : Ty) (f : Name) (es : List Expr) (ts : List Ty) → PartsHalt code seen env es ts → ((vs : List Value) → AreGoodValues ts vs → Halts limit (Mild t) (called_name meaning code seen f vs)) → Halts limit (Mild t) (m.call meaning code seen env f es)
     unfolding m.call
     call_good t f es ts i k = then_halts limit (AreGoodValues ts) (Mild t) _ _ (values_good code seen env es ts i) k
 
-    packed_good : (f : Name) (es : List Expr) (at : ℕ) (d : Fun) → length es ≡ length (param_types d.params) → place_of f code.funs ≡ Some at → slice_get code.funs at ≡ Some d → PartsHalt code seen env es (param_types d.params) → nat_le (length es) 8 ≡ true → Halts limit (Mild ty.Chunk) (m.packed meaning code seen env f es)
-    unfolding m.packed
+    packed_good : (f : Name) (es : List Expr) (at : ℕ) (d : Fun) → length es ≡ length (param_types d.params) → place_of f code.funs ≡ Some at → slice_get code.funs at ≡ Some d → PartsHalt code seen env es (param_types d.params) → nat_le (length es) 8 ≡ true → Halts limit (Mild ty.Chunk) (m.packed_chunk meaning code seen env f es)
+    unfolding m.packed_chunk
     packed_good f es at d z p g i n =
         then_halts limit (AreGoodValues (param_types d.params)) (Mild ty.Chunk) _ _ (values_good code seen env es _ i) (λ vs k.
         pure_halts limit (Mild ty.Chunk) _ (made_chunk (record { code = code; entry = f; args = vs }) at d y.typed p g (typed_all _ vs k)
@@ -442,8 +442,8 @@ module _ (limit : ℕ) where
     unfolding m.evaluation
     evaluation_good a q i =
         then_halts limit (Good ty.Chunk) (Mild ty.Unit) _ _ i (λ v g. let k = a_chunk v g in
-        known_then_halts limit (Mild ty.Unit) (as_chunk v) k.0 _ k.1 (paid_halts limit (Mild ty.Unit) (visited meaning k.0 >> pure value.Unit) (λ c l.
-        then_halts c {A = Value} (λ _. Unit {0}) (Mild ty.Unit) (visited meaning k.0) (λ _. pure value.Unit) (q c l k.0 k.2) (λ _ _. unit_halts c))))
+        known_then_halts limit (Mild ty.Unit) (as_chunk v) k.0 _ k.1 (paid_halts limit (Mild ty.Unit) (visited_chunk meaning k.0 >> pure value.Unit) (λ c l.
+        then_halts c {A = Value} (λ _. Unit {0}) (Mild ty.Unit) (visited_chunk meaning k.0) (λ _. pure value.Unit) (q c l k.0 k.2) (λ _ _. unit_halts c))))
 
     remote_good : (a b n : Expr) (route : Name) → Does ty.Chunk a → Does ty.Host b → Does ty.Int n → Halts limit (Mild ty.Unit) (m.remote meaning code seen env a b n route)
     unfolding m.remote
@@ -462,16 +462,16 @@ module _ (limit : ℕ) where
         known_then_halts limit (Mild ty.Unit) (as_int u) nu.0 _ nu.1 (then_halts limit (Good ty.Dev) (Mild ty.Unit) _ _ l (λ x g4. let de = a_dev x g4.typed in
         known_then_halts limit (Mild ty.Unit) (as_dev x) de.0 _ de.1 (then_halts limit Any (Mild ty.Unit) _ _ (neighbour_halts limit ch.0 ho.0 nu.0 de.0 ch.2) (λ _ _. just_unit)))))))))
 
-    one_item : (f : Name) (p : Primitive) (u t : Ty) → prim_of f ≡ Some p → of_list p u ≡ Some t → (vs : List Value) → AreGoodValues (ty.List u ∷ []) vs → Halts limit (Mild t) (called meaning code seen f vs)
+    one_item : (f : Name) (p : Primitive) (u t : Ty) → prim_of f ≡ Some p → of_list p u ≡ Some t → (vs : List Value) → AreGoodValues (ty.List u ∷ []) vs → Halts limit (Mild t) (called_name meaning code seen f vs)
     one_item f p u t i q [] g = absurd g
     one_item f p u t i q (v ∷ []) g = by_prim code seen f p (v ∷ []) t i (given.of_items p u t v g.0.typed q) (keeps.of_items p u t v g.0.typed (formed_of v g.0.formed) q)
     one_item f p u t i q (v ∷ w ∷ vs) g = absurd g.1
 
   -- an expression by its outermost level
-  rolled : (code : Program) (seen : ℕ) (env : Env) (e : Expr) (l : ExprLayer) (t : Ty) → out-Expr e ≡ l → Halts limit (Mild t) (opened_at meaning code seen env l) → Halts limit (Good t) (meaning code seen env e)
-  unfolding node opened
-  rolled code seen env e l t o h =
-      subst (λ p. Halts limit (Good t) p) (λ i s. sym (fixed code seen env e s) i)
+  halts_by_level : (code : Program) (seen : ℕ) (env : Env) (e : Expr) (l : ExprLayer) (t : Ty) → out-Expr e ≡ l → Halts limit (Mild t) (opened_at meaning code seen env l) → Halts limit (Good t) (meaning code seen env e)
+  unfolding node opened_expression
+  halts_by_level code seen env e l t o h =
+      subst (λ p. Halts limit (Good t) p) (λ i s. sym (meaning_is_fixed code seen env e s) i)
       (whole_halts limit t _ (subst (λ x. Halts limit (Mild t) (opened_at meaning code seen env x)) (sym o) h))
 
   -- tests of parts
@@ -484,88 +484,88 @@ module _ (limit : ℕ) where
   module _ (code : Program) (y : GoodCode code) (evals : EvalsHalt) where
     mutual
       pub expr_halts : {seen : ℕ} {c : List Param} {e : Expr} {t : Ty} → HasTy code seen c e t → formed_expr e ≡ true → CallsHalt code seen → (env : Env) → HasEnv c env → Halts limit (Good t) (meaning code seen env e)
-      expr_halts {seen = seen} {e = e} {t = t} (literal o) w q env h = rolled code seen env e _ t refl (literal_good code seen env (out-Expr e) t o (level_formed e (out-Expr e) refl w))
+      expr_halts {seen = seen} {e = e} {t = t} (literal o) w q env h = halts_by_level code seen env e _ t refl (literal_good code seen env (out-Expr e) t o (level_formed e (out-Expr e) refl w))
       expr_halts {seen = seen} {c = c} {e = e} {t = t} (variable x o k) w q env h =
-          let n = agreed t (binding x c) (value_of x env) k (bindings_agree x c env h) in
-          rolled code seen env e _ t o (known_halts limit (Mild t) (value_of x env) n.0 n.1 (λ _. (n.2.typed, formed_of n.0 n.2.formed)))
+          let n = agreed_value_good t (binding x c) (value_of x env) k (bindings_agree x c env h) in
+          halts_by_level code seen env e _ t o (known_halts limit (Mild t) (value_of x env) n.0 n.1 (λ _. (n.2.typed, formed_of n.0 n.2.formed)))
       expr_halts {seen = seen} {e = e} {t = t} (empty u o k s) w q env h =
-          rolled code seen env e _ t o (pure_halts limit (Mild t) (value.List u []) (λ _. (list u [] (value.outs-List u []) k no_items, form.empty_list u t k s (level_formed e (Expr-F.Nil (Some u)) o w))))
-      expr_halts {seen = seen} {e = e} {t = t} (raising x o i s) w q env h = rolled code seen env e _ t o (raise_halts limit (Mild t) (m.named x))
+          halts_by_level code seen env e _ t o (pure_halts limit (Mild t) (value.List u []) (λ _. (list u [] (value.outs-List u []) k no_items, form.empty_list u t k s (level_formed e (Expr-F.Nil (Some u)) o w))))
+      expr_halts {seen = seen} {e = e} {t = t} (raising x o i s) w q env h = halts_by_level code seen env e _ t o (raise_halts limit (Mild t) (m.named_exception x))
       expr_halts {seen = seen} {e = e} {t = t} (tuple es ts o k n s) w q env h =
           let z = level_formed e (Expr-F.Tuple es) o w in
-          rolled code seen env e _ t o (at_type t _ _ n (tuple_good code seen env y es ts (types_count k) (parts_halt k (and_right (has_from_to 2 8 es) (list_all formed_expr es) z) q env h) (and_left (has_from_to 2 8 es) (list_all formed_expr es) z) (subst IsShallow n s)))
+          halts_by_level code seen env e _ t o (at_type t _ _ n (tuple_good code seen env y es ts (types_count k) (parts_halt k (and_right (has_from_to 2 8 es) (list_all formed_expr es) z) q env h) (and_left (has_from_to 2 8 es) (list_all formed_expr es) z) (subst IsShallow n s)))
       expr_halts {seen = seen} {e = e} {t = t} (part i a ts o k n) w q env h =
-          rolled code seen env e _ t o (selection_good code seen env y t i a ts (expr_halts k (and_right (nat_le 1 i && nat_le i 8) (formed_expr a) (level_formed e (Expr-F.Part i a) o w)) q env h) n)
+          halts_by_level code seen env e _ t o (selection_good code seen env y t i a ts (expr_halts k (and_right (nat_le 1 i && nat_le i 8) (formed_expr a) (level_formed e (Expr-F.Part i a) o w)) q env h) n)
       expr_halts {seen = seen} {e = e} {t = t} (of_items f a p u o i k n) w q env h =
           let z = and_right (nat_le (length (a ∷ [])) 8) (list_all formed_expr (a ∷ [])) (level_formed e (Expr-F.Call f (a ∷ [])) o w) in
-          rolled code seen env e _ t o (call_good code seen env y t f (a ∷ []) (ty.List u ∷ []) (expr_halts k (and_left (formed_expr a) true z) q env h, tt) (λ vs g. one_item code seen env y f p u t i n vs g))
+          halts_by_level code seen env e _ t o (call_good code seen env y t f (a ∷ []) (ty.List u ∷ []) (expr_halts k (and_left (formed_expr a) true z) q env h, tt) (λ vs g. one_item code seen env y f p u t i n vs g))
       expr_halts {seen = seen} {e = e} {t = t} (primitive f es p ts o i k l n) w q env h =
           let z = and_right (nat_le (length es) 8) (list_all formed_expr es) (level_formed e (Expr-F.Call f es) o w) in
-          rolled code seen env e _ t o (at_type t _ _ n (call_good code seen env y (makes p) f es ts (parts_halt l z q env h) (λ vs g.
+          halts_by_level code seen env e _ t o (at_type t _ _ n (call_good code seen env y (makes p) f es ts (parts_halt l z q env h) (λ vs g.
           let x = given.of_values p ts vs k (typed_all ts vs g) in by_prim code seen f p vs (makes p) i x (keeps.of_values p ts vs k x))))
       expr_halts {seen = seen} {e = e} {t = t} (serving f es d o i k l n) w q env h =
           let z = and_right (nat_le (length es) 8) (list_all formed_expr es) (level_formed e (Expr-F.Call f es) o w) in
-          rolled code seen env e _ t o (at_type t _ _ n (call_good code seen env y d.result f es d.params (parts_halt l z q env h) (λ vs g. good_mild d.result (by_service code seen f d vs i k g))))
+          halts_by_level code seen env e _ t o (at_type t _ _ n (call_good code seen env y d.result f es d.params (parts_halt l z q env h) (λ vs g. good_mild d.result (by_service code seen f d vs i k g))))
       expr_halts {seen = seen} {e = e} {t = t} (call f es at d o i j k l n p) w q env h =
           let z = and_right (nat_le (length es) 8) (list_all formed_expr es) (level_formed e (Expr-F.Call f es) o w) in
-          rolled code seen env e _ t o (at_type t _ _ p (call_good code seen env y d.result f es (param_types d.params) (parts_halt n z q env h) (λ vs g. good_mild d.result (by_function code seen f at d vs q i j k l g))))
+          halts_by_level code seen env e _ t o (at_type t _ _ p (call_good code seen env y d.result f es (param_types d.params) (parts_halt n z q env h) (λ vs g. good_mild d.result (by_function code seen f at d vs q i j k l g))))
       expr_halts {seen = seen} {e = e} {t = t} (choice x z d o i j k) w q env h =
           let n = three_formed x z d (level_formed e (Expr-F.If x z d) o w) in
-          rolled code seen env e _ t o (choice_good code seen env y t x z d (expr_halts i n.0 q env h) (expr_halts j n.1 q env h) (expr_halts k n.2 q env h))
+          halts_by_level code seen env e _ t o (choice_good code seen env y t x z d (expr_halts i n.0 q env h) (expr_halts j n.1 q env h) (expr_halts k n.2 q env h))
       expr_halts {seen = seen} {c = c} {e = e} {t = t} (binder x u a z o i j) w q env h =
           let n = two_formed a z (and_right (well_formed_type u) (formed_expr a && formed_expr z) (level_formed e (Expr-F.Let x u a z) o w)) in
-          rolled code seen env e _ t o (binder_good code seen env y t u x a z (expr_halts i n.0 q env h) (λ v g. expr_halts j n.1 q (env ++ m.binds x v ∷ []) (env_behind c env (record { name = x; ty = u }) v h g)))
+          halts_by_level code seen env e _ t o (binder_good code seen env y t u x a z (expr_halts i n.0 q env h) (λ v g. expr_halts j n.1 q (env ++ m.binds x v ∷ []) (env_behind c env (record { name = x; ty = u }) v h g)))
       expr_halts {seen = seen} {e = e} {t = t} (sequence a z o i j) w q env h =
-          let n = two_formed a z (level_formed e (Expr-F.Then a z) o w) in rolled code seen env e _ t o (sequence_good code seen env y t a z (expr_halts i n.0 q env h) (expr_halts j n.1 q env h))
+          let n = two_formed a z (level_formed e (Expr-F.Then a z) o w) in halts_by_level code seen env e _ t o (sequence_good code seen env y t a z (expr_halts i n.0 q env h) (expr_halts j n.1 q env h))
       expr_halts {seen = seen} {e = e} {t = t} (both a z o i j k) w q env h =
-          let n = two_formed a z (level_formed e (Expr-F.And a z) o w) in rolled code seen env e _ t o (at_type t _ _ k (both_good code seen env y a z (expr_halts i n.0 q env h) (expr_halts j n.1 q env h)))
+          let n = two_formed a z (level_formed e (Expr-F.And a z) o w) in halts_by_level code seen env e _ t o (at_type t _ _ k (both_good code seen env y a z (expr_halts i n.0 q env h) (expr_halts j n.1 q env h)))
       expr_halts {seen = seen} {e = e} {t = t} (either a z o i j k) w q env h =
-          let n = two_formed a z (level_formed e (Expr-F.Or a z) o w) in rolled code seen env e _ t o (at_type t _ _ k (either_good code seen env y a z (expr_halts i n.0 q env h) (expr_halts j n.1 q env h)))
+          let n = two_formed a z (level_formed e (Expr-F.Or a z) o w) in halts_by_level code seen env e _ t o (at_type t _ _ k (either_good code seen env y a z (expr_halts i n.0 q env h) (expr_halts j n.1 q env h)))
       expr_halts {seen = seen} {e = e} {t = t} (negation a o i k) w q env h =
-          rolled code seen env e _ t o (at_type t _ _ k (negation_good code seen env y a (expr_halts i (level_formed e (Expr-F.Not a) o w) q env h)))
+          halts_by_level code seen env e _ t o (at_type t _ _ k (negation_good code seen env y a (expr_halts i (level_formed e (Expr-F.Not a) o w) q env h)))
       expr_halts {seen = seen} {e = e} {t = t} (calculation op a z o k i j l) w q env h =
           let n = two_formed a z (level_formed e (Expr-F.Binary op a z) o w) in
-          rolled code seen env e _ t o (at_type t _ _ l (operation_good code seen env y ty.Int ty.Int ty.Int op a z (expr_halts i n.0 q env h) (expr_halts j n.1 q env h) (λ v u f g.
-          let x = given.calculated op v u k f.typed g.typed in (x, keeps.plain ty.Int Ty-F.Int ty.outs-Int refl _ x))))
+          halts_by_level code seen env e _ t o (at_type t _ _ l (operation_good code seen env y ty.Int ty.Int ty.Int op a z (expr_halts i n.0 q env h) (expr_halts j n.1 q env h) (λ v u f g.
+          let x = given.calculation_fits op v u k f.typed g.typed in (x, keeps.plain ty.Int Ty-F.Int ty.outs-Int refl _ x))))
       expr_halts {seen = seen} {e = e} {t = t} (join op a z o k i l j) w q env h =
           let n = two_formed a z (level_formed e (Expr-F.Binary op a z) o w) in
-          rolled code seen env e _ t o (operation_good code seen env y t t t op a z (expr_halts i n.0 q env h) (expr_halts j n.1 q env h) (λ v u f g.
-          let x = given.concatenated op v u t k l f.typed g.typed in (x, keeps.concatenated op v u t k l f.typed g.typed (formed_of v f.formed) (formed_of u g.formed) x)))
+          halts_by_level code seen env e _ t o (operation_good code seen env y t t t op a z (expr_halts i n.0 q env h) (expr_halts j n.1 q env h) (λ v u f g.
+          let x = given.concatenation_fits op v u t k l f.typed g.typed in (x, keeps.concatenation_keeps op v u t k l f.typed g.typed (formed_of v f.formed) (formed_of u g.formed) x)))
       expr_halts {seen = seen} {e = e} {t = t} (comparison op a z u o k i j l) w q env h =
           let n = two_formed a z (level_formed e (Expr-F.Binary op a z) o w) in
-          rolled code seen env e _ t o (at_type t _ _ l (operation_good code seen env y ty.Bool u u op a z (expr_halts i n.0 q env h) (expr_halts j n.1 q env h) (λ v r f g.
-          let x = given.compared op v r k in (x, keeps.plain ty.Bool Ty-F.Bool ty.outs-Bool refl _ x))))
+          halts_by_level code seen env e _ t o (at_type t _ _ l (operation_good code seen env y ty.Bool u u op a z (expr_halts i n.0 q env h) (expr_halts j n.1 q env h) (λ v r f g.
+          let x = given.comparison_fits op v r k in (x, keeps.plain ty.Bool Ty-F.Bool ty.outs-Bool refl _ x))))
       expr_halts {seen = seen} {e = e} {t = t} (order op a z u o k i p j l) w q env h =
           let n = two_formed a z (level_formed e (Expr-F.Binary op a z) o w) in
-          rolled code seen env e _ t o (at_type t _ _ l (operation_good code seen env y ty.Bool u u op a z (expr_halts i n.0 q env h) (expr_halts j n.1 q env h) (λ v r f g.
-          let x = given.ordered op v r u k p f.typed g.typed in (x, keeps.plain ty.Bool Ty-F.Bool ty.outs-Bool refl _ x))))
+          halts_by_level code seen env e _ t o (at_type t _ _ l (operation_good code seen env y ty.Bool u u op a z (expr_halts i n.0 q env h) (expr_halts j n.1 q env h) (λ v r f g.
+          let x = given.order_fits op v r u k p f.typed g.typed in (x, keeps.plain ty.Bool Ty-F.Bool ty.outs-Bool refl _ x))))
       expr_halts {seen = seen} {e = e} {t = t} (prefix op a z u o k i j l s) w q env h =
           let n = two_formed a z (level_formed e (Expr-F.Binary op a z) o w) in
-          rolled code seen env e _ t o (at_type t _ _ l (operation_good code seen env y (ty.List u) u (ty.List u) op a z (expr_halts i n.0 q env h) (expr_halts j n.1 q env h) (λ v r f g.
+          halts_by_level code seen env e _ t o (at_type t _ _ l (operation_good code seen env y (ty.List u) u (ty.List u) op a z (expr_halts i n.0 q env h) (expr_halts j n.1 q env h) (λ v r f g.
           (given.put op v r u k f.typed g.typed, keeps.put op v r u k g.typed (formed_of v f.formed) (formed_of r g.formed) (form.item_depth v u t f.typed l s)))))
       expr_halts {seen = seen} {e = e} {t = t} (handling a ks o i j) w q env h =
           let z = both_true (formed_expr a) ((has_from_to 1 8 ks && names_all_but_last (λ k. is_some k.name) ks) && list_all (λ k. formed_expr k.body) ks) (level_formed e (Expr-F.Try a ks) o w) in
-          rolled code seen env e _ t o (attempt_good code seen env y t a ks (expr_halts i z.0 q env h)
+          halts_by_level code seen env e _ t o (attempt_good code seen env y t a ks (expr_halts i z.0 q env h)
           (clauses_halt j (and_right (has_from_to 1 8 ks && names_all_but_last (λ k. is_some k.name) ks) (list_all (λ k. formed_expr k.body) ks) z.1) q env h))
       expr_halts {seen = seen} {e = e} {t = t} (fold_left f a l at d u o p g k r i j) w q env h =
           let n = two_formed a l (level_formed e (Expr-F.Foldl f a l) o w) in
-          rolled code seen env e _ t o (fold_left_good code seen env y t u f a l at d q p g k r (expr_halts i n.0 q env h) (expr_halts j n.1 q env h))
+          halts_by_level code seen env e _ t o (fold_left_good code seen env y t u f a l at d q p g k r (expr_halts i n.0 q env h) (expr_halts j n.1 q env h))
       expr_halts {seen = seen} {e = e} {t = t} (fold_right f a l at d u o p g k r i j) w q env h =
           let n = two_formed a l (level_formed e (Expr-F.Foldr f a l) o w) in
-          rolled code seen env e _ t o (fold_right_good code seen env y t u f a l at d q p g k r (expr_halts i n.0 q env h) (expr_halts j n.1 q env h))
+          halts_by_level code seen env e _ t o (fold_right_good code seen env y t u f a l at d q p g k r (expr_halts i n.0 q env h) (expr_halts j n.1 q env h))
       expr_halts {seen = seen} {e = e} {t = t} (packing f es at d o p g k r) w q env h =
           let z = level_formed e (Expr-F.ChunkOf f es) o w in
-          rolled code seen env e _ t o (at_type t _ _ r (packed_good code seen env y f es at d (types_count k) p g (parts_halt k (and_right (nat_le (length es) 8) (list_all formed_expr es) z) q env h) (and_left (nat_le (length es) 8) (list_all formed_expr es) z)))
+          halts_by_level code seen env e _ t o (at_type t _ _ r (packed_good code seen env y f es at d (types_count k) p g (parts_halt k (and_right (nat_le (length es) 8) (list_all formed_expr es) z) q env h) (and_left (nat_le (length es) 8) (list_all formed_expr es) z)))
       expr_halts {seen = seen} {e = e} {t = t} (evaluation a o i k) w q env h =
-          rolled code seen env e _ t o (at_type t _ _ k (evaluation_good code seen env y a evals (expr_halts i (level_formed e (Expr-F.Eval a) o w) q env h)))
+          halts_by_level code seen env e _ t o (at_type t _ _ k (evaluation_good code seen env y a evals (expr_halts i (level_formed e (Expr-F.Eval a) o w) q env h)))
       expr_halts {seen = seen} {e = e} {t = t} (remote a x z r o i j k l) w q env h =
           let n = three_formed a x z (level_formed e (Expr-F.OnRemote a x z r) o w) in
-          rolled code seen env e _ t o (at_type t _ _ l (remote_good code seen env y a x z r (expr_halts i n.0 q env h) (expr_halts j n.1 q env h) (expr_halts k n.2 q env h)))
+          halts_by_level code seen env e _ t o (at_type t _ _ l (remote_good code seen env y a x z r (expr_halts i n.0 q env h) (expr_halts j n.1 q env h) (expr_halts k n.2 q env h)))
       expr_halts {seen = seen} {e = e} {t = t} (neighbour a x z d o i j k l p) w q env h =
           let n = both_true (formed_expr a && formed_expr x) (formed_expr z && formed_expr d) (level_formed e (Expr-F.OnNeighbor a x z d) o w) in
           let front = two_formed a x n.0 in
           let last = two_formed z d n.1 in
-          rolled code seen env e _ t o (at_type t _ _ p (neighbour_good code seen env y a x z d (expr_halts i front.0 q env h) (expr_halts j front.1 q env h) (expr_halts k last.0 q env h) (expr_halts l last.1 q env h)))
+          halts_by_level code seen env e _ t o (at_type t _ _ p (neighbour_good code seen env y a x z d (expr_halts i front.0 q env h) (expr_halts j front.1 q env h) (expr_halts k last.0 q env h) (expr_halts l last.1 q env h)))
 
       parts_halt : {seen : ℕ} {c : List Param} {es : List Expr} {ts : List Ty} → HaveTys code seen c es ts → list_all formed_expr es ≡ true → CallsHalt code seen → (env : Env) → HasEnv c env → PartsHalt code seen env es ts
       parts_halt no_parts w q env h = tt
@@ -575,8 +575,8 @@ module _ (limit : ℕ) where
       clauses_halt no_clauses w q env h = tt
       clauses_halt (and_clause {k = k} {ks = ks} a d l) w q env h = (expr_halts d (and_left (formed_expr k.body) (list_all (λ j. formed_expr j.body) ks) w) q env h, clauses_halt l (and_right (formed_expr k.body) (list_all (λ j. formed_expr j.body) ks) w) q env h)
 
-    entered_halts : (at : ℕ) (d : Fun) (args : List Value) → slice_get code.funs at ≡ Some d → AreGoodValues (param_types d.params) args → CallsHalt code at → Halts limit (Good d.result) (entered meaning code at args)
-    unfolding entered bound
+    entered_halts : (at : ℕ) (d : Fun) (args : List Value) → slice_get code.funs at ≡ Some d → AreGoodValues (param_types d.params) args → CallsHalt code at → Halts limit (Good d.result) (entered_function meaning code at args)
+    unfolding entered_function bound
     entered_halts at d args g k q =
         let n = bound_good [] [] d.params args tt k in
         known_then_halts limit (Good d.result) (slice_get code.funs at) d _ g (known_then_halts limit (Good d.result) (bound_behind [] d.params args) n.0 _ n.1
@@ -591,8 +591,8 @@ module _ (limit : ℕ) where
   chunk_args_good k d h o w n = good_all h (form.chunk_args k o) (args_weight k w) (args_nesting k n)
 
   -- a chunk at its entry, where chunks with a lower purse halt
-  chunk_halts : EvalsHalt → (k : Chunk) → IsTypedChunk k → formed_chunk k ≡ true → (at : ℕ) (d : Fun) → place_of k.entry k.code.funs ≡ Some at → slice_get k.code.funs at ≡ Some d → Halts limit (Good d.result) (visited meaning k)
-  unfolding visited
+  chunk_halts : EvalsHalt → (k : Chunk) → IsTypedChunk k → formed_chunk k ≡ true → (at : ℕ) (d : Fun) → place_of k.entry k.code.funs ≡ Some at → slice_get k.code.funs at ≡ Some d → Halts limit (Good d.result) (visited_chunk meaning k)
+  unfolding visited_chunk
   chunk_halts q k (within at' d' t p g h n w) o at d e l =
       let same_place : at' ≡ at = let x : Some at' ≡ Some at = sym p ∙ e in cc in
       let same_fun : d' ≡ d = let x : Some d' ≡ Some d = sym g ∙ ap (λ i. slice_get k.code.funs i) same_place ∙ l in cc in
@@ -601,7 +601,7 @@ module _ (limit : ℕ) where
       (applied_at_good k.code (place_of k.entry k.code.funs) at' (Good d'.result) k.args p (calls_halt k.code code q (suc at') at' d' k.args (omega arith) g (chunk_args_good k d' h o w n)))
 
 -- chunks with a purse below a number halt
-entry_halts : (b : ℕ) → EvalsHalt b → (k : Chunk) → IsTypedChunk k → formed_chunk k ≡ true → Halts b {A = Value} (λ _. Unit {0}) (visited meaning k)
+entry_halts : (b : ℕ) → EvalsHalt b → (k : Chunk) → IsTypedChunk k → formed_chunk k ≡ true → Halts b {A = Value} (λ _. Unit {0}) (visited_chunk meaning k)
 entry_halts b q k (within at d t p g h n w) o = mild_halts b (Good d.result) (λ _. Unit {0}) (λ _ _. tt) _ (chunk_halts b q k (within at d t p g h n w) o at d p g)
 
 evals_halt : (n : ℕ) → EvalsHalt n
@@ -613,7 +613,7 @@ means_halt b code seen c env e t y f k w h =
     let good : GoodCode code = record { typed = y; formed = f } in
     expr_halts b code good (evals_halt b) k (form.expr_formed e w) (calls_halt b code good (evals_halt b) seen) env h
 
-visit_halts : (b : ℕ) (k : Chunk) (at : ℕ) (d : Fun) → IsGoodChunk k → place_of k.entry k.code.funs ≡ Some at → slice_get k.code.funs at ≡ Some d → Halts b (Good d.result) (visited meaning k)
+visit_halts : (b : ℕ) (k : Chunk) (at : ℕ) (d : Fun) → IsGoodChunk k → place_of k.entry k.code.funs ≡ Some at → slice_get k.code.funs at ≡ Some d → Halts b (Good d.result) (visited_chunk meaning k)
 visit_halts b k at d g = chunk_halts b (evals_halt b) k g.typed (form.formed_of_chunk k g.formed) at d
 
 at_purse : (s : VisitState) → IsGoodState s → Inv s.ctx.purse s
@@ -622,14 +622,14 @@ at_purse s g = record { good = g; purse = omega arith }
 pub soundness : (code : Program) (seen : ℕ) (c : List Param) (env : Env) (e : Expr) (t : Ty) → Typed code → IsWellFormedProgram code → HasTy code seen c e t → IsWellFormedExpr e → HasEnv c env → Yields (Good t) (meaning code seen env e)
 soundness code seen c env e t y f k w h s g = (means_halt s.ctx.purse code seen c env e t y f k w h s (at_purse s g)).right
 
-pub visit_soundness : (k : Chunk) (at : ℕ) (d : Fun) → IsGoodChunk k → place_of k.entry k.code.funs ≡ Some at → slice_get k.code.funs at ≡ Some d → Yields (Good d.result) (visited meaning k)
+pub visit_soundness : (k : Chunk) (at : ℕ) (d : Fun) → IsGoodChunk k → place_of k.entry k.code.funs ≡ Some at → slice_get k.code.funs at ≡ Some d → Yields (Good d.result) (visited_chunk meaning k)
 visit_soundness k at d g p l s i = (visit_halts s.ctx.purse k at d g p l s (at_purse s i)).right
 
 pub ends : (code : Program) (seen : ℕ) (c : List Param) (env : Env) (e : Expr) (t : Ty) → Typed code → IsWellFormedProgram code → HasTy code seen c e t → IsWellFormedExpr e → HasEnv c env → (s : VisitState) → IsGoodState s → EndsFrom (meaning code seen env e) s
 ends code seen c env e t y f k w h s g = (means_halt s.ctx.purse code seen c env e t y f k w h s (at_purse s g)).ends
 
-entry_ends : (k : Chunk) → IsTypedChunk k → formed_chunk k ≡ true → (s : VisitState) → IsGoodState s → EndsFrom (visited meaning k) s
+entry_ends : (k : Chunk) → IsTypedChunk k → formed_chunk k ≡ true → (s : VisitState) → IsGoodState s → EndsFrom (visited_chunk meaning k) s
 entry_ends k t o s g = (entry_halts s.ctx.purse (evals_halt s.ctx.purse) k t o s (at_purse s g)).ends
 
-pub visit_ends : (k : Chunk) → IsGoodChunk k → (s : VisitState) → IsGoodState s → EndsFrom (visited meaning k) s
+pub visit_ends : (k : Chunk) → IsGoodChunk k → (s : VisitState) → IsGoodState s → EndsFrom (visited_chunk meaning k) s
 visit_ends k g s i = entry_ends k g.typed (form.formed_of_chunk k g.formed) s i

@@ -14,11 +14,11 @@ use Rattle.service_api.specs.declared.answer.Answer.TheVariants.{Gives, Raises}
 use Rattle.service_api.specs.declared.router.Hop.{Hop}
 use Rattle.service_api.specs.declared.router.Hop.TheVariants.{To, NoService, NoRoute}
 use Rattle.service_api.specs.Routes.{hop, default_route}
-use Rattle.service_api.specs.Services.{served}
+use Rattle.service_api.specs.Services.{served_call}
 use Rattle.plan_meaning.specs.declared.stop.EvalStop.TheVariants.{Raised, WorkSpent, Wrong, NoMemory}
 use Rattle.plan_meaning.specs.State.{VisitState}
-use Rattle.plan_meaning.specs.Run.{After, gave, stopped, Run, «next», quiet, otherwise, spend, serve, answered}
-use Rattle.plan_meaning.specs.Meaning.{Env, pay_eval, no_bound, is_paid, bound_of, sent, sent_by, send_remote, is_next, not_neighbour, send_neighbour, run_to, meaning, visited}
+use Rattle.plan_meaning.specs.Run.{After, gave, stopped, Run, «next», quiet, otherwise, spend, serve, answered_call}
+use Rattle.plan_meaning.specs.Meaning.{Env, pay_eval, no_bound, is_paid, bound_of, sent_packet, sent_by, send_remote, is_next, not_neighbour, send_neighbour, run_to, meaning, visited_chunk}
 use Rattle.meaning_laws.specs.Laws.{left_by, IsSteady}
 use Rattle.meaning_laws.proofs.Walk.{Kept, choose, run_kept, visited_kept}
 
@@ -45,7 +45,7 @@ rescue_steady r (stopped WorkSpent s) f h k = h
 rescue_steady r (stopped Wrong s) f h k = h
 rescue_steady r (stopped NoMemory s) f h k = h
 
-sent_steady : (s : VisitState) (dev : Dev) (k : Chunk) (h : Host) (n : ℕ) (r : Name) → Has s (sent dev k h n r s).after
+sent_steady : (s : VisitState) (dev : Dev) (k : Chunk) (h : Host) (n : ℕ) (r : Name) → Has s (sent_packet dev k h n r s).after
 sent_steady s dev k h n r = record { ctx = refl; family = refl; offer = refl; begun = refl }
 
 sent_by_steady : (s : VisitState) (hop : Hop) (k : Chunk) (h : Host) (n : ℕ) (r : Name) → Has s (sent_by hop k h n r s).after
@@ -53,7 +53,7 @@ sent_by_steady s (To via dev) k h n r = sent_steady s dev k h n r
 sent_by_steady s NoService k h n r = same_steady s
 sent_by_steady s NoRoute k h n r = same_steady s
 
-served_steady : (s t : VisitState) → IsSteady s t → (a : Answer) → Has s (answered a t)
+served_steady : (s t : VisitState) → IsSteady s t → (a : Answer) → Has s (answered_call a t)
 served_steady s t e (Gives v told) = record { ctx = e.ctx; family = e.family; offer = e.offer; begun = e.begun }
 served_steady s t e (Raises x) = e
 
@@ -72,12 +72,12 @@ remotes k h n r s = choose IsSteady s (is_paid n s.ctx.purse) (sent_by (hop s.ct
 neighbours : (k : Chunk) (h : Host) (n : ℤ) (d : Dev) → Steady (Unit {0}) (send_neighbour k h n d) (send_neighbour k h n d)
 unfolding send_neighbour
 neighbours k h n d s =
-    choose IsSteady s (is_paid n s.ctx.purse) (if is_next s d h then sent d k h (bound_of n) default_route s else quiet (stopped (Raised not_neighbour) s)) (quiet (stopped (Raised no_bound) s))
-    (choose IsSteady s (is_next s d h) (sent d k h (bound_of n) default_route s) (quiet (stopped (Raised not_neighbour) s)) (sent_steady s d k h (bound_of n) default_route) (same_steady s)) (same_steady s)
+    choose IsSteady s (is_paid n s.ctx.purse) (if is_next s d h then sent_packet d k h (bound_of n) default_route s else quiet (stopped (Raised not_neighbour) s)) (quiet (stopped (Raised no_bound) s))
+    (choose IsSteady s (is_next s d h) (sent_packet d k h (bound_of n) default_route s) (quiet (stopped (Raised not_neighbour) s)) (sent_steady s d k h (bound_of n) default_route) (same_steady s)) (same_steady s)
 
 serves : (d : Svc) (args : List Value) → Steady Value (serve d args) (serve d args)
 unfolding serve
-serves d args s = served_steady s _ (record { ctx = refl; family = refl; offer = refl; begun = refl }) (served s.services d args s.ctx).answer
+serves d args s = served_steady s _ (record { ctx = refl; family = refl; offer = refl; begun = refl }) (served_call s.services d args s.ctx).answer
 
 pub steady_kept : Kept Steady
 steady_kept = record {
@@ -100,5 +100,5 @@ pub steadiness : (code : Program) (seen : ℕ) (env : Env) (e : Expr) (s : Visit
 unfolding meaning
 steadiness code seen env e s = run_steady (suc s.work) code seen env e s
 
-pub visit_steadiness : (k : Chunk) (s : VisitState) → IsSteady s (left_by (visited meaning k s).after)
+pub visit_steadiness : (k : Chunk) (s : VisitState) → IsSteady s (left_by (visited_chunk meaning k s).after)
 visit_steadiness k = visited_kept Steady steady_kept meaning meaning steadiness k

@@ -20,8 +20,8 @@ use Rattle.plan_base.specs.Sizes.{weight}
 use Rattle.value_rules.specs.Rules.{Given, gives, raises, unfit, too_large, binary, part, primitive}
 use Rattle.plan_meaning.specs.declared.stop.EvalStop.{EvalStop}
 use Rattle.plan_meaning.specs.declared.stop.EvalStop.TheVariants.{Raised, WorkSpent}
-use Rattle.plan_meaning.specs.Run.{RunStep, Run, ◌>>=◌, pure, stop, wrong, or_wrong, given, rescue, spend, weighed, is_too_large, whole, serve}
-use Rattle.plan_meaning.specs.Meaning.{Env, Runs, binds, bound, as_bool, as_int, as_host, as_dev, as_chunk, as_items, value_of, pay_eval, send_remote, send_neighbour, catches, named, values_behind, values, entered, applied_at, applied, served_or, called_by, called, call, tuple, packed, choice, binding, sequence, conjunction, disjunction, negation, operation, selection, handled, attempt, left_along, fold_left, right_along, fold_right, visited, evaluation, remote, neighbour, empty_of, opened_at, opened, node, run_to}
+use Rattle.plan_meaning.specs.Run.{RunStep, Run, ◌>>=◌, pure, stop, wrong, or_wrong, given_value, rescue, spend, weighed_value, is_too_large, whole, serve}
+use Rattle.plan_meaning.specs.Meaning.{Env, Runs, binds, bound, as_bool, as_int, as_host, as_dev, as_chunk, as_items, value_of, pay_eval, send_remote, send_neighbour, catches, named_exception, values_behind, values, entered_function, applied_at, applied_function, served_or, called_by, called_name, call, tuple, packed_chunk, choice, binding, sequence, conjunction, disjunction, negation, operation, selection, handled_exception, attempt, left_along, fold_left, right_along, fold_right, visited_chunk, evaluation, remote, neighbour, empty_of, opened_at, opened_expression, node, run_to}
 use Rattle.plan_meaning.specs.State.{VisitState}
 use Rattle.meaning_laws.specs.Laws.{left_by}
 
@@ -47,7 +47,7 @@ module _ (Rel : (A : Type 0) → Run A → Run A → Type 0) (K : Kept Rel) wher
   known_kept A (Some a) = K.gives A a
   known_kept A None = K.wrongs A
 
-  pub given_kept : (g : Given) → Rel Value (given g) (given g)
+  pub given_kept : (g : Given) → Rel Value (given_value g) (given_value g)
   given_kept (gives v) = K.gives Value v
   given_kept (raises x) = K.stops Value (Raised x)
   given_kept unfit = K.wrongs Value
@@ -56,8 +56,8 @@ module _ (Rel : (A : Type 0) → Run A → Run A → Type 0) (K : Kept Rel) wher
   cond_kept A true p p' q q' h k = h
   cond_kept A false p p' q q' h k = k
 
-  pub weighed_kept : (v : Value) → Rel Value (weighed v) (weighed v)
-  unfolding weighed
+  pub weighed_kept : (v : Value) → Rel Value (weighed_value v) (weighed_value v)
+  unfolding weighed_value
   weighed_kept v = cond_kept Value (is_too_large v) _ _ _ _ (K.stops Value (Raised too_large)) (K.binds _ _ _ _ _ _ (K.spends (weight v)) (λ _. K.gives Value v))
 
   pub whole_kept : (p q : Run Value) → Rel Value p q → Rel Value (whole p) (whole q)
@@ -73,8 +73,8 @@ module _ (Rel : (A : Type 0) → Run A → Run A → Type 0) (K : Kept Rel) wher
     unfolding values
     values_kept code seen env es = values_from_kept [] code seen env es
 
-    entered_kept : (code : Program) (at : ℕ) (args : List Value) → Rel Value (entered r code at args) (entered r' code at args)
-    unfolding entered
+    entered_kept : (code : Program) (at : ℕ) (args : List Value) → Rel Value (entered_function r code at args) (entered_function r' code at args)
+    unfolding entered_function
     entered_kept code at args =
         K.binds _ _ _ _ _ _ (known_kept _ (slice_get code.funs at)) (λ f. K.binds _ _ _ _ _ _ (known_kept _ (bound f.params args)) (λ env. runs code at env f.body))
 
@@ -82,8 +82,8 @@ module _ (Rel : (A : Type 0) → Run A → Run A → Type 0) (K : Kept Rel) wher
     applied_at_kept code (Some at) args = entered_kept code at args
     applied_at_kept code None args = K.wrongs Value
 
-    applied_kept : (code : Program) (seen : ℕ) (f : Name) (args : List Value) → Rel Value (applied r code seen f args) (applied r' code seen f args)
-    unfolding applied
+    applied_kept : (code : Program) (seen : ℕ) (f : Name) (args : List Value) → Rel Value (applied_function r code seen f args) (applied_function r' code seen f args)
+    unfolding applied_function
     applied_kept code seen f args = applied_at_kept code (place_of f (take seen code.funs)) args
 
     served_kept : (o : Option Svc) (code : Program) (seen : ℕ) (f : Name) (args : List Value) → Rel Value (served_or r o code seen f args) (served_or r' o code seen f args)
@@ -94,8 +94,8 @@ module _ (Rel : (A : Type 0) → Run A → Run A → Type 0) (K : Kept Rel) wher
     called_by_kept (Some p) code seen f args = given_kept (primitive p args)
     called_by_kept None code seen f args = served_kept (service_of f code.svcs) code seen f args
 
-    called_kept : (code : Program) (seen : ℕ) (f : Name) (args : List Value) → Rel Value (called r code seen f args) (called r' code seen f args)
-    unfolding called
+    called_kept : (code : Program) (seen : ℕ) (f : Name) (args : List Value) → Rel Value (called_name r code seen f args) (called_name r' code seen f args)
+    unfolding called_name
     called_kept code seen f args = called_by_kept (prim_of f) code seen f args
 
     call_kept : (code : Program) (seen : ℕ) (env : Env) (f : Name) (es : List Expr) → Rel Value (call r code seen env f es) (call r' code seen env f es)
@@ -106,8 +106,8 @@ module _ (Rel : (A : Type 0) → Run A → Run A → Type 0) (K : Kept Rel) wher
     unfolding tuple
     tuple_kept code seen env es = K.binds _ _ _ _ _ _ (values_kept code seen env es) (λ vs. K.gives Value _)
 
-    packed_kept : (code : Program) (seen : ℕ) (env : Env) (f : Name) (es : List Expr) → Rel Value (packed r code seen env f es) (packed r' code seen env f es)
-    unfolding packed
+    packed_kept : (code : Program) (seen : ℕ) (env : Env) (f : Name) (es : List Expr) → Rel Value (packed_chunk r code seen env f es) (packed_chunk r' code seen env f es)
+    unfolding packed_chunk
     packed_kept code seen env f es = K.binds _ _ _ _ _ _ (values_kept code seen env es) (λ vs. K.gives Value _)
 
     choice_kept : (code : Program) (seen : ℕ) (env : Env) (t a b : Expr) → Rel Value (choice r code seen env t a b) (choice r' code seen env t a b)
@@ -145,7 +145,7 @@ module _ (Rel : (A : Type 0) → Run A → Run A → Type 0) (K : Kept Rel) wher
     unfolding selection
     selection_kept code seen env i a = K.binds _ _ _ _ _ _ (runs code seen env a) (λ v. given_kept (part i v))
 
-    handled_kept : (code : Program) (seen : ℕ) (env : Env) (ks : List Clause) (x : Exn) → Rel Value (handled r code seen env ks x) (handled r' code seen env ks x)
+    handled_kept : (code : Program) (seen : ℕ) (env : Env) (ks : List Clause) (x : Exn) → Rel Value (handled_exception r code seen env ks x) (handled_exception r' code seen env ks x)
     handled_kept code seen env [] x = K.stops Value (Raised x)
     handled_kept code seen env (k ∷ ks) x = cond_kept _ (catches k.name x) _ _ _ _ (runs code seen env k.body) (handled_kept code seen env ks x)
 
@@ -171,8 +171,8 @@ module _ (Rel : (A : Type 0) → Run A → Run A → Type 0) (K : Kept Rel) wher
     fold_right_kept code seen env f a l =
         K.binds _ _ _ _ _ _ (runs code seen env a) (λ acc. K.binds _ _ _ _ _ _ (runs code seen env l) (λ v. K.binds _ _ _ _ _ _ (known_kept _ (as_items v)) (λ xs. right_kept code seen f acc (reverse xs))))
 
-    pub visited_kept : (k : Chunk) → Rel Value (visited r k) (visited r' k)
-    unfolding visited
+    pub visited_kept : (k : Chunk) → Rel Value (visited_chunk r k) (visited_chunk r' k)
+    unfolding visited_chunk
     visited_kept k = applied_at_kept k.code (place_of k.entry k.code.funs) k.args
 
     evaluation_kept : (code : Program) (seen : ℕ) (env : Env) (a : Expr) → Rel Value (evaluation r code seen env a) (evaluation r' code seen env a)
@@ -223,7 +223,7 @@ module _ (Rel : (A : Type 0) → Run A → Run A → Type 0) (K : Kept Rel) wher
     opened_at_kept code seen env (Expr-F.Not a) = negation_kept code seen env a
     opened_at_kept code seen env (Expr-F.Binary o a b) = operation_kept code seen env o a b
     opened_at_kept code seen env (Expr-F.Part i a) = selection_kept code seen env i a
-    opened_at_kept code seen env (Expr-F.Raise x t) = K.stops Value (Raised (named x))
+    opened_at_kept code seen env (Expr-F.Raise x t) = K.stops Value (Raised (named_exception x))
     opened_at_kept code seen env (Expr-F.Try a ks) = attempt_kept code seen env a ks
     opened_at_kept code seen env (Expr-F.Foldl f a l) = fold_left_kept code seen env f a l
     opened_at_kept code seen env (Expr-F.Foldr f a l) = fold_right_kept code seen env f a l
@@ -232,8 +232,8 @@ module _ (Rel : (A : Type 0) → Run A → Run A → Type 0) (K : Kept Rel) wher
     opened_at_kept code seen env (Expr-F.OnRemote a h n route) = remote_kept code seen env a h n route
     opened_at_kept code seen env (Expr-F.OnNeighbor a h n d) = neighbour_kept code seen env a h n d
 
-    pub opened_kept : (code : Program) (seen : ℕ) (env : Env) (e : Expr) → Rel Value (opened r code seen env e) (opened r' code seen env e)
-    unfolding opened
+    pub opened_kept : (code : Program) (seen : ℕ) (env : Env) (e : Expr) → Rel Value (opened_expression r code seen env e) (opened_expression r' code seen env e)
+    unfolding opened_expression
     opened_kept code seen env e = opened_at_kept code seen env (out-Expr e)
 
     pub node_kept : (code : Program) (seen : ℕ) (env : Env) (e : Expr) → Rel Value (node r code seen env e) (node r' code seen env e)

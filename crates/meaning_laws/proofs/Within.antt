@@ -15,11 +15,11 @@ use Rattle.service_api.specs.declared.answer.Answer.TheVariants.{Gives, Raises}
 use Rattle.service_api.specs.declared.router.Hop.{Hop}
 use Rattle.service_api.specs.declared.router.Hop.TheVariants.{To, NoService, NoRoute}
 use Rattle.service_api.specs.Routes.{hop, default_route}
-use Rattle.service_api.specs.Services.{served}
+use Rattle.service_api.specs.Services.{served_call}
 use Rattle.plan_meaning.specs.declared.stop.EvalStop.TheVariants.{Raised, WorkSpent, Wrong, NoMemory}
 use Rattle.plan_meaning.specs.State.{VisitState}
-use Rattle.plan_meaning.specs.Run.{After, gave, stopped, RunStep, both, Run, «next», and_then, ◌>>=◌, ◌>>◌, quiet, otherwise, rescued, rescue, spend, whole, serve, answered}
-use Rattle.plan_meaning.specs.Meaning.{Env, Runs, pay_eval, no_bound, is_paid, bound_of, sent, sent_by, send_remote, is_next, not_neighbour, send_neighbour, node, run_to, meaning}
+use Rattle.plan_meaning.specs.Run.{After, gave, stopped, RunStep, both, Run, «next», and_then, ◌>>=◌, ◌>>◌, quiet, otherwise, rescued_step, rescue, spend, whole, serve, answered_call}
+use Rattle.plan_meaning.specs.Meaning.{Env, Runs, pay_eval, no_bound, is_paid, bound_of, sent_packet, sent_by, send_remote, is_next, not_neighbour, send_neighbour, node, run_to, meaning}
 use Rattle.meaning_laws.specs.Laws.{left_by}
 use Rattle.meaning_laws.proofs.Walk.{Kept, weighed_kept, opened_kept}
 
@@ -60,7 +60,7 @@ module _ (w : ℕ) where
   rescue_within p q f g h k s l =
       let first = h s l in
       let later = otherwise_within s (p s).after f g l first.falls k in
-      record { same = (λ i. record { after = (later.same i).after; asks = both (p s).asks (later.same i).asks }) ∙ ap (λ r. rescued r g) first.same; falls = later.falls }
+      record { same = (λ i. record { after = (later.same i).after; asks = both (p s).asks (later.same i).asks }) ∙ ap (λ r. rescued_step r g) first.same; falls = later.falls }
 
   choose : {A : Type 0} (s : VisitState) (b : Bool) (x y : RunStep A) → (left_by x.after).work ≤ s.work → (left_by y.after).work ≤ s.work → (left_by (if b then x else y).after).work ≤ s.work
   choose s true x y h k = h
@@ -92,16 +92,16 @@ module _ (w : ℕ) where
   neighbours : (k : Chunk) (h : Host) (n : ℤ) (d : Dev) → Within w (Unit {0}) (send_neighbour k h n d) (send_neighbour k h n d)
   unfolding send_neighbour
   neighbours k h n d s l =
-      itself s _ (choose s (is_paid n s.ctx.purse) (if is_next s d h then sent d k h (bound_of n) default_route s else quiet (stopped (Raised not_neighbour) s)) (quiet (stopped (Raised no_bound) s))
-      (choose s (is_next s d h) (sent d k h (bound_of n) default_route s) (quiet (stopped (Raised not_neighbour) s)) (same_work s.work) (same_work s.work)) (same_work s.work))
+      itself s _ (choose s (is_paid n s.ctx.purse) (if is_next s d h then sent_packet d k h (bound_of n) default_route s else quiet (stopped (Raised not_neighbour) s)) (quiet (stopped (Raised no_bound) s))
+      (choose s (is_next s d h) (sent_packet d k h (bound_of n) default_route s) (quiet (stopped (Raised not_neighbour) s)) (same_work s.work) (same_work s.work)) (same_work s.work))
 
-  served_falls : (s t : VisitState) → t.work ≤ s.work → (a : Answer) → (left_by (answered a t)).work ≤ s.work
+  served_falls : (s t : VisitState) → t.work ≤ s.work → (a : Answer) → (left_by (answered_call a t)).work ≤ s.work
   served_falls s t h (Gives v told) = h
   served_falls s t h (Raises x) = h
 
   serves : (d : Svc) (args : List Value) → Within w Value (serve d args) (serve d args)
   unfolding serve
-  serves d args s l = itself s _ (served_falls s _ (same_work s.work) (served s.services d args s.ctx).answer)
+  serves d args s l = itself s _ (served_falls s _ (same_work s.work) (served_call s.services d args s.ctx).answer)
 
   pub within_kept : Kept (Within w)
   within_kept = record {
@@ -159,6 +159,6 @@ deep_enough n code seen env e s l =
     let k = run_within (suc s.work) n (omega arith) code seen env e s (omega arith) in
     record { same = sym k.same; falls = subst (λ r. (left_by r.after).work ≤ s.work) k.same k.falls }
 
-pub fixed : (code : Program) (seen : ℕ) (env : Env) (e : Expr) (s : VisitState) → meaning code seen env e s ≡ node meaning code seen env e s
+pub meaning_is_fixed : (code : Program) (seen : ℕ) (env : Env) (e : Expr) (s : VisitState) → meaning code seen env e s ≡ node meaning code seen env e s
 unfolding meaning run_to
-fixed code seen env e s = (node_within s.work (run_to s.work) meaning (deep_enough s.work) code seen env e s (omega arith)).same
+meaning_is_fixed code seen env e s = (node_within s.work (run_to s.work) meaning (deep_enough s.work) code seen env e s (omega arith)).same

@@ -10,8 +10,8 @@ use Rattle.plan_meaning.specs.declared.outcome.Visit.{Visit}
 use Rattle.plan_meaning.specs.declared.stop.EvalStop.TheVariants as stop
 use Rattle.plan_meaning.specs.State.{VisitState}
 use Rattle.plan_meaning.specs.Run.{After, gave, stopped, RunStep, Run}
-use Rattle.plan_meaning.specs.Meaning.{meaning, visited}
-use Rattle.plan_meaning.specs.Visit.{IsVisit, begun, bounds}
+use Rattle.plan_meaning.specs.Meaning.{meaning, visited_chunk}
+use Rattle.plan_meaning.specs.Visit.{IsVisit, begun_state, bounds}
 
 -- the state that a run leaves
 abbrev pub left_by : {A : Type 0} → After A → VisitState
@@ -80,7 +80,7 @@ IsLonger p s = (k : ℕ) → ¬ IsSpent (p s).after → p (more k s) ≡ step_mo
 
 -- what the evaluation of a chunk ends with, with so much work to spend
 abbrev pub with_allowance : ℕ → Chunk → Ctx → Family → ServiceState → After Value
-with_allowance w k ctx family n = (visited meaning k (begun w ctx family n)).after
+with_allowance w k ctx family n = (visited_chunk meaning k (begun_state w ctx family n)).after
 
 -- with some allowance the visit ends by itself
 abbrev pub VisitEnds : Chunk → Ctx → Family → ServiceState → Type 0

@@ -19,7 +19,7 @@ ghost use Rattle.plan_meaning.specs.declared.outcome.Outcome.TheVariants as outc
 ghost use Rattle.plan_meaning.specs.declared.outcome.Visit.{Visit};
 ghost use Rattle.plan_meaning.specs.Visit.{IsVisit};
 ghost use Rattle.plan_meaning.specs.State.{VisitState};
-ghost use Rattle.plan_meaning.specs.Meaning.{Env, node, run_to, meaning, visited};
+ghost use Rattle.plan_meaning.specs.Meaning.{Env, node, run_to, meaning, visited_chunk};
 ghost use Rattle.plan_meaning.specs.Safe.{HasEnv, IsGoodState, Yields};
 ghost use Rattle.meaning_laws.specs.Laws.{IsBalanced, IsSteady, HasGrown, IsLonger, EndsFrom, VisitsAlike, NoneSuffices, left_by};
 
@@ -31,32 +31,32 @@ pub fn fixed()
 
 /// A visit may be cut off at any depth above its work.
 pub fn depth()
-    ensures { (n : ℕ) (k : Chunk) (s : VisitState) → s.work < n → visited (run_to n) k s ≡ visited meaning k s }
+    ensures { (n : ℕ) (k : Chunk) (s : VisitState) → s.work < n → visited_chunk (run_to n) k s ≡ visited_chunk meaning k s }
 {}
 
 /// Purse, evals paid and the bounds of the packets sent keep their sum, in each expression and each visit, however it ends.
 pub fn balance()
     ensures parts { (code : Program) (seen : ℕ) (env : Env) (e : Expr) (s : VisitState) → IsBalanced (meaning code seen env e) s }
-    ensures visits { (k : Chunk) (s : VisitState) → IsBalanced (visited meaning k) s }
+    ensures visits { (k : Chunk) (s : VisitState) → IsBalanced (visited_chunk meaning k) s }
 {}
 
 /// The surroundings but for the purse, the family, the offer of the services and the rows at `begin` stay.
 pub fn steadiness()
     ensures parts { (code : Program) (seen : ℕ) (env : Env) (e : Expr) (s : VisitState) → IsSteady s (left_by (meaning code seen env e s).after) }
-    ensures visits { (k : Chunk) (s : VisitState) → IsSteady s (left_by (visited meaning k s).after) }
+    ensures visits { (k : Chunk) (s : VisitState) → IsSteady s (left_by (visited_chunk meaning k s).after) }
 {}
 
 /// The purse never rises, and evals, packets sent and notes only become more, in each expression and each visit, however it
 /// ends: what was done before an exception stays.
 pub fn growth()
     ensures parts { (code : Program) (seen : ℕ) (env : Env) (e : Expr) (s : VisitState) → HasGrown s (left_by (meaning code seen env e s).after) }
-    ensures visits { (k : Chunk) (s : VisitState) → HasGrown s (left_by (visited meaning k s).after) }
+    ensures visits { (k : Chunk) (s : VisitState) → HasGrown s (left_by (visited_chunk meaning k s).after) }
 {}
 
 /// Where an allowance of work isn't spent, a greater one gives the same with so much more work left.
 pub fn allowance()
     ensures parts { (code : Program) (seen : ℕ) (env : Env) (e : Expr) (s : VisitState) → IsLonger (meaning code seen env e) s }
-    ensures visits { (k : Chunk) (s : VisitState) → IsLonger (visited meaning k) s }
+    ensures visits { (k : Chunk) (s : VisitState) → IsLonger (visited_chunk meaning k) s }
 {}
 
 /// From a good state a typed expression of well-formed code never is without a case. Its value has its type, is well formed
@@ -64,14 +64,14 @@ pub fn allowance()
 /// notes and the rows is such too. So does a typed, well-formed chunk, at its entry's result type.
 pub fn soundness()
     ensures parts { (code : Program) (seen : ℕ) (c : List Param) (env : Env) (e : Expr) (t : Ty) → Typed code → IsWellFormedProgram code → HasTy code seen c e t → IsWellFormedExpr e → HasEnv c env → Yields (IsGoodValue t) (meaning code seen env e) }
-    ensures visits { (k : Chunk) (at : ℕ) (d : Fun) → IsGoodChunk k → place_of k.entry k.code.funs ≡ Some at → slice_get k.code.funs at ≡ Some d → Yields (IsGoodValue d.result) (visited meaning k) }
+    ensures visits { (k : Chunk) (at : ℕ) (d : Fun) → IsGoodChunk k → place_of k.entry k.code.funs ≡ Some at → slice_get k.code.funs at ≡ Some d → Yields (IsGoodValue d.result) (visited_chunk meaning k) }
 {}
 
 /// From a good state a typed expression of well-formed code ends by itself: some allowance of work suffices. So does the visit
 /// of a typed, well-formed chunk.
 pub fn endings()
     ensures parts { (code : Program) (seen : ℕ) (c : List Param) (env : Env) (e : Expr) (t : Ty) → Typed code → IsWellFormedProgram code → HasTy code seen c e t → IsWellFormedExpr e → HasEnv c env → (s : VisitState) → IsGoodState s → EndsFrom (meaning code seen env e) s }
-    ensures visits { (k : Chunk) → IsGoodChunk k → (s : VisitState) → IsGoodState s → EndsFrom (visited meaning k) s }
+    ensures visits { (k : Chunk) → IsGoodChunk k → (s : VisitState) → IsGoodState s → EndsFrom (visited_chunk meaning k) s }
 {}
 
 /// Visits with different allowances: any two that suffice give the same outcome, effects and work, and a visit's work is spent

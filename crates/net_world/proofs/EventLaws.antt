@@ -30,8 +30,8 @@ module _ {S : Type 0} (stands : S → ServiceState) where
   as_event a b lines n e h = subst (λ x. IsActed stands x lines n) (sym e) h
 
   -- the nodes, lent
-  pub placed : (n : Network S) (w : WorldState) (lent : List (Node S)) → NetworkStands stands n w → lent ≡ n.nodes.items → AllStand stands lent w.nodes
-  placed n w lent h e = subst (λ x. AllStand stands x w.nodes) (sym e) h.nodes
+  pub lent_nodes_stand : (n : Network S) (w : WorldState) (lent : List (Node S)) → NetworkStands stands n w → lent ≡ n.nodes.items → AllStand stands lent w.nodes
+  lent_nodes_stand n w lent h e = subst (λ x. AllStand stands x w.nodes) (sym e) h.nodes
 
   -- ---- a step of one node
 
@@ -110,9 +110,9 @@ module _ {S : Type 0} (stands : S → ServiceState) where
     pub no_room_sends : (at : ℕ) (to : LinkEnd) → Some at ≡ place_of w.nodes host → Some to ≡ far_end old.links host d → 4096 ≤ length old.wire → lines ≡ Nothing ∷ [] → IsActed stands (sends w host d) lines old
     no_room_sends at to e f r l = as_event _ (nothing w) lines old (over_end at to e f ∙ no_room w host d at to (full (length w.wire) (subst (λ x. 4096 ≤ length x) h.wire r))) (nothing_happens old w lines h l)
 
-    taken : (at : ℕ) (to : LinkEnd) (acts : Acts) (nodes : List (Node S)) → Some at ≡ place_of w.nodes host → Some to ≡ far_end old.links host d → length old.wire < 4096
+    taken_frame_sent : (at : ℕ) (to : LinkEnd) (acts : Acts) (nodes : List (Node S)) → Some at ≡ place_of w.nodes host → Some to ≡ far_end old.links host d → length old.wire < 4096
         → (s : StepsAt stands (λ node. take_step node d) w.nodes at acts nodes) → sends w host d ≡ send_taken w host d at to (take_step s.node d) (take_step s.node d).frame
-    taken at to acts nodes e f r s = over_end at to e f ∙ some_room w host d at to s.node (roomy (length w.wire) (subst (λ x. length x < 4096) h.wire r)) s.there
+    taken_frame_sent at to acts nodes e f r s = over_end at to e f ∙ some_room w host d at to s.node (roomy (length w.wire) (subst (λ x. length x < 4096) h.wire r)) s.there
 
     none_taken : (at : ℕ) (to : LinkEnd) (step : NodeStep) (o : Option PlainStamped) → o ≡ None → send_taken w host d at to step o ≡ nothing w
     unfolding send_taken
@@ -136,7 +136,7 @@ module _ {S : Type 0} (stands : S → ServiceState) where
         → StepsAt stands (λ node. take_step node d) w.nodes at acts nodes → acts.frame ≡ None → AllStand stands nodes w.nodes → lines ≡ Nothing ∷ []
         → new.nodes.items ≡ nodes → new.links ≡ old.links → new.wire ≡ old.wire → new.«next» ≡ old.«next» → new.made ≡ old.made → new.version ≡ old.version → IsActed stands (sends w host d) lines new
     none_sent new at to acts nodes e f r s none same l a b c g m v =
-        as_event _ (nothing w) lines new (taken at to acts nodes e f r s ∙ none_taken at to (take_step s.node d) (take_step s.node d).frame (sym s.frame ∙ none)) (record {
+        as_event _ (nothing w) lines new (taken_frame_sent at to acts nodes e f r s ∙ none_taken at to (take_step s.node d) (take_step s.node d).frame (sym s.frame ∙ none)) (record {
           list = l;
           network = record { nodes = subst (λ x. AllStand stands x w.nodes) (sym a) same; links = b ∙ h.links; wire = c ∙ h.wire; next = g ∙ h.next; made = m ∙ h.made; version = v ∙ h.version };
         })
@@ -146,7 +146,7 @@ module _ {S : Type 0} (stands : S → ServiceState) where
         → new.nodes.items ≡ nodes → new.links ≡ old.links → new.wire ≡ old.wire ++ record { number = old.«next»; from = record { host = host; dev = d }; to = to; frame = x; handed = false } ∷ []
         → new.«next» ≡ old.«next» + 1 → new.made ≡ old.made → new.version ≡ old.version → IsActed stands (sends w host d) lines new
     one_sent new at to acts nodes x e f r s some l a b c g m v =
-        as_event _ _ lines new (taken at to acts nodes e f r s ∙ some_taken at to (take_step s.node d) (take_step s.node d).frame x (sym s.frame ∙ some)) (record {
+        as_event _ _ lines new (taken_frame_sent at to acts nodes e f r s ∙ some_taken at to (take_step s.node d) (take_step s.node d).frame x (sym s.frame ∙ some)) (record {
           list = l ∙ (λ i. lines_at host (s.list i) ++ Wire (h.next i) (stamped_bytes x) ∷ []);
           network = record {
             nodes = subst (λ y. AllStand stands y (slice_set w.nodes at (take_step s.node d).node)) (sym a) s.after;

@@ -21,7 +21,7 @@ use Rattle.world_model.specs.declared.lines.Line.{Line}
 use Rattle.world_model.specs.declared.lines.Entry.{Entry}
 use Rattle.world_model.specs.World.{WorldState, happens, entry_at, entries, world_after, history_of, opening}
 use Rattle.world_model.specs.Texts.{entry_text, entries_text, trace_text, ledger_text, run_text}
-use Rattle.world_model.specs.Counts.{line_left, line_sum, left, is_late, Balanced, IsBounded, IsGranted}
+use Rattle.world_model.specs.Counts.{line_left, line_sum, left_sum, is_late, Balanced, IsBounded, IsGranted}
 use Rattle.world_model.specs.Sound.{IsSound, event_fits, EventsFit}
 use Rattle.world_model.specs.Visits.{EndsWell, visits_after}
 use Rattle.network_laws.proofs.Fitting.{run_sound, run_version}
@@ -211,7 +211,7 @@ fits_as rows late now lines own l e h = subst (λ b. LinesFit b rows lines) (sym
 -- what an event's lines leave, as they are counted
 pub leaves_as : (h : List Entry) (w : WorldState) (e : WorldEvent) (late : Bool) (n : ℕ) (lines : List Line) → late ≡ is_late w e → map (entry_at n) lines ≡ entries w e → lines ≡ (happens w e).lines → AllLeave h w e → Leaves late h n lines
 leaves_as h w e late n lines l own is all f =
-    ap (λ x. left f (h ++ x)) own ∙ all f ∙ (λ i. left f h + line_sum (line_left f (sym l i)) (sym is i))
+    ap (λ x. left_sum f (h ++ x)) own ∙ all f ∙ (λ i. left_sum f h + line_sum (line_left f (sym l i)) (sym is i))
 
 -- after each prefix of the events
 pub prefix_bounded : (s : Schedule) → KeepsRules s → (k : ℕ) (f : Family) → IsBounded f (history_of (take k s.events) (opening s.topology)) (world_after (take k s.events) (opening s.topology))

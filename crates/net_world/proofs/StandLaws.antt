@@ -25,7 +25,7 @@ use Rattle.node_model.specs.declared.acts.Act.{Act}
 use Rattle.node_model.specs.declared.acts.Acts.{Acts}
 use Rattle.node_model.specs.declared.acts.Lane.{Lane}
 use Rattle.node_model.specs.State.{NodeState, is_host}
-use Rattle.node_model.specs.Node.{NodeStep, stamped_step, arrived, arrive_step, inject_step, take_first, take_from, take_step}
+use Rattle.node_model.specs.Node.{NodeStep, stamped_step, arrived_read, arrive_step, inject_step, take_first, take_from, take_step}
 use Rattle.node_model.specs.Fits.{IsMarked}
 use Rattle.node_core.specs.declared.node.Node.{Node}
 use Rattle.node_core.specs.Stands.{NodeStands, IsStep}
@@ -91,7 +91,7 @@ marked_version Two (Some s) m = refl
 -- a frame of the node's version that arrives by its bytes
 by_bytes : (bytes : List ℕ) (x : PlainStamped) (node : NodeState) (d : Dev) → AcceptsBy (version_of x.stamp) bytes x → IsMarked node.version x.stamp → arrive_step node d bytes ≡ stamped_step node d x
 unfolding arrive_step
-by_bytes bytes x node d h m = ap (arrived node d) (accepted_by node.version bytes x (subst (λ v. AcceptsBy v bytes x) (marked_version node.version x.stamp m) h))
+by_bytes bytes x node d h m = ap (arrived_read node d) (accepted_by node.version bytes x (subst (λ v. AcceptsBy v bytes x) (marked_version node.version x.stamp m) h))
 
 -- ---- handlers
 
@@ -153,12 +153,12 @@ module _ {S : Type 0} (stands : S → ServiceState) where
     there : slice_get states at ≡ Some state
     is : NodeStands stands n state
 
-  found : (nodes : List (Node S)) (states : List NodeState) (at : ℕ) (n : Node S) → AllStand stands nodes states → slice_get nodes at ≡ Some n → Found n states at
-  found [] [] at n h e = cc
-  found [] (s ∷ ss) at n h e = absurd h
-  found (m ∷ ns) [] at n h e = absurd h
-  found (m ∷ ns) (s ∷ ss) zero n h e = let same : m ≡ n = cc in record { state = s; there = refl; is = subst (λ x. NodeStands stands x s) same h.0 }
-  found (m ∷ ns) (s ∷ ss) (suc at) n h e = let f = found ns ss at n h.1 e in record { state = f.state; there = f.there; is = f.is }
+  node_is_found : (nodes : List (Node S)) (states : List NodeState) (at : ℕ) (n : Node S) → AllStand stands nodes states → slice_get nodes at ≡ Some n → Found n states at
+  node_is_found [] [] at n h e = cc
+  node_is_found [] (s ∷ ss) at n h e = absurd h
+  node_is_found (m ∷ ns) [] at n h e = absurd h
+  node_is_found (m ∷ ns) (s ∷ ss) zero n h e = let same : m ≡ n = cc in record { state = s; there = refl; is = subst (λ x. NodeStands stands x s) same h.0 }
+  node_is_found (m ∷ ns) (s ∷ ss) (suc at) n h e = let f = node_is_found ns ss at n h.1 e in record { state = f.state; there = f.there; is = f.is }
 
   with_one : (nodes : List (Node S)) (states : List NodeState) (at : ℕ) (n : Node S) (s : NodeState) → AllStand stands nodes states → NodeStands stands n s → AllStand stands (slice_set nodes at n) (slice_set states at s)
   with_one [] [] at n s h one = h
@@ -213,7 +213,7 @@ module _ {S : Type 0} (stands : S → ServiceState) where
       → ((s : NodeState) → slice_get states at ≡ Some s → NodeStands stands (get_or nodes at d) s → IfOk r (λ acts. IsStep stands (step s) acts after))
       → IfOk r (λ acts. StepsAt stands step states at acts (slice_set nodes at after))
   stepped_where step nodes at d after r states h a each =
-      let f = found nodes states at (get_or nodes at d) a (slice_get-get_or nodes at d h) in
+      let f = node_is_found nodes states at (get_or nodes at d) a (slice_get-get_or nodes at d h) in
       if_ok (λ acts. IsStep stands (step f.state) acts after) (λ acts. StepsAt stands step states at acts (slice_set nodes at after)) r
       (λ acts done. steps_at step nodes states at acts after (get_or nodes at d) a f done) (each f.state f.there f.is)
 
@@ -226,7 +226,7 @@ module _ {S : Type 0} (stands : S → ServiceState) where
   pub version_is : (nodes : List (Node S)) (states : List NodeState) (at : ℕ) (d : Node S) (s : NodeState) → at < length nodes → AllStand stands nodes states → slice_get states at ≡ Some s
       → (get_or nodes at d).version ≡ s.version
   version_is nodes states at d s h a e =
-      let f = found nodes states at (get_or nodes at d) a (slice_get-get_or nodes at d h) in
+      let f = node_is_found nodes states at (get_or nodes at d) a (slice_get-get_or nodes at d h) in
       let same : f.state ≡ s = some_state f.state s (sym f.there ∙ e) in
       f.is.version ∙ ap (λ (x : NodeState). x.version) same
     where
@@ -245,9 +245,9 @@ module _ {S : Type 0} (stands : S → ServiceState) where
       subst (λ v. IsMarked v x.frame.stamp) (sym (at_place (DevicesFit w.version) w.nodes at s e h.sound.devices).version) on.frame.mark
 
   -- an injection without a handler, where none may be named
-  pub unnamed : (node after : Node S) (s : NodeState) (chunk : Chunk) (bound : ℕ) (handler : Option Name) (r : Result Acts NoMemory) → node.version ≡ One → NodeStands stands node s → MayName s.version chunk handler
+  pub unnamed_handler_steps : (node after : Node S) (s : NodeState) (chunk : Chunk) (bound : ℕ) (handler : Option Name) (r : Result Acts NoMemory) → node.version ≡ One → NodeStands stands node s → MayName s.version chunk handler
       → IfOk r (λ acts. IsStep stands (inject_step [] s chunk bound None) acts after) → IfOk r (λ acts. IsStep stands (inject_step [] s chunk bound handler) acts after)
-  unnamed node after s chunk bound handler r v n m done =
+  unnamed_handler_steps node after s chunk bound handler r v n m done =
       let none : handler ≡ None = none_named s.version chunk handler (sym n.version ∙ v) m in
       subst (λ o. IfOk r (λ acts. IsStep stands (inject_step [] s chunk bound o) acts after)) (sym none) done
 

@@ -59,7 +59,7 @@ pub fn forged_lines(
     version: Version,
     bytes: &[u8],
 ) -> Result<Lines, NoMemory>
-    ensures { IfOk result (λ lines. lines ≡ spec.forged host (read_by version bytes.now)) }
+    ensures { IfOk result (λ lines. lines ≡ spec.forged_lines host (read_by version bytes.now)) }
 {
     match read_as(alloc, bytes, version, None) {
         Ok(stamped) => lines_of(alloc, host, &stamped.frame),

@@ -202,7 +202,8 @@ impl<S: Services> Network<S> {
         requires fits { event_fits self.old.version event.now }
         requires few { self.old.next < 2 ^ 32 - 1 }
         ensures ok { (w : WorldState) → WorldStands S.stands self.old w
-            → IfOk result (λ lines. IsActed S.stands (spec.acted w event.now) lines self.new) }
+            → IfOk result (λ lines. IsActed S.stands (spec.acted_event w event.now) lines
+            self.new) }
         ensures next { self.new.next ≤ self.old.next + 1 }
         ensures still { OnErr result (self.new.next ≡ self.old.next) }
         ensures made { self.new.made ≡ self.old.made }
@@ -244,7 +245,7 @@ impl<S: Services> Network<S> {
     }
 
     /// The number of events so far.
-    pub fn made(&self) -> u32
+    pub fn event_count(&self) -> u32
         ensures { result ≡ self.now.made }
     {
         self.made

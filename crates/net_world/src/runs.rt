@@ -57,7 +57,7 @@ fn make_event<S: Services>(
         → OnOk result (Stands (h ++ spec.entries w event.now) ledger.new) }
     ensures made { OnOk result (world.new.made ≡ world.old.made + 1) }
 {
-    let number = world.made() + 1;
+    let number = world.event_count() + 1;
     let late = world.is_late(event);
     let lines = world.step(alloc, event)?;
     count_lines(ledger, lines.as_slice(), late)?;

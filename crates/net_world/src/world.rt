@@ -73,10 +73,10 @@ impl<S: Services + Drop> World<S> {
 
 impl<S: Services> World<S> {
     /// The number of events so far. Takes no memory.
-    pub fn made(&self) -> u32
+    pub fn event_count(&self) -> u32
         ensures { result ≡ self.now.made }
     {
-        self.network.made()
+        self.network.event_count()
     }
 
     /// Whether an event would hand or lose a frame that was handed before. Takes no memory.

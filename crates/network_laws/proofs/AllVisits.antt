@@ -34,7 +34,7 @@ use Rattle.node_model.specs.State.{Links, Queues, NodeState, routing_of, is_host
 use Rattle.settled_visit.specs.declared.settling.Settled.{Settled}
 use Rattle.plan_base.specs.declared.ids.Family.{Family}
 use Rattle.node_model.specs.Visits.{visit_at, settled_at}
-use Rattle.node_model.specs.Node.{NodeStep, stepped, lane_room, mark, packet_sending, advert_sending, visit_sends, tick_sends, has_room, drop_act, send_act, send_queues, sends_acts, handled_acts, visit_acts, visited, next_serial, injected_packet, inject_step, forward_by, forward_step, packet_step, hearing, advert_step, frame_step, takes_as, stamped_as, stamped_step, arrived, arrive_step, next_tick, tick_step, take_first, take_from, take_step}
+use Rattle.node_model.specs.Node.{NodeStep, stepped_node, lane_room, mark, packet_sending, advert_sending, visit_sends, tick_sends, has_room, drop_act, send_act, send_queues, sends_acts, handled_acts, visit_acts, visit_step, next_serial, injected_packet, inject_step, forward_by, forward_step, packet_step, hearing, advert_step, frame_step, takes_as, stamped_as, stamped_step, arrived_read, arrive_step, next_tick, tick_step, take_first, take_from, take_step}
 use Rattle.node_model.specs.Counts.{act_sum}
 use Rattle.node_laws.proofs.CountLaws.{act_sum-nil, act_sum-cons, act_sum-append}
 use Rattle.world_model.specs.declared.lines.Line.{Line}
@@ -43,7 +43,7 @@ use Rattle.world_model.specs.declared.lines.LinkEnd.{LinkEnd}
 use Rattle.world_model.specs.declared.lines.Wired.{Wired}
 use Rattle.world_model.specs.declared.lines.Handing.{Handing}
 use Rattle.world_model.specs.declared.lines.Handing.TheVariants.{Taking, Leaving}
-use Rattle.world_model.specs.World.{WorldState, EventResult, nothing, lines_at, step_at, step_place, steps, none_before, forged_frame, forged, forged_at, send_taken, send_at, send_over, send_place, sends, place_of, far_end, wire_place, hand_line, hand_at, hand_to, hand_frame, hand_place, hands, lose_frame, lose_place, loses, happens}
+use Rattle.world_model.specs.World.{WorldState, EventResult, nothing, lines_at, step_at, step_place, steps, none_before, forged_frame, forged_lines, forged_at, send_taken, send_at, send_over, send_place, sends, place_of, far_end, wire_place, hand_line, hand_at, hand_to, hand_frame, hand_place, hands, lose_frame, lose_place, loses, happens}
 use Rattle.world_model.specs.Counts.{line_sum}
 use Rattle.world_model.specs.Visits.{Visiting, one_visit, frame_visits, visits_as, stamped_visits, read_visits, bytes_visits, chunk_visits, item_at, at_node, at_host, of_wired, delivered_visits, event_visits, act_ends, line_ends}
 use Rattle.network_laws.proofs.CountLaws.{line_sum-nil, line_sum-cons, line_sum-one, line_sum-append, line_sum-at}
@@ -111,14 +111,14 @@ visit_one m queues p left s =
 abbrev Ends : NodeStep → ℕ → Type 0
 Ends step n = act_sum act_ends step.acts ≡ n
 
-visited_one : (act : Act) (node : NodeState) (p : Packet) → act_ends act ≡ 0 → Ends (visited (act ∷ []) node p) 1
-unfolding visited
+visited_one : (act : Act) (node : NodeState) (p : Packet) → act_ends act ≡ 0 → Ends (visit_step (act ∷ []) node p) 1
+unfolding visit_step
 visited_one act node p z =
     let left = (visit_at node p).left in
     let s = settled_at node p in
     omega (arith, act_sum-append act_ends (act ∷ []) (visit_acts (mark node) node.queues p left s), act_sum-cons act_ends act [], act_sum-nil act_ends, visit_one (mark node) node.queues p left s)
 
-two_none : (a b : Act) (node : NodeState) → act_ends a ≡ 0 → act_ends b ≡ 0 → Ends (stepped (a ∷ b ∷ []) None node) 0
+two_none : (a b : Act) (node : NodeState) → act_ends a ≡ 0 → act_ends b ≡ 0 → Ends (stepped_node (a ∷ b ∷ []) None node) 0
 two_none a b node x y = omega (arith, act_sum-cons act_ends a (b ∷ []), act_sum-cons act_ends b [], act_sum-nil act_ends)
 
 step_cases : (t : Bool) (a b : NodeStep) (n m : ℕ) → Ends a n → Ends b m → Ends (cond t a b) (cond t n m)
@@ -172,7 +172,7 @@ stamped_ends : (node : NodeState) (d : Dev) (x : PlainStamped) → Ends (stamped
 unfolding stamped_step stamped_visits
 stamped_ends node d x = as_ends node d x (takes_as node.seen d x.stamp)
 
-arrived_ends : (node : NodeState) (d : Dev) (r : Result PlainStamped FrameFault) → Ends (arrived node d r) (length (read_visits d r node))
+arrived_ends : (node : NodeState) (d : Dev) (r : Result PlainStamped FrameFault) → Ends (arrived_read node d r) (length (read_visits d r node))
 arrived_ends node d (Ok x) = stamped_ends node d x
 arrived_ends node d (Err e) = two_none (Arrived d) (Bad e) node refl refl
 
@@ -180,7 +180,7 @@ arrive_ends : (node : NodeState) (d : Dev) (bytes : List ℕ) → Ends (arrive_s
 unfolding arrive_step
 arrive_ends node d bytes = arrived_ends node d (read_by node.version bytes)
 
-spent_none : (node : NodeState) → Ends (stepped (SerialsSpent ∷ []) None node) 0
+spent_none : (node : NodeState) → Ends (stepped_node (SerialsSpent ∷ []) None node) 0
 spent_none node = omega (arith, act_sum-cons act_ends SerialsSpent [], act_sum-nil act_ends)
 
 inject_ends : (node : NodeState) (chunk : Chunk) (bound : ℕ) (handler : Option Name) → Ends (inject_step [] node chunk bound handler) (length (chunk_visits chunk bound handler node))
@@ -225,7 +225,7 @@ frame_none h (PlainFrame.Packet p) = line_sum-one line_ends (Forged h p.family p
 frame_none h (PlainFrame.Advert a) = line_sum-nil line_ends
 frame_none h (PlainFrame.Ask bound chunk) = line_sum-nil line_ends
 
-forged_none : (h : Host) (r : Result PlainStamped FrameFault) → line_sum line_ends (forged h r) ≡ 0
+forged_none : (h : Host) (r : Result PlainStamped FrameFault) → line_sum line_ends (forged_lines h r) ≡ 0
 forged_none h (Ok x) = frame_none h x.frame
 forged_none h (Err e) = line_sum-nil line_ends
 

@@ -32,8 +32,8 @@ use Rattle.world_model.specs.declared.lines.LinkEnd.{LinkEnd}
 use Rattle.world_model.specs.declared.lines.Wired.{Wired}
 use Rattle.world_model.specs.declared.lines.Handing.{Handing}
 use Rattle.world_model.specs.declared.lines.Handing.TheVariants.{Taking, Leaving}
-use Rattle.world_model.specs.World.{WorldState, EventResult, nothing, lines_at, step_at, step_place, steps, none_before, injects, ticks, forged_frame, forged, forged_at, raws, send_taken, send_at, send_over, send_place, sends, place_of, far_end, wire_place, hand_line, as_handed, wire_after, hand_at, hand_to, hand_frame, hand_place, hands, lose_frame, lose_place, loses, acted, happens, opening_node, opening}
-use Rattle.world_model.specs.Counts.{line_granted, line_hops, line_evals, line_left, line_sum, nodes_sum, wire_sum, unhanded, unhanded_sum, live, late_frame, late_at, is_late, EventInBalance}
+use Rattle.world_model.specs.World.{WorldState, EventResult, nothing, lines_at, step_at, step_place, steps, none_before, injects, ticks, forged_frame, forged_lines, forged_at, raws, send_taken, send_at, send_over, send_place, sends, place_of, far_end, wire_place, hand_line, as_handed, wire_after, hand_at, hand_to, hand_frame, hand_place, hands, lose_frame, lose_place, loses, acted_event, happens, opening_node, opening}
+use Rattle.world_model.specs.Counts.{line_granted, line_hops, line_evals, line_left, line_sum, nodes_sum, wire_sum, unhanded_count, unhanded_sum, live, late_frame, late_at, is_late, EventInBalance}
 use Rattle.world_model.specs.Sound.{IsSound, node_of, takes_at, is_fresh_at, IsStaleAt}
 use Rattle.network_laws.proofs.CountLaws.{line_sum-nil, line_sum-cons, line_sum-one, line_sum-append, line_sum-at, nodes_sum-nil, nodes_sum-cons, nodes_sum-set, wire_sum-nil, unhanded_sum-nil, unhanded_sum-push, unhanded_sum-remove, unhanded_sum-set}
 use Rattle.network_laws.proofs.Places.{first_of_host}
@@ -236,7 +236,7 @@ module _ (f : Family) where
   all_of (Ok x) = frame_live f x.frame
   all_of (Err e) = 0
 
-  forged_begins : (h : Host) (r : Result PlainStamped FrameFault) → Begins f false (forged h r) (all_of r)
+  forged_begins : (h : Host) (r : Result PlainStamped FrameFault) → Begins f false (forged_lines h r) (all_of r)
   forged_begins h (Ok x) = frame_forged h x.frame
   forged_begins h (Err e) = no_lines f false
 
@@ -273,7 +273,7 @@ module _ (f : Family) where
   live_is false t n h = both_parts t n
 
   wire_falls : (how : Handing) (wire : List Wired) (place : ℕ) (x : Wired) → slice_get wire place ≡ Some x
-      → unhanded_sum (frame_live f) (wire_after how wire place x) + unhanded (frame_live f) x ≡ unhanded_sum (frame_live f) wire
+      → unhanded_sum (frame_live f) (wire_after how wire place x) + unhanded_count (frame_live f) x ≡ unhanded_sum (frame_live f) wire
   wire_falls Taking wire place x e = unhanded_sum-remove (frame_live f) wire place x e
   wire_falls Leaving wire place x e = omega (arith, unhanded_sum-set (frame_live f) wire place x (as_handed x) e)
 
@@ -365,7 +365,7 @@ module _ (f : Family) where
   unfolding loses
   loses_balance w number = lose_place_balances w (wire_place w.wire number)
 
-  acted_balance : (w : WorldState) (e : WorldEvent) → IsSound w → EventInBalance f (is_late w e) w (acted w e)
+  acted_balance : (w : WorldState) (e : WorldEvent) → IsSound w → EventInBalance f (is_late w e) w (acted_event w e)
   acted_balance w (Inject h chunk bound handler) s = injects_balance f false w h chunk bound handler
   acted_balance w (Send h d) s = sends_balance f false w h d
   acted_balance w (Deliver number) s = hands_balance w Taking number s

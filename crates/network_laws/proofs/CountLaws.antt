@@ -13,7 +13,7 @@ use Rattle.world_model.specs.declared.lines.Line.TheVariants.{At}
 use Rattle.world_model.specs.declared.lines.Entry.{Entry}
 use Rattle.world_model.specs.declared.lines.Wired.{Wired}
 use Rattle.world_model.specs.World.{entry_at, lines_at}
-use Rattle.world_model.specs.Counts.{line_sum, tally, nodes_sum, wire_sum, unhanded, unhanded_sum}
+use Rattle.world_model.specs.Counts.{line_sum, tally, nodes_sum, wire_sum, unhanded_count, unhanded_sum}
 
 pub line_sum-nil : (c : Line → ℕ) → line_sum c [] ≡ 0
 unfolding line_sum
@@ -105,20 +105,20 @@ module _ (count : PlainFrame → ℕ) where
   unfolding unhanded_sum
   unhanded_sum-nil = refl
 
-  pub unhanded_sum-push : (wire : List Wired) (x : Wired) → unhanded_sum count (wire ++ x ∷ []) ≡ unhanded_sum count wire + unhanded count x
+  pub unhanded_sum-push : (wire : List Wired) (x : Wired) → unhanded_sum count (wire ++ x ∷ []) ≡ unhanded_sum count wire + unhanded_count count x
   unfolding unhanded_sum
-  unhanded_sum-push wire x = sum_by_push (unhanded count) wire x
+  unhanded_sum-push wire x = sum_by_push (unhanded_count count) wire x
 
-  pub unhanded_sum-remove : (wire : List Wired) (at : ℕ) (x : Wired) → slice_get wire at ≡ Some x → unhanded_sum count (remove wire at) + unhanded count x ≡ unhanded_sum count wire
+  pub unhanded_sum-remove : (wire : List Wired) (at : ℕ) (x : Wired) → slice_get wire at ≡ Some x → unhanded_sum count (remove wire at) + unhanded_count count x ≡ unhanded_sum count wire
   unfolding unhanded_sum
   unhanded_sum-remove wire at x e =
       let here = get_or_from_slice_get wire at x x e in
-      let law = sum_by-remove (unhanded count) wire at x (slice_get_within wire at x e) in
-      omega (arith, ap (unhanded count) here)
+      let law = sum_by-remove (unhanded_count count) wire at x (slice_get_within wire at x e) in
+      omega (arith, ap (unhanded_count count) here)
 
-  pub unhanded_sum-set : (wire : List Wired) (at : ℕ) (old new : Wired) → slice_get wire at ≡ Some old → unhanded_sum count (slice_set wire at new) + unhanded count old ≡ unhanded_sum count wire + unhanded count new
+  pub unhanded_sum-set : (wire : List Wired) (at : ℕ) (old new : Wired) → slice_get wire at ≡ Some old → unhanded_sum count (slice_set wire at new) + unhanded_count count old ≡ unhanded_sum count wire + unhanded_count count new
   unfolding unhanded_sum
   unhanded_sum-set wire at old new e =
       let here = get_or_from_slice_get wire at old old e in
-      let law = sum_by-set (unhanded count) wire at new old (slice_get_within wire at old e) in
-      omega (arith, ap (unhanded count) here)
+      let law = sum_by-set (unhanded_count count) wire at new old (slice_get_within wire at old e) in
+      omega (arith, ap (unhanded_count count) here)

@@ -33,7 +33,7 @@ use Rattle.world_model.specs.declared.lines.LinkEnd.{LinkEnd}
 use Rattle.world_model.specs.declared.lines.Wired.{Wired}
 use Rattle.world_model.specs.declared.lines.Handing.{Handing}
 use Rattle.world_model.specs.declared.lines.Handing.TheVariants.{Taking, Leaving}
-use Rattle.world_model.specs.World.{Cables, WorldState, EventResult, nothing, step_at, step_place, steps, none_before, injects, ticks, forged_at, raws, send_taken, send_at, send_over, send_place, sends, place_of, is_on, has_end, other_end, peer_at, peer_of, far_end, wire_place, as_handed, wire_after, hand_at, hand_to, hand_frame, hand_place, hands, lose_frame, lose_place, loses, acted, happens, world_after}
+use Rattle.world_model.specs.World.{Cables, WorldState, EventResult, nothing, step_at, step_place, steps, none_before, injects, ticks, forged_at, raws, send_taken, send_at, send_over, send_place, sends, place_of, is_on, has_end, other_end, peer_at, peer_of, far_end, wire_place, as_handed, wire_after, hand_at, hand_to, hand_frame, hand_place, hands, lose_frame, lose_place, loses, acted_event, happens, world_after}
 use Rattle.world_model.specs.Sound.{WiredFits, Rise, DevicesFit, number_of, node_of, takes_at, is_fresh_at, IsStaleAt, LinkFits, IsSound, event_fits, EventsFit}
 
 -- ---- lists
@@ -348,7 +348,7 @@ loses_fit : (w : WorldState) (number : ℕ) → IsSound w → EventFits w (loses
 unfolding loses
 loses_fit w number s = lose_place_fits w (wire_place w.wire number) s
 
-acted_fits : (w : WorldState) (e : WorldEvent) → event_fits w.version e → IsSound w → EventFits w (acted w e)
+acted_fits : (w : WorldState) (e : WorldEvent) → event_fits w.version e → IsSound w → EventFits w (acted_event w e)
 acted_fits w (Inject h chunk bound handler) b s = injects_fit w h chunk bound handler b s
 acted_fits w (Send h d) b s = sends_fit w h d s
 acted_fits w (Deliver number) b s = hands_fit w Taking number (λ l. absurd (never l)) s

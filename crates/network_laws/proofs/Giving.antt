@@ -39,8 +39,8 @@ use Rattle.world_model.specs.declared.lines.Entry.{Entry}
 use Rattle.world_model.specs.declared.lines.Wired.{Wired}
 use Rattle.world_model.specs.declared.lines.Handing.{Handing}
 use Rattle.world_model.specs.declared.lines.Handing.TheVariants.{Taking, Leaving}
-use Rattle.world_model.specs.World.{WorldState, EventResult, nothing, lines_at, step_at, step_place, steps, none_before, forged_frame, forged, forged_at, send_taken, send_at, send_over, send_place, sends, place_of, far_end, wire_place, hand_line, as_handed, wire_after, hand_at, hand_to, hand_frame, hand_place, hands, lose_frame, lose_place, loses, acted, happens, entries, world_after, history_of, opening_node, opening}
-use Rattle.world_model.specs.Counts.{line_sum, line_granted, line_injections, line_forged, granted, injections, forgeries, nodes_sum, wire_sum, packets, IsBounded, IsGranted}
+use Rattle.world_model.specs.World.{WorldState, EventResult, nothing, lines_at, step_at, step_place, steps, none_before, forged_frame, forged_lines, forged_at, send_taken, send_at, send_over, send_place, sends, place_of, far_end, wire_place, hand_line, as_handed, wire_after, hand_at, hand_to, hand_frame, hand_place, hands, lose_frame, lose_place, loses, acted_event, happens, entries, world_after, history_of, opening_node, opening}
+use Rattle.world_model.specs.Counts.{line_sum, line_granted, line_injections, line_forged, granted_sum, injections, forgeries, nodes_sum, wire_sum, packets, IsBounded, IsGranted}
 use Rattle.world_model.specs.Sound.{event_fits, EventsFit}
 use Rattle.network_laws.proofs.CountLaws.{line_sum-nil, line_sum-cons, line_sum-one, line_sum-append, line_sum-at, tally-nil, tally-append, tally-entries, nodes_sum-set, wire_sum-push, wire_sum-remove, wire_sum-set}
 use Rattle.network_laws.proofs.Balance.{opening_frames}
@@ -142,7 +142,7 @@ module _ (f : Family) where
   frame_begins h (PlainFrame.Advert a) t = no_lines
   frame_begins h (PlainFrame.Ask bound chunk) t = no_lines
 
-  forged_begins : (h : Host) (v : Version) (bytes : List ℕ) (r : Result PlainStamped FrameFault) → IsBytes bytes → read_by v bytes ≡ r → Begins (forged h r)
+  forged_begins : (h : Host) (v : Version) (bytes : List ℕ) (r : Result PlainStamped FrameFault) → IsBytes bytes → read_by v bytes ≡ r → Begins (forged_lines h r)
   forged_begins h v bytes (Ok x) b e = frame_begins h x.frame (taken_in bytes v x (found_by v bytes x b e))
   forged_begins h v bytes (Err x) b e = no_lines
 
@@ -242,7 +242,7 @@ module _ (f : Family) where
   unfolding loses
   loses_gives w number = lose_place_gives w (wire_place w.wire number)
 
-  acted_gives : (v : Version) (w : WorldState) (e : WorldEvent) → event_fits v e → EventGives w (acted w e)
+  acted_gives : (v : Version) (w : WorldState) (e : WorldEvent) → event_fits v e → EventGives w (acted_event w e)
   acted_gives v w (Inject h chunk bound handler) b = steps_give w h none_before (λ node. inject_step [] node chunk bound handler)
       (record { begins = λ node. no_lines; gives = λ node. inject_gives f node chunk bound handler b.0.0 })
   acted_gives v w (Send h d) b = sends_gives w h d
@@ -256,13 +256,13 @@ module _ (f : Family) where
   -- the same for a run
   record RunGives (history : List Entry) (old new : WorldState) : Type 0 where
     once : injections f history + may_give_all new.nodes ≤ may_give_all old.nodes
-    limit : granted f history ≤ 65535 * (injections f history + forgeries f history)
+    limit : granted_sum f history ≤ 65535 * (injections f history + forgeries f history)
 
   event_gives : (v : Version) (w : WorldState) (e : WorldEvent) → event_fits v e → RunGives (entries w e) w (happens w e).world
   unfolding entries
   event_gives v w e b =
       let g = acted_gives v w e b in
-      let lines = (acted w e).lines in
+      let lines = (acted_event w e).lines in
       let i = tally-entries (line_injections f) (w.made + 1) lines in
       record {
         once = omega (arith, g.once, i);
@@ -369,18 +369,18 @@ module _ (f : Family) where
 
   -- ---- an event that doesn't grant the family leaves a network without its packets so
 
-  abbrev ungranted : List Line → ℕ
-  ungranted lines = line_sum (line_injections f) lines + line_sum (line_forged f) lines
+  abbrev injected_or_forged : List Line → ℕ
+  injected_or_forged lines = line_sum (line_injections f) lines + line_sum (line_forged f) lines
 
   abbrev Leaves : WorldState → EventResult → Type 0
-  Leaves w h = ungranted h.lines ≡ 0 → packets f w ≡ 0 → packets f h.world ≡ 0
+  Leaves w h = injected_or_forged h.lines ≡ 0 → packets f w ≡ 0 → packets f h.world ≡ 0
 
   node_none : (nodes : List NodeState) (at : ℕ) (node : NodeState) → slice_get nodes at ≡ Some node → nodes_sum (frame_one f) nodes ≡ 0 → queues_sum (frame_one f) node.queues ≡ 0
   node_none nodes at node e q = omega (arith, nodes_sum-set (frame_one f) nodes at node (record node { queues = [] }) e, queues_sum-nil (frame_one f))
 
   -- what a step must leave, where its lines grant nothing
   abbrev StepLeaves : Host → List Line → NodeState → NodeStep → Type 0
-  StepLeaves h before node step = ungranted (before ++ lines_at h step.acts) ≡ 0 → queues_sum (frame_one f) node.queues ≡ 0 → queues_sum (frame_one f) step.node.queues ≡ 0
+  StepLeaves h before node step = injected_or_forged (before ++ lines_at h step.acts) ≡ 0 → queues_sum (frame_one f) node.queues ≡ 0 → queues_sum (frame_one f) step.node.queues ≡ 0
 
   step_at_leaves : (w : WorldState) (h : Host) (before : NodeState → List Line) (step : NodeState → NodeStep) (at : ℕ) (o : Option NodeState) → ((node : NodeState) → StepLeaves h (before node) node (step node)) → slice_get w.nodes at ≡ o
       → Leaves w (step_at w h before step at o)
@@ -410,7 +410,7 @@ module _ (f : Family) where
   frame_forged h (PlainFrame.Advert a) = line_sum-nil (line_forged f)
   frame_forged h (PlainFrame.Ask bound chunk) = line_sum-nil (line_forged f)
 
-  forged_one : (h : Host) (r : Result PlainStamped FrameFault) → line_sum (line_forged f) (forged h r) ≡ came_one f r
+  forged_one : (h : Host) (r : Result PlainStamped FrameFault) → line_sum (line_forged f) (forged_lines h r) ≡ came_one f r
   forged_one h (Ok x) = frame_forged h x.frame
   forged_one h (Err e) = line_sum-nil (line_forged f)
 
@@ -498,7 +498,7 @@ module _ (f : Family) where
   unfolding loses
   loses_leave w number q = lose_place_leaves w (wire_place w.wire number) q
 
-  acted_leaves : (w : WorldState) (e : WorldEvent) → Leaves w (acted w e)
+  acted_leaves : (w : WorldState) (e : WorldEvent) → Leaves w (acted_event w e)
   acted_leaves w (Inject h chunk bound handler) z q = steps_leave w h none_before (λ node. inject_step [] node chunk bound handler) (inject_leaves h chunk bound handler) z q
   acted_leaves w (Send h d) z q = sends_leave w h d q
   acted_leaves w (Deliver number) z q = hands_leave w Taking number q
@@ -507,9 +507,9 @@ module _ (f : Family) where
   acted_leaves w (Tick h) z q = steps_leave w h none_before tick_step (λ node y n. tick_adds f node n) z q
   acted_leaves w (Raw h d bytes) z q = steps_leave w h (forged_at h bytes) (λ node. arrive_step node d bytes) (raw_leaves h d bytes) z q
 
-  entries_none : (w : WorldState) (e : WorldEvent) → injections f (entries w e) + forgeries f (entries w e) ≡ 0 → ungranted (acted w e).lines ≡ 0
+  entries_none : (w : WorldState) (e : WorldEvent) → injections f (entries w e) + forgeries f (entries w e) ≡ 0 → injected_or_forged (acted_event w e).lines ≡ 0
   unfolding entries
-  entries_none w e z = omega (arith, tally-entries (line_injections f) (w.made + 1) (acted w e).lines, tally-entries (line_forged f) (w.made + 1) (acted w e).lines)
+  entries_none w e z = omega (arith, tally-entries (line_injections f) (w.made + 1) (acted_event w e).lines, tally-entries (line_forged f) (w.made + 1) (acted_event w e).lines)
 
   run_leaves : (es : List WorldEvent) (w : WorldState) → injections f (history_of es w) + forgeries f (history_of es w) ≡ 0 → packets f w ≡ 0 → packets f (world_after es w) ≡ 0
   unfolding history_of world_after

@@ -32,8 +32,8 @@ use Rattle.world_model.specs.declared.lines.Entry.{Entry}
 use Rattle.world_model.specs.declared.lines.Wired.{Wired}
 use Rattle.world_model.specs.declared.lines.Handing.{Handing}
 use Rattle.world_model.specs.declared.lines.Handing.TheVariants.{Taking, Leaving}
-use Rattle.world_model.specs.World.{WorldState, EventResult, nothing, lines_at, step_at, step_place, steps, none_before, forged_frame, forged, forged_at, send_taken, send_at, send_over, send_place, sends, place_of, far_end, wire_place, hand_line, as_handed, wire_after, hand_at, hand_to, hand_frame, hand_place, hands, lose_frame, lose_place, loses, acted, happens, entry_at, entries, world_after, history_of, opening}
-use Rattle.world_model.specs.Counts.{line_granted, line_hops, line_evals, line_left, line_sum, tally, granted, hops, evals, left, Past, no_past, was_handed, past_with, past_after, left_from, live, late_frame, late_at, is_late, EventInBalance, LeavesByWire, PastAgrees, Balanced}
+use Rattle.world_model.specs.World.{WorldState, EventResult, nothing, lines_at, step_at, step_place, steps, none_before, forged_frame, forged_lines, forged_at, send_taken, send_at, send_over, send_place, sends, place_of, far_end, wire_place, hand_line, as_handed, wire_after, hand_at, hand_to, hand_frame, hand_place, hands, lose_frame, lose_place, loses, acted_event, happens, entry_at, entries, world_after, history_of, opening}
+use Rattle.world_model.specs.Counts.{line_granted, line_hops, line_evals, line_left, line_sum, tally, granted_sum, hops, evals, left_sum, Past, no_past, was_handed, past_with, past_after, left_from, live, late_frame, late_at, is_late, EventInBalance, LeavesByWire, PastAgrees, Balanced}
 use Rattle.world_model.specs.Sound.{Rise, number_of, IsSound, event_fits, EventsFit}
 use Rattle.network_laws.proofs.CountLaws.{line_sum-nil, line_sum-cons, line_sum-append, line_sum-at, tally-nil, tally-append, tally-entries}
 use Rattle.network_laws.proofs.Balance.{stale_count, acts_left, event_balances, opening_live}
@@ -149,7 +149,7 @@ module _ (f : Family) (p : Past) where
 
   -- bytes from outside: a packet is told before, and nothing else counts
   raw_tells : (h : Host) (r : Result PlainStamped FrameFault) (node : NodeState) (d : Dev) (acts : List Act) (new : WorldState) → act_sum (act_stale f) acts ≡ bytes_stale f node d r → PastAgrees p new
-      → Tells f p false (record { lines = forged h r ++ lines_at h acts; world = new })
+      → Tells f p false (record { lines = forged_lines h r ++ lines_at h acts; world = new })
   raw_tells h (Err e) node d acts new z a = acts_tell f p false h acts new z a
   raw_tells h (Ok x) node d acts new z a = by x.frame refl
     where
@@ -336,7 +336,7 @@ module _ (f : Family) (p : Past) where
   unfolding loses
   loses_tell w number s a = lose_place_tells w (wire_place w.wire number) s a
 
-  acted_tells : (w : WorldState) (e : WorldEvent) → IsSound w → PastAgrees p w → Tells f p (is_late w e) (acted w e)
+  acted_tells : (w : WorldState) (e : WorldEvent) → IsSound w → PastAgrees p w → Tells f p (is_late w e) (acted_event w e)
   acted_tells w (Inject h chunk bound handler) s a = plain_steps w h (λ node. inject_step [] node chunk bound handler) (λ node. (inject_event_balances f node chunk bound handler).stale) a
   acted_tells w (Send h d) s a = sends_tell w h d a
   acted_tells w (Deliver number) s a = hands_tell w Taking number s a
@@ -352,13 +352,13 @@ event_left f p w e s a = (acted_tells f p w e s a).left (w.made + 1)
 
 pub event_agrees : (f : Family) (p : Past) (w : WorldState) (e : WorldEvent) → IsSound w → PastAgrees p w → PastAgrees (past_after p (entries w e)) (happens w e).world
 unfolding entries
-event_agrees f p w e s a = same_wire _ (acted w e).world _ refl refl ((acted_tells f p w e s a).past (w.made + 1))
+event_agrees f p w e s a = same_wire _ (acted_event w e).world _ refl refl ((acted_tells f p w e s a).past (w.made + 1))
 
 -- ---- runs
 
 -- a run behind some history
 record RunBalance (f : Family) (p : Past) (old : WorldState) (h : List Entry) (new : WorldState) : Type 0 where
-  law : granted f h + live f old ≡ hops f h + evals f h + live f new + left_from f p h
+  law : granted_sum f h + live f old ≡ hops f h + evals f h + live f new + left_from f p h
 
 run_balances : (f : Family) (es : List WorldEvent) (p : Past) (w : WorldState) → EventsFit w.version es → IsSound w → PastAgrees p w → RunBalance f p w (history_of es w) (world_after es w)
 unfolding history_of world_after left_from entries
@@ -416,7 +416,7 @@ module _ (t : Topology) (es : List WorldEvent) (k : KeepsNetwork t) (b : EventsF
   leaves_by_wire f e =
       let w = world_after es (opening t) in
       let h = history_of es (opening t) in
-      left_from-append f no_past h (entries w e) ∙ ap (λ n. left f h + n) (event_left f (past_after no_past h) w e (run_sound es (opening t) fits_there (opening_sound t k)) (agrees_behind f))
+      left_from-append f no_past h (entries w e) ∙ ap (λ n. left_sum f h + n) (event_left f (past_after no_past h) w e (run_sound es (opening t) fits_there (opening_sound t k)) (agrees_behind f))
 
 -- from the beginning on, each event leaves what its lines leave by the wire
 pub opening_leaves : (f : Family) (t : Topology) (es : List WorldEvent) (e : WorldEvent) → KeepsNetwork t → EventsFit t.version es → LeavesByWire f (history_of es (opening t)) (world_after es (opening t)) e

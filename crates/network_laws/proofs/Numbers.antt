@@ -14,7 +14,7 @@ use Rattle.node_model.specs.State.{Queues, NodeState, is_host}
 use Rattle.world_model.specs.declared.lines.Wired.{Wired}
 use Rattle.world_model.specs.declared.lines.Handing.{Handing}
 use Rattle.world_model.specs.declared.lines.Handing.TheVariants.{Taking, Leaving}
-use Rattle.world_model.specs.World.{WorldState, EventResult, nothing, step_at, step_place, steps, none_before, injects, ticks, forged_at, raws, send_taken, send_at, send_over, send_place, sends, place_of, far_end, wire_place, as_handed, wire_after, hand_at, hand_to, hand_frame, hand_place, hands, lose_frame, lose_place, loses, acted, happens}
+use Rattle.world_model.specs.World.{WorldState, EventResult, nothing, step_at, step_place, steps, none_before, injects, ticks, forged_at, raws, send_taken, send_at, send_over, send_place, sends, place_of, far_end, wire_place, as_handed, wire_after, hand_at, hand_to, hand_frame, hand_place, hands, lose_frame, lose_place, loses, acted_event, happens}
 use Rattle.world_model.specs.Sound.{node_of, is_from, from_numbers, sent_numbers, NumbersDiffer}
 use Rattle.world_model.specs.declared.lines.Line.{Line}
 use Rattle.world_model.specs.declared.lines.LinkEnd.{LinkEnd}
@@ -329,7 +329,7 @@ module _ (w : WorldState) (s : NumbersDiffer w.nodes w.wire) where
       by None = s
       by (Some place) = frame place (slice_get w.wire place)
 
-  acted_differs : (e : WorldEvent) → Differs (acted w e)
+  acted_differs : (e : WorldEvent) → Differs (acted_event w e)
   acted_differs (Inject h chunk bound handler) = steps_differ h none_before (λ node. inject_step [] node chunk bound handler)
       (record { here = λ node. (inject_stays node chunk bound handler).here; rises = λ node before d. inject_rises before d [] node chunk bound handler })
   acted_differs (Send h d) = sends_differ h d

@@ -19,7 +19,7 @@ use Rattle.link_window.specs.declared.window.Took.TheVariants.{Fresh, Repeated, 
 use Rattle.chunk_types.specs.Chunks.{IsCheckedChunk}
 use Rattle.service_api.specs.Services.{IsGood, IsGoodChunk, IsGoodNote, begun_now}
 use Rattle.plan_meaning.specs.Safe.{IsGoodSent, IsGoodState}
-use Rattle.plan_meaning.specs.Visit.{begun}
+use Rattle.plan_meaning.specs.Visit.{begun_state}
 use Rattle.meaning_laws.proofs.Allowances.{visit_can_end}
 use Rattle.network_plan.specs.declared.event.WorldEvent.{WorldEvent}
 use Rattle.network_plan.specs.declared.event.WorldEvent.TheVariants.{Inject, Send, Deliver, Repeat, Lose, Tick, Raw}
@@ -38,7 +38,7 @@ use Rattle.network_laws.proofs.Fitting.{node_there, wired_of, rest_fits, event_v
 -- ---- at a node
 
 module _ (node : NodeState) (p : Packet) (good : IsGood node.services) (near : length node.neighbours ≤ 8) where
-  good_start : IsGoodState (begun 0 (around node p) p.family (begun_now node.services))
+  good_start : IsGoodState (begun_state 0 (around node p) p.family (begun_now node.services))
   good_start = record {
     services = record { serve = good.serve; rows = good.rows };
     notes = All-nil IsGoodNote;

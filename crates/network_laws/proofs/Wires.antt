@@ -28,7 +28,7 @@ use Rattle.world_model.specs.declared.lines.Entry.{Entry}
 use Rattle.world_model.specs.declared.lines.Wired.{Wired}
 use Rattle.world_model.specs.declared.lines.Handing.{Handing}
 use Rattle.world_model.specs.declared.lines.Handing.TheVariants.{Taking, Leaving}
-use Rattle.world_model.specs.World.{Cables, WorldState, EventResult, nothing, lines_at, step_at, step_place, steps, none_before, forged_frame, forged, forged_at, send_taken, send_at, send_over, send_place, sends, place_of, far_end, wire_place, as_handed, wire_after, hand_at, hand_to, hand_frame, hand_place, hands, lose_frame, lose_place, loses, acted, happens, entry_at, entries, world_after, history_of, opening}
+use Rattle.world_model.specs.World.{Cables, WorldState, EventResult, nothing, lines_at, step_at, step_place, steps, none_before, forged_frame, forged_lines, forged_at, send_taken, send_at, send_over, send_place, sends, place_of, far_end, wire_place, as_handed, wire_after, hand_at, hand_to, hand_frame, hand_place, hands, lose_frame, lose_place, loses, acted_event, happens, entry_at, entries, world_after, history_of, opening}
 use Rattle.world_model.specs.Counts.{line_sum}
 use Rattle.world_model.specs.Wires.{one_if, line_sent, line_off, times_sent, times_off, on_wire, IsOnce, WireLeads}
 use Rattle.network_laws.proofs.CountLaws.{line_sum-nil, line_sum-cons, line_sum-one, line_sum-append, line_sum-at, tally-nil, tally-append, tally-entries}
@@ -122,7 +122,7 @@ module _ (n : ℕ) where
   frame_quiet h (PlainFrame.Advert a) = quiet_none
   frame_quiet h (PlainFrame.Ask bound chunk) = quiet_none
 
-  quiet_forged : (h : Host) (r : Result PlainStamped FrameFault) → Quiet (forged h r)
+  quiet_forged : (h : Host) (r : Result PlainStamped FrameFault) → Quiet (forged_lines h r)
   quiet_forged h (Ok x) = frame_quiet h x.frame
   quiet_forged h (Err e) = quiet_none
 
@@ -230,7 +230,7 @@ module _ (n : ℕ) where
   unfolding loses
   loses_move w number = lose_place_moves w (wire_place w.wire number)
 
-  acted_moves : (w : WorldState) (e : WorldEvent) → Moves w (acted w e)
+  acted_moves : (w : WorldState) (e : WorldEvent) → Moves w (acted_event w e)
   acted_moves w (Inject h chunk bound handler) = steps_move w h none_before (λ node. inject_step [] node chunk bound handler) (λ node. quiet_none)
   acted_moves w (Send h d) = sends_move w h d
   acted_moves w (Deliver number) = hands_move w Taking number
@@ -250,13 +250,13 @@ module _ (n : ℕ) where
   run_moves (e ∷ es) w =
       let one = acted_moves w e in
       let more = run_moves es (happens w e).world in
-      let first = map (entry_at (w.made + 1)) (acted w e).lines in
+      let first = map (entry_at (w.made + 1)) (acted_event w e).lines in
       let rest = history_of es (happens w e).world in
       let s = tally-append (line_sent n) first rest in
-      let t = tally-entries (line_sent n) (w.made + 1) (acted w e).lines in
+      let t = tally-entries (line_sent n) (w.made + 1) (acted_event w e).lines in
       record {
         once = omega (arith, one.once, more.once, s, t);
-        account = omega (arith, one.account, more.account, s, t, tally-append (line_off n) first rest, tally-entries (line_off n) (w.made + 1) (acted w e).lines);
+        account = omega (arith, one.account, more.account, s, t, tally-append (line_off n) first rest, tally-entries (line_off n) (w.made + 1) (acted_event w e).lines);
       }
 
   may_once : (next : ℕ) → may_go next ≤ 1
@@ -372,7 +372,7 @@ loses_lead : (w : WorldState) (number : ℕ) → WireLeads w.links w.wire → Le
 unfolding loses
 loses_lead w number k = lose_place_leads w (wire_place w.wire number) k
 
-acted_leads : (w : WorldState) (e : WorldEvent) → WireLeads w.links w.wire → Leads w (acted w e)
+acted_leads : (w : WorldState) (e : WorldEvent) → WireLeads w.links w.wire → Leads w (acted_event w e)
 acted_leads w (Inject h chunk bound handler) k = steps_lead w h none_before (λ node. inject_step [] node chunk bound handler) k
 acted_leads w (Send h d) k = sends_lead w h d k
 acted_leads w (Deliver number) k = hands_lead w Taking number k
@@ -386,7 +386,7 @@ unfolding world_after
 run_leads [] w k = (refl, k)
 run_leads (e ∷ es) w k =
     let one = acted_leads w e k in
-    let P : Cables → Type 0 = λ links. WireLeads links (acted w e).world.wire in
+    let P : Cables → Type 0 = λ links. WireLeads links (acted_event w e).world.wire in
     let more = run_leads es (happens w e).world (subst P (sym one.links) one.wire) in
     let Q : Cables → Type 0 = λ links. WireLeads links (world_after es (happens w e).world).wire in
     (more.0 ∙ one.links, subst Q one.links more.1)

@@ -21,7 +21,7 @@ use Rattle.packet_frame.specs.declared.fault.FrameFault.{FrameFault}
 use Rattle.packet_frame.specs.Forms.{FrameFits}
 use Rattle.packet_frame.specs.Typed.{plain_of, Accepts, FrameFirst}
 use Rattle.packet_frame.specs.Stamped.{AcceptsBy, StampedFirst, stamped_plain}
-use Rattle.packet_frame.specs.Decoding.{unstamped, read_by}
+use Rattle.packet_frame.specs.Decoding.{unstamped_frame, read_by}
 use Rattle.packet_frame.proofs.OneAnswer.{first_is}
 use Rattle.packet_frame.proofs.Versions.{accepted_by, refused_by_two}
 use Rattle.spelled_frame.specs.Spelled.{what_of, MayCarry}
@@ -39,7 +39,7 @@ use Rattle.node_model.specs.declared.acts.Act.{Act}
 use Rattle.node_model.specs.declared.acts.Act.TheVariants.{Injected, Arrived, Stale, SerialsSpent}
 use Rattle.node_model.specs.declared.acts.Acts.{Acts}
 use Rattle.node_model.specs.State.{NodeState}
-use Rattle.node_model.specs.Node.{next_serial, injected_packet, visited, inject_step, stepped, mark_of, mark, takes_as, seen_then, with_seen, frame_step, only_acts, stamped_as, stamped_step}
+use Rattle.node_model.specs.Node.{next_serial, injected_packet, visit_step, inject_step, stepped_node, mark_of, mark, takes_as, seen_then, with_seen, frame_step, only_acts, stamped_as, stamped_step}
 use Rattle.node_laws.proofs.Staying.{frame_stays}
 use Rattle.node_core.specs.Heard.{IsHeard}
 use Rattle.node_core.specs.Stands.{NodeStands, IsStep, MayGoOn, mark_on, own_family, own_packet, asks_within}
@@ -59,10 +59,10 @@ module _ {S : Type 0} (stands : S → ServiceState) where
   mark_stands n s h = λ i. mark_of (h.version i) (h.boot i)
 
   -- a visit, and then the next serial number
-  pub injected : (before : List Act) (s : NodeState) (p : Packet) (acts : Acts) (mid : Node S) (serial : ℕ) → serial ≡ mid.serial + 1
-      → IsStep stands (visited before s p) acts mid → IsStep stands (visited before (next_serial s) p) acts (record mid { serial = serial })
-  unfolding visited
-  injected before s p acts mid serial e h = record {
+  pub injected_visit_steps : (before : List Act) (s : NodeState) (p : Packet) (acts : Acts) (mid : Node S) (serial : ℕ) → serial ≡ mid.serial + 1
+      → IsStep stands (visit_step before s p) acts mid → IsStep stands (visit_step before (next_serial s) p) acts (record mid { serial = serial })
+  unfolding visit_step
+  injected_visit_steps before s p acts mid serial e h = record {
     list = h.list;
     frame = h.frame;
     node = record {
@@ -82,21 +82,21 @@ module _ {S : Type 0} (stands : S → ServiceState) where
   -- the injection of the definition, where a serial number is left
   pub own_injection : (before list : List Act) (old new : Node S) (s : NodeState) (chunk : Chunk) (bound : ℕ) (handler : Option Name) (p : Packet) (acts : Acts) → NodeStands stands old s
       → old.serial ≢ 18446744073709551615 → list ≡ before ++ Injected (own_family old.here old.serial) bound ∷ [] → p ≡ own_packet old.here old.serial chunk bound handler
-      → IsStep stands (visited list (next_serial s) p) acts new → IsStep stands (inject_step before s chunk bound handler) acts new
+      → IsStep stands (visit_step list (next_serial s) p) acts new → IsStep stands (inject_step before s chunk bound handler) acts new
   unfolding inject_step
   own_injection before list old new s chunk bound handler p acts n d l q h =
       let e = last_false old.serial d in
-      let P : Bool → Type 0 = λ t. IsStep stands (cond t (stepped (before ++ SerialsSpent ∷ []) None s)
-      (visited (before ++ Injected (own_family s.here s.serial) bound ∷ []) (next_serial s) (injected_packet s chunk bound handler))) acts new in
+      let P : Bool → Type 0 = λ t. IsStep stands (cond t (stepped_node (before ++ SerialsSpent ∷ []) None s)
+      (visit_step (before ++ Injected (own_family s.here s.serial) bound ∷ []) (next_serial s) (injected_packet s chunk bound handler))) acts new in
       let lists : list ≡ before ++ Injected (own_family s.here s.serial) bound ∷ [] = l ∙ (λ i. before ++ Injected (own_family (n.here i) (n.serial i)) bound ∷ []) in
       let packets : p ≡ injected_packet s chunk bound handler = q ∙ (λ i. own_packet (n.here i) (n.serial i) chunk bound handler) in
-      let R : List Act → Type 0 = λ begun. IsStep stands (visited begun (next_serial s) (injected_packet s chunk bound handler)) acts new in
-      let Q : Packet → Type 0 = λ x. IsStep stands (visited list (next_serial s) x) acts new in
+      let R : List Act → Type 0 = λ begun. IsStep stands (visit_step begun (next_serial s) (injected_packet s chunk bound handler)) acts new in
+      let Q : Packet → Type 0 = λ x. IsStep stands (visit_step list (next_serial s) x) acts new in
       subst P (sym (ap (λ m. m == 18446744073709551615) (sym n.serial) ∙ e)) (subst R lists (subst Q packets h))
 
   pub own_result : (before list : List Act) (old new : Node S) (s : NodeState) (chunk : Chunk) (bound : ℕ) (handler : Option Name) (p : Packet) (r : Result Acts NoMemory) → NodeStands stands old s
       → old.serial ≢ 18446744073709551615 → list ≡ before ++ Injected (own_family old.here old.serial) bound ∷ [] → p ≡ own_packet old.here old.serial chunk bound handler
-      → IfOk r (λ acts. IsStep stands (visited list (next_serial s) p) acts new) → IfOk r (λ acts. IsStep stands (inject_step before s chunk bound handler) acts new)
+      → IfOk r (λ acts. IsStep stands (visit_step list (next_serial s) p) acts new) → IfOk r (λ acts. IsStep stands (inject_step before s chunk bound handler) acts new)
   own_result before list old new s chunk bound handler p (Ok acts) n e l q h = own_injection before list old new s chunk bound handler p acts n e l q h
   own_result before list old new s chunk bound handler p (Err x) n e l q h = h
 
@@ -106,8 +106,8 @@ module _ {S : Type 0} (stands : S → ServiceState) where
   unfolding inject_step
   own_spent before list old s chunk bound handler n d l =
       let e = last_true old.serial d in
-      let P : Bool → Type 0 = λ t. IsStep stands (cond t (stepped (before ++ SerialsSpent ∷ []) None s)
-      (visited (before ++ Injected (own_family s.here s.serial) bound ∷ []) (next_serial s) (injected_packet s chunk bound handler))) (record { list = list; frame = None }) old in
+      let P : Bool → Type 0 = λ t. IsStep stands (cond t (stepped_node (before ++ SerialsSpent ∷ []) None s)
+      (visit_step (before ++ Injected (own_family s.here s.serial) bound ∷ []) (next_serial s) (injected_packet s chunk bound handler))) (record { list = list; frame = None }) old in
       subst P (sym (ap (λ m. m == 18446744073709551615) (sym n.serial) ∙ e)) (record { list = l; frame = refl; node = n })
 
   -- ---- arrivals
@@ -174,7 +174,7 @@ first_accepted bytes x h = one_accepted bytes x h.spells h.typed
 
 pub first_refused : (bytes : List ℕ) (e : FrameFault) → IsBytes bytes → (e ≡ FrameFault.NoMemory) ⊎ FrameFirst e bytes → (e ≡ FrameFault.NoMemory) ⊎ (read_by One bytes ≡ Err e)
 first_refused bytes e b (inl h) = inl h
-first_refused bytes e b (inr h) = inr (ap unstamped (first_is bytes e b h))
+first_refused bytes e b (inr h) = inr (ap unstamped_frame (first_is bytes e b h))
 
 second_so : (bytes : List ℕ) (e : FrameFault) → IsBytes bytes → (e ≡ FrameFault.NoMemory) ⊎ StampedFirst e bytes → (e ≡ FrameFault.NoMemory) ⊎ (read_by Two bytes ≡ Err e)
 second_so bytes e b (inl h) = inl h

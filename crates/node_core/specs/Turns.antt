@@ -2,7 +2,7 @@
 use Rattle.std.specs.Prelude.{◌≡◌, ℕ, ◌+◌, ◌≤◌, Bool, true, false, if◌then◌else◌, List, Option, None, ◌∷◌, ◌++◌, length, map, vec_len, vec_capacity, []}
 use Rattle.link_window.specs.declared.window.Stamp.{Stamp}
 use Rattle.plan_base.specs.declared.tree.Packet.{Packet}
-use Rattle.service_api.specs.Services.{ServiceState, kept, abandoned}
+use Rattle.service_api.specs.Services.{ServiceState, kept_services, abandoned_services}
 use Rattle.plan_meaning.specs.declared.outcome.Outcome.{Outcome}
 use Rattle.plan_meaning.specs.declared.outcome.Outcome.TheVariants.{WorkSpent}
 use Rattle.node_model.specs.declared.acts.Act.{Act}
@@ -24,8 +24,8 @@ is_spent WorkSpent = true
 is_spent _ = false
 
 -- the services once a visit is closed
-abbrev pub closed : Bool → ServiceState → ServiceState
-closed spent n = if spent then abandoned n else kept n
+abbrev pub closed_services : Bool → ServiceState → ServiceState
+closed_services spent n = if spent then abandoned_services n else kept_services n
 
 -- the acts of a settled visit up to its sends, these, and room for their acts
 pub record IsOpen (m : Option Stamp) (before : List Act) (p : Packet) (left : ℕ) (s : Settled) (turn : Turn) : Type 0 where

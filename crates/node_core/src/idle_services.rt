@@ -1,12 +1,12 @@
 ghost use Rattle.std.specs.Prelude.{◌≡◌, ◌≤◌, ◌+◌, ◌∷◌, ◌++◌, map, All, length, vec_len, vec_capacity, IfOk, OnOk, OnErr, IsSome, IsTrue, None, false};
 ghost use Rattle.std.specs.Option.{option_to_list};
-ghost use Rattle.service_api.specs.Services.{AreGoodRows, begun_now, expired};
+ghost use Rattle.service_api.specs.Services.{AreGoodRows, begun_now, unexpired_services};
 ghost use Rattle.node_model.specs.Visits.{visit_of, services_after};
 ghost use Rattle.node_model.specs.Node as spec;
 ghost use Rattle.node_model.specs.declared.acts.Act.TheVariants.{Noted, Ended};
 ghost use Rattle.spelled_frame.specs.Spelled.{MayCarry};
 ghost use Rattle.settled_visit.specs.Settles as settles;
-ghost use Rattle.node_core.specs.Turns.{Carries, IsOpen, IsResting, closed, is_spent as spent};
+ghost use Rattle.node_core.specs.Turns.{Carries, IsOpen, IsResting, closed_services, is_spent as spent};
 
 use crate::outgoing::visit_sendings;
 use crate::sends::{begin_acts, send_all};
@@ -118,8 +118,8 @@ fn open_turn<S: Services>(
     requires near { length ctx.now.neighbours ≤ 8 }
     requires rows { AreGoodRows (S.stands services.old).rows }
     requires open { IsSome (S.stands services.old).begun }
-    ensures turn { IfOk result (λ turn. IsOpen mark before packet.now (visit_of ctx.entry.now (S.stands services.old) packet.now).left (settles.settled packet.now ctx.entry.now (visit_of ctx.entry.now (S.stands services.old) packet.now)) turn) }
-    ensures closing { IfOk result (λ turn. closed turn.is_spent (S.stands services.new) ≡ services_after ctx.entry.now (S.stands services.old) packet.now) }
+    ensures turn { IfOk result (λ turn. IsOpen mark before packet.now (visit_of ctx.entry.now (S.stands services.old) packet.now).left (settles.visit_settled packet.now ctx.entry.now (visit_of ctx.entry.now (S.stands services.old) packet.now)) turn) }
+    ensures closing { IfOk result (λ turn. closed_services turn.is_spent (S.stands services.new) ≡ services_after ctx.entry.now (S.stands services.old) packet.now) }
     ensures ready { OnOk result (IsTrue (S.stands services.new).ready) }
     ensures offer { (S.stands services.new).offer ≡ (S.stands services.old).offer }
     ensures begun { (S.stands services.new).begun ≡ (S.stands services.old).begun }
@@ -142,7 +142,7 @@ fn open_turn<S: Services>(
 fn close<S: Services>(services: &mut S, is_spent: bool)
     requires open { IsSome (S.stands services.old).begun }
     requires ready { IsTrue (S.stands services.old).ready }
-    ensures { S.stands services.new ≡ closed is_spent (S.stands services.old) }
+    ensures { S.stands services.new ≡ closed_services is_spent (S.stands services.old) }
 {
     if is_spent {
         services.abandon();
@@ -168,8 +168,8 @@ fn visit_turn<S: Services>(
     requires carried { MayCarry mark packet.now.handler }
     requires near { length ctx.now.neighbours ≤ 8 }
     requires rests { IsResting (S.stands services.old) }
-    ensures acts { IfOk result (λ acts. acts ≡ before ++ spec.visit_acts mark lanes.old packet.now (visit_of ctx.entry.now (begun_now (S.stands services.old)) packet.now).left (settles.settled packet.now ctx.entry.now (visit_of ctx.entry.now (begun_now (S.stands services.old)) packet.now))) }
-    ensures lanes { OnOk result (lanes.new ≡ spec.sends_queues lanes.old (spec.visit_sends mark (settles.settled packet.now ctx.entry.now (visit_of ctx.entry.now (begun_now (S.stands services.old)) packet.now)).visit)) }
+    ensures acts { IfOk result (λ acts. acts ≡ before ++ spec.visit_acts mark lanes.old packet.now (visit_of ctx.entry.now (begun_now (S.stands services.old)) packet.now).left (settles.visit_settled packet.now ctx.entry.now (visit_of ctx.entry.now (begun_now (S.stands services.old)) packet.now))) }
+    ensures lanes { OnOk result (lanes.new ≡ spec.sends_queues lanes.old (spec.visit_sends mark (settles.visit_settled packet.now ctx.entry.now (visit_of ctx.entry.now (begun_now (S.stands services.old)) packet.now)).visit)) }
     ensures services { OnOk result (S.stands services.new ≡ services_after ctx.entry.now (begun_now (S.stands services.old)) packet.now) }
     ensures same { OnErr result (lanes.new ≡ lanes.old) }
     ensures undone { OnErr result (S.stands services.new ≡ S.stands services.old) }
@@ -218,8 +218,8 @@ impl<S: Services> IdleServices<S> {
         requires source { ctx.now.source ≡ packet.now.family.source }
         requires carried { MayCarry mark packet.now.handler }
         requires near { length ctx.now.neighbours ≤ 8 }
-        ensures acts { IfOk result (λ acts. acts ≡ before ++ spec.visit_acts mark lanes.old packet.now (visit_of ctx.entry.now (begun_now (S.stands self.old)) packet.now).left (settles.settled packet.now ctx.entry.now (visit_of ctx.entry.now (begun_now (S.stands self.old)) packet.now))) }
-        ensures lanes { OnOk result (lanes.new ≡ spec.sends_queues lanes.old (spec.visit_sends mark (settles.settled packet.now ctx.entry.now (visit_of ctx.entry.now (begun_now (S.stands self.old)) packet.now)).visit)) }
+        ensures acts { IfOk result (λ acts. acts ≡ before ++ spec.visit_acts mark lanes.old packet.now (visit_of ctx.entry.now (begun_now (S.stands self.old)) packet.now).left (settles.visit_settled packet.now ctx.entry.now (visit_of ctx.entry.now (begun_now (S.stands self.old)) packet.now))) }
+        ensures lanes { OnOk result (lanes.new ≡ spec.sends_queues lanes.old (spec.visit_sends mark (settles.visit_settled packet.now ctx.entry.now (visit_of ctx.entry.now (begun_now (S.stands self.old)) packet.now)).visit)) }
         ensures services { OnOk result (S.stands self.new ≡ services_after ctx.entry.now (begun_now (S.stands self.old)) packet.now) }
         ensures same { OnErr result (lanes.new ≡ lanes.old) }
         ensures undone { OnErr result (S.stands self.new ≡ S.stands self.old) }
@@ -229,7 +229,7 @@ impl<S: Services> IdleServices<S> {
 
     /// Takes the rows away that have expired at `now`. Takes no memory.
     pub fn expire(&mut self, now: u64)
-        ensures { S.stands self.new ≡ expired now (S.stands self.old) }
+        ensures { S.stands self.new ≡ unexpired_services now (S.stands self.old) }
     {
         self.services.expire(now);
     }

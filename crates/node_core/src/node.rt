@@ -112,7 +112,7 @@ fn leads_to(links: &[(Host, Dev)], dev: Dev, host: Host) -> bool
 }
 
 /// The packet with this handler, if there is one. Conditions: it has none, and the handler may handle. Takes no memory.
-fn handled(packet: CheckedPacket, handler: Option<Name>) -> CheckedPacket
+fn with_handler(packet: CheckedPacket, handler: Option<Name>) -> CheckedPacket
     requires plain { packet.handler ≡ None }
     requires handler { MayHandle packet.chunk handler }
     ensures { result ≡ record packet { handler = handler } }
@@ -223,7 +223,7 @@ impl<S: Services> Node<S> {
     }
 
     /// The settled visit of a packet, after some acts. Condition: under version 1 it has no handler.
-    #[tactic(auto, unfolding(node_model::specs::Node::visited))]
+    #[tactic(auto, unfolding(node_model::specs::Node::visit_step))]
     fn visit(
         &mut self,
         alloc: Global,
@@ -231,7 +231,7 @@ impl<S: Services> Node<S> {
         packet: &CheckedPacket,
     ) -> Result<Acts, NoMemory>
         requires carried { MayCarry (mark_on self.old) packet.now.handler }
-        ensures ok { (s : NodeState) → NodeStands S.stands self.old s → IfOk result (λ acts. IsStep S.stands (spec.visited before s packet.now) acts self.new) }
+        ensures ok { (s : NodeState) → NodeStands S.stands self.old s → IfOk result (λ acts. IsStep S.stands (spec.visit_step before s packet.now) acts self.new) }
         ensures err { (s : NodeState) → NodeStands S.stands self.old s → OnErr result (NodeStands S.stands self.new s) }
         ensures same { version_of self.new ≡ version_of self.old }
         ensures serial { self.new.serial ≡ self.old.serial }
@@ -270,7 +270,7 @@ impl<S: Services> Node<S> {
         let name = copy_handler(alloc, handler)?;
         let chunk = chunk.copy(alloc)?;
         let packet = CheckedPacket::of(self.next_family(), self.here, bound, route, chunk);
-        Ok(handled(packet, name))
+        Ok(with_handler(packet, name))
     }
 
     /// The visit of an injected packet, after some acts; the next injection gets the next serial number. Conditions: a serial
@@ -283,7 +283,7 @@ impl<S: Services> Node<S> {
     ) -> Result<Acts, NoMemory>
         requires left { self.old.serial < 18446744073709551615 }
         requires carried { MayCarry (mark_on self.old) packet.now.handler }
-        ensures ok { (s : NodeState) → NodeStands S.stands self.old s → IfOk result (λ acts. IsStep S.stands (spec.visited before (spec.next_serial s) packet.now) acts self.new) }
+        ensures ok { (s : NodeState) → NodeStands S.stands self.old s → IfOk result (λ acts. IsStep S.stands (spec.visit_step before (spec.next_serial s) packet.now) acts self.new) }
         ensures err { (s : NodeState) → NodeStands S.stands self.old s → OnErr result (NodeStands S.stands self.new s) }
         ensures same { version_of self.new ≡ version_of self.old }
     {

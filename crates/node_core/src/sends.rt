@@ -51,7 +51,7 @@ fn add_frame(lane: &mut Lane, frame: SpelledFrame)
     ensures { lane.new ≡ spec.lane_with lane.old frame }
 {
     let is_stamped = frame.is_stamped();
-    let _ = lane.frames.push(frame.numbered(lane.number));
+    let _ = lane.frames.push(frame.with_number(lane.number));
     if is_stamped {
         lane.number += 1;
     }

@@ -9,7 +9,7 @@ use Rattle.chunk_types.specs.Chunks.{IsCheckedChunk}
 use Rattle.network_plan.specs.declared.fleet.AskFile.{AskFile}
 use Rattle.line_files.specs.declared.fault.LineReason.{LineReason}
 use Rattle.line_files.specs.declared.programs.OpenProgram.{OpenProgram}
-use Rattle.line_files.specs.Lines.{words, spaced}
+use Rattle.line_files.specs.Lines.{words, spaced_words}
 use Rattle.line_files.specs.Files.{at_line}
 use Rattle.line_files.specs.Inside.{after_lines}
 use Rattle.line_files.specs.Reads.{◌>>=◌, rest_at}
@@ -52,8 +52,8 @@ rest_same : (xs ys : List ℕ) → rest xs ≡ rest ys → xs ≡ ys
 rest_same xs ys e = cc
 
 -- words that go on to the end of the line
-rest_is : (entry args : List ℕ) → without 32 entry ≡ true → spaced (entry ∷ words args) ≡ entry ++ 32 ∷ args
-rest_is entry args free = rest_same (spaced (entry ∷ words args)) (entry ++ 32 ∷ args) (ap rest_at (sym (call_words entry args free)) ∙ rest_all (entry ++ 32 ∷ args))
+rest_is : (entry args : List ℕ) → without 32 entry ≡ true → spaced_words (entry ∷ words args) ≡ entry ++ 32 ∷ args
+rest_is entry args free = rest_same (spaced_words (entry ∷ words args)) (entry ++ 32 ∷ args) (ap rest_at (sym (call_words entry args free)) ∙ rest_all (entry ++ 32 ∷ args))
 
 module _ (text : List (List ℕ)) (args : List ℕ) (a : AskFile) (is : IsAsk text args a) where
   -- ---- what the lines leave
@@ -62,8 +62,8 @@ module _ (text : List (List ℕ)) (args : List ℕ) (a : AskFile) (is : IsAsk te
   state stage to from bound = record { stage = stage; to = to; from = from; bound = bound; entry = []; entry_line = 1; program = opened_program 1; checked = None }
 
   -- behind the line of the entry, the fifth
-  abbrev called : AskStage → OpenProgram → Option Program → AskReading
-  called stage program checked = record { stage = stage; to = a.to; from = a.from; bound = a.bound; entry = a.chunk.entry ++ 32 ∷ args; entry_line = 5; program = program; checked = checked }
+  abbrev called_reading : AskStage → OpenProgram → Option Program → AskReading
+  called_reading stage program checked = record { stage = stage; to = a.to; from = a.from; bound = a.bound; entry = a.chunk.entry ++ 32 ∷ args; entry_line = 5; program = program; checked = checked }
 
   -- with any words of an entry
   abbrev with_entry : List ℕ → AskReading
@@ -95,13 +95,13 @@ module _ (text : List (List ℕ)) (args : List ℕ) (a : AskFile) (is : IsAsk te
   unfolding bound_line behind_word
   bound_reads = then_ok _ a.bound _ _ (last_reads 0 65535 a.bound (port_small a.bound is.rules.injection.0) (omega arith) is.rules.injection.0) refl
 
-  entry_reads : entry_line 5 (codes "entry" ∷ a.chunk.entry ∷ words args) (state (stages.Wants word.Entry) a.to a.from a.bound) ≡ Ok (called (stages.Wants word.Program) (opened_program 1) None)
+  entry_reads : entry_line 5 (codes "entry" ∷ a.chunk.entry ∷ words args) (state (stages.Wants word.Entry) a.to a.from a.bound) ≡ Ok (called_reading (stages.Wants word.Program) (opened_program 1) None)
   unfolding entry_line behind_word
   entry_reads =
-      then_ok (rest_at (words args)) args (λ _. Ok (with_entry (spaced (a.chunk.entry ∷ words args)))) (Ok (called (stages.Wants word.Program) (opened_program 1) None)) (rest_all args)
+      then_ok (rest_at (words args)) args (λ _. Ok (with_entry (spaced_words (a.chunk.entry ∷ words args)))) (Ok (called_reading (stages.Wants word.Program) (opened_program 1) None)) (rest_all args)
       (ap (λ (t : List ℕ). Ok (with_entry t)) (rest_is a.chunk.entry args (name_free a.chunk.entry is.call.entry).0))
 
-  program_reads : program_line 6 (codes "program" ∷ []) (called (stages.Wants word.Program) (opened_program 1) None) ≡ Ok (called stages.Inside (opened_program 6) None)
+  program_reads : program_line 6 (codes "program" ∷ []) (called_reading (stages.Wants word.Program) (opened_program 1) None) ≡ Ok (called_reading stages.Inside (opened_program 6) None)
   unfolding program_line behind_word
   program_reads = refl
 
@@ -111,43 +111,43 @@ module _ (text : List (List ℕ)) (args : List ℕ) (a : AskFile) (is : IsAsk te
   unfolding ask_step_at
   header_step = refl
 
-  to_step : ask_format.step 2 (spaced (to_words a)) (state (stages.Wants word.To) 1 1 0) ≡ Ok (state (stages.Wants word.From) a.to 1 0)
+  to_step : ask_format.step 2 (spaced_words (to_words a)) (state (stages.Wants word.To) 1 1 0) ≡ Ok (state (stages.Wants word.From) a.to 1 0)
   unfolding ask_step_at wanted_line
   to_step = usual_again 2 (codes "to") (decimal a.to ∷ []) (state (stages.Wants word.To) 1 1 0) (state (stages.Wants word.From) a.to 1 0) (λ ws. to_line ws (state (stages.Wants word.To) 1 1 0)) refl to_clean to_reads
 
-  from_step : ask_format.step 3 (spaced (from_words a)) (state (stages.Wants word.From) a.to 1 0) ≡ Ok (state (stages.Wants word.Bound) a.to a.from 0)
+  from_step : ask_format.step 3 (spaced_words (from_words a)) (state (stages.Wants word.From) a.to 1 0) ≡ Ok (state (stages.Wants word.Bound) a.to a.from 0)
   unfolding ask_step_at wanted_line
   from_step = usual_again 3 (codes "from") (decimal a.from ∷ []) (state (stages.Wants word.From) a.to 1 0) (state (stages.Wants word.Bound) a.to a.from 0) (λ ws. from_line ws (state (stages.Wants word.From) a.to 1 0)) refl from_clean from_reads
 
-  bound_step : ask_format.step 4 (spaced (bound_words a)) (state (stages.Wants word.Bound) a.to a.from 0) ≡ Ok (state (stages.Wants word.Entry) a.to a.from a.bound)
+  bound_step : ask_format.step 4 (spaced_words (bound_words a)) (state (stages.Wants word.Bound) a.to a.from 0) ≡ Ok (state (stages.Wants word.Entry) a.to a.from a.bound)
   unfolding ask_step_at wanted_line
   bound_step = usual_again 4 (codes "bound") (decimal a.bound ∷ []) (state (stages.Wants word.Bound) a.to a.from 0) (state (stages.Wants word.Entry) a.to a.from a.bound) (λ ws. bound_line ws (state (stages.Wants word.Bound) a.to a.from 0)) refl bound_clean bound_reads
 
-  entry_step : ask_format.step 5 (spaced (entry_words args a)) (state (stages.Wants word.Entry) a.to a.from a.bound) ≡ Ok (called (stages.Wants word.Program) (opened_program 1) None)
+  entry_step : ask_format.step 5 (spaced_words (entry_words args a)) (state (stages.Wants word.Entry) a.to a.from a.bound) ≡ Ok (called_reading (stages.Wants word.Program) (opened_program 1) None)
   unfolding ask_step_at wanted_line
   entry_step =
-      usual_by 5 (spaced (entry_words args a)) (codes "entry" ∷ a.chunk.entry ∷ words args) (state (stages.Wants word.Entry) a.to a.from a.bound) (called (stages.Wants word.Program) (opened_program 1) None) (λ ws. entry_line 5 ws (state (stages.Wants word.Entry) a.to a.from a.bound)) refl
+      usual_by 5 (spaced_words (entry_words args a)) (codes "entry" ∷ a.chunk.entry ∷ words args) (state (stages.Wants word.Entry) a.to a.from a.bound) (called_reading (stages.Wants word.Program) (opened_program 1) None) (λ ws. entry_line 5 ws (state (stages.Wants word.Entry) a.to a.from a.bound)) refl
       (words_rest (codes "entry") (a.chunk.entry ∷ []) args (refl, ((name_free a.chunk.entry is.call.entry).0, tt))) entry_reads
 
-  program_step : ask_format.step 6 (codes "program") (called (stages.Wants word.Program) (opened_program 1) None) ≡ Ok (called stages.Inside (opened_program 6) None)
+  program_step : ask_format.step 6 (codes "program") (called_reading (stages.Wants word.Program) (opened_program 1) None) ≡ Ok (called_reading stages.Inside (opened_program 6) None)
   unfolding ask_step_at wanted_line
-  program_step = usual_again 6 (codes "program") [] (called (stages.Wants word.Program) (opened_program 1) None) (called stages.Inside (opened_program 6) None) (λ ws. program_line 6 ws (called (stages.Wants word.Program) (opened_program 1) None)) refl ((refl, tt), (refl, tt)) program_reads
+  program_step = usual_again 6 (codes "program") [] (called_reading (stages.Wants word.Program) (opened_program 1) None) (called_reading stages.Inside (opened_program 6) None) (λ ws. program_line 6 ws (called_reading (stages.Wants word.Program) (opened_program 1) None)) refl ((refl, tt), (refl, tt)) program_reads
 
   -- ---- the program
 
   abbrev inside : OpenProgram → AskReading
-  inside begun = called stages.Inside begun None
+  inside begun = called_reading stages.Inside begun None
 
   text_step : (number : ℕ) (line : List ℕ) (begun : OpenProgram) → bytes_eq line (codes "end program") ≡ false → ask_format.step number line (inside begun) ≡ Ok (inside (with_line begun line))
   unfolding ask_step_at
   text_step number line begun e = ap (λ b. cond b (at_line begun.line (close_program (inside begun))) (Ok (inside (with_line begun line)))) e
 
   abbrev whole : AskReading
-  whole = called stages.Behind (with_text (opened_program 6) text) (Some a.chunk.code)
+  whole = called_reading stages.Behind (with_text (opened_program 6) text) (Some a.chunk.code)
 
   end_step : (number : ℕ) → ask_format.step number (codes "end program") (inside (with_text (opened_program 6) text)) ≡ Ok whole
   unfolding ask_step_at close_program
-  end_step number = ap (λ r. at_line 6 (r >>= λ p. Ok (called stages.Behind (with_text (opened_program 6) text) (Some p)))) is.program.says
+  end_step number = ap (λ r. at_line 6 (r >>= λ p. Ok (called_reading stages.Behind (with_text (opened_program 6) text) (Some p)))) is.program.says
 
   -- ---- the whole
 
@@ -159,10 +159,10 @@ module _ (text : List (List ℕ)) (args : List ℕ) (a : AskFile) (is : IsAsk te
   all_lead : after_lines ask_format 1 (ask_lines text args a) nothing_asked ≡ Ok whole
   all_lead =
       then_lines ask_format 1 (codes "planet inject 1") _ nothing_asked (state (stages.Wants word.To) 1 1 0) whole header_step
-      (then_lines ask_format 2 (spaced (to_words a)) _ _ (state (stages.Wants word.From) a.to 1 0) whole to_step
-      (then_lines ask_format 3 (spaced (from_words a)) _ _ (state (stages.Wants word.Bound) a.to a.from 0) whole from_step
-      (then_lines ask_format 4 (spaced (bound_words a)) _ _ (state (stages.Wants word.Entry) a.to a.from a.bound) whole bound_step
-      (then_lines ask_format 5 (spaced (entry_words args a)) _ _ (called (stages.Wants word.Program) (opened_program 1) None) whole entry_step
+      (then_lines ask_format 2 (spaced_words (to_words a)) _ _ (state (stages.Wants word.From) a.to 1 0) whole to_step
+      (then_lines ask_format 3 (spaced_words (from_words a)) _ _ (state (stages.Wants word.Bound) a.to a.from 0) whole from_step
+      (then_lines ask_format 4 (spaced_words (bound_words a)) _ _ (state (stages.Wants word.Entry) a.to a.from a.bound) whole bound_step
+      (then_lines ask_format 5 (spaced_words (entry_words args a)) _ _ (called_reading (stages.Wants word.Program) (opened_program 1) None) whole entry_step
       (then_lines ask_format 6 (codes "program") _ _ (inside (opened_program 6)) whole program_step text_lead)))))
 
   lines_free : Free 10 (ask_lines text args a)

@@ -17,7 +17,7 @@ use Rattle.network_plan.specs.Hosts.{host_of}
 use Rattle.network_plan.specs.NodeRules.{DevicesAscend, IsNeighbour, IsPort, PortsDiffer, KeepsServe}
 use Rattle.line_files.specs.declared.fault.LineReason.TheVariants.{TwiceNamed}
 use Rattle.line_files.specs.declared.programs.OpenProgram.{OpenProgram}
-use Rattle.line_files.specs.Lines.{spaced}
+use Rattle.line_files.specs.Lines.{spaced_words}
 use Rattle.line_files.specs.Files.{is_skipped}
 use Rattle.line_files.specs.Programs.{opened_program}
 use Rattle.schedule_laws.proofs.WordLaws.{Free, line_is}
@@ -30,7 +30,7 @@ use Rattle.node_files.specs.declared.config.ConfigStage.{ConfigStage}
 use Rattle.node_files.specs.declared.config.ConfigStage.TheVariants as stages
 use Rattle.node_files.specs.declared.config.ConfigReading.{ConfigReading}
 use Rattle.node_files.specs.Parts.{behind_word}
-use Rattle.node_files.specs.Nodes.{placed, device_of, port_device}
+use Rattle.node_files.specs.Nodes.{placed_items, device_of, port_device}
 use Rattle.node_files.specs.LogTexts.{host_words, hosts_words}
 use Rattle.node_files.specs.Configs.{port_line, has_port, is_used, free_port, control_line, period_line, log_line, wanted_line, device_line, tail_rest, tail_line, begun_by, config_step_at, config_format, nothing_read}
 use Rattle.node_files.proofs.NodeLines.{Clean, clean_more, clean_number, usual_again, last_reads, host_reads, host_clean, more_to, hosts_read, hosts_clean, listed_small, before, free_there, placed_last, neighbour_reads, hosts_of_neighbours}
@@ -124,22 +124,22 @@ module _ (c : ServeConfig) (rules : KeepsServe c) (named : IsOneWord c.log) wher
   log_are_clean : Clean (log_words c.log)
   log_are_clean = clean_more (codes "log") (c.log ∷ []) (refl, refl) (clean_more c.log [] named (tt, tt))
 
-  host_step : (number : ℕ) → config_format.step number (spaced (host_words here)) (early (stages.Wants head.Host) (host_of 0) [] 0 0 0 []) ≡ Ok (early (stages.Wants head.Hosts) here [] 0 0 0 [])
+  host_step : (number : ℕ) → config_format.step number (spaced_words (host_words here)) (early (stages.Wants head.Host) (host_of 0) [] 0 0 0 []) ≡ Ok (early (stages.Wants head.Hosts) here [] 0 0 0 [])
   unfolding config_step_at wanted_line
   host_step number =
       usual_again number (codes "host") (decimal here.0 ∷ []) (early (stages.Wants head.Host) (host_of 0) [] 0 0 0 []) (early (stages.Wants head.Hosts) here [] 0 0 0 []) (λ ws. wanted_line head.Host ws (early (stages.Wants head.Host) (host_of 0) [] 0 0 0 [])) refl (host_clean here here_small)
       (then_ok _ here _ _ (host_reads here here_small) refl)
 
-  says_hosts : (ws : List (List ℕ)) → is_skipped (spaced (codes "hosts" ∷ ws)) ≡ false
+  says_hosts : (ws : List (List ℕ)) → is_skipped (spaced_words (codes "hosts" ∷ ws)) ≡ false
   says_hosts ws = refl
 
-  hosts_step : (number : ℕ) → config_format.step number (spaced (hosts_words hosts)) (early (stages.Wants head.Hosts) here [] 0 0 0 []) ≡ Ok (early (stages.Wants head.Port) here hosts 0 0 0 [])
+  hosts_step : (number : ℕ) → config_format.step number (spaced_words (hosts_words hosts)) (early (stages.Wants head.Hosts) here [] 0 0 0 []) ≡ Ok (early (stages.Wants head.Port) here hosts 0 0 0 [])
   unfolding config_step_at wanted_line
   hosts_step number =
       usual_again number (codes "hosts") (map (λ h. decimal h.0) hosts) (early (stages.Wants head.Hosts) here [] 0 0 0 []) (early (stages.Wants head.Port) here hosts 0 0 0 []) (λ ws. wanted_line head.Hosts ws (early (stages.Wants head.Hosts) here [] 0 0 0 [])) (says_hosts (map (λ h. decimal h.0) hosts)) hosts_are_clean
       (then_ok _ hosts _ _ (hosts_read here hosts rules.node.few rules.node.ascend rules.node.numbers rules.node.here) refl)
 
-  port_step : (number : ℕ) → config_format.step number (spaced (port_words c.port)) (early (stages.Wants head.Port) here hosts 0 0 0 []) ≡ Ok (early (stages.Wants head.Control) here hosts c.port 0 0 [])
+  port_step : (number : ℕ) → config_format.step number (spaced_words (port_words c.port)) (early (stages.Wants head.Port) here hosts 0 0 0 []) ≡ Ok (early (stages.Wants head.Control) here hosts c.port 0 0 [])
   unfolding config_step_at wanted_line port_line behind_word
   port_step number =
       usual_again number (codes "port") (decimal c.port ∷ []) (early (stages.Wants head.Port) here hosts 0 0 0 []) (early (stages.Wants head.Control) here hosts c.port 0 0 []) (λ ws. wanted_line head.Port ws (early (stages.Wants head.Port) here hosts 0 0 0 [])) refl port_are_clean
@@ -156,19 +156,19 @@ module _ (c : ServeConfig) (rules : KeepsServe c) (named : IsOneWord c.log) wher
       let some = owners_port.0 in
       none_is (eqb c.port c.control) (eqb 0 c.control) false (ne_eqb c.port c.control (λ e. All-head (λ q. q ≢ c.port) c.control (map port_of c.devs) rules.apart.0 (sym e))) (ne_eqb 0 c.control (λ e. omega (arith, e, some))) refl
 
-  control_step : (number : ℕ) → config_format.step number (spaced (control_words c.control)) (early (stages.Wants head.Control) here hosts c.port 0 0 []) ≡ Ok (early (stages.Wants head.Period) here hosts c.port c.control 0 [])
+  control_step : (number : ℕ) → config_format.step number (spaced_words (control_words c.control)) (early (stages.Wants head.Control) here hosts c.port 0 0 []) ≡ Ok (early (stages.Wants head.Period) here hosts c.port c.control 0 [])
   unfolding config_step_at wanted_line control_line behind_word
   control_step number =
       usual_again number (codes "control") (decimal c.control ∷ []) (early (stages.Wants head.Control) here hosts c.port 0 0 []) (early (stages.Wants head.Period) here hosts c.port c.control 0 []) (λ ws. wanted_line head.Control ws (early (stages.Wants head.Control) here hosts c.port 0 0 [])) refl control_are_clean
       (then_ok _ (c.control, []) _ _ (free_ok (early (stages.Wants head.Control) here hosts c.port 0 0 []) c.control [] owners_port control_free) refl)
 
-  period_step : (number : ℕ) → config_format.step number (spaced (period_words c.period)) (early (stages.Wants head.Period) here hosts c.port c.control 0 []) ≡ Ok (early (stages.Wants head.Log) here hosts c.port c.control c.period [])
+  period_step : (number : ℕ) → config_format.step number (spaced_words (period_words c.period)) (early (stages.Wants head.Period) here hosts c.port c.control 0 []) ≡ Ok (early (stages.Wants head.Log) here hosts c.port c.control c.period [])
   unfolding config_step_at wanted_line period_line behind_word
   period_step number =
       usual_again number (codes "period") (decimal c.period ∷ []) (early (stages.Wants head.Period) here hosts c.port c.control 0 []) (early (stages.Wants head.Log) here hosts c.port c.control c.period []) (λ ws. wanted_line head.Period ws (early (stages.Wants head.Period) here hosts c.port c.control 0 [])) refl period_are_clean
       (then_ok _ c.period _ _ (last_reads 1 60000 c.period (let few = rules.period.1 in omega (arith, few)) rules.period.0 rules.period.1) refl)
 
-  log_step : (number : ℕ) → config_format.step number (spaced (log_words c.log)) (early (stages.Wants head.Log) here hosts c.port c.control c.period []) ≡ Ok (early (stages.Tail parts.Devices) here hosts c.port c.control c.period c.log)
+  log_step : (number : ℕ) → config_format.step number (spaced_words (log_words c.log)) (early (stages.Wants head.Log) here hosts c.port c.control c.period []) ≡ Ok (early (stages.Tail parts.Devices) here hosts c.port c.control c.period c.log)
   unfolding config_step_at wanted_line log_line behind_word
   log_step number =
       usual_again number (codes "log") (c.log ∷ []) (early (stages.Wants head.Log) here hosts c.port c.control c.period []) (early (stages.Tail parts.Devices) here hosts c.port c.control c.period c.log) (λ ws. wanted_line head.Log ws (early (stages.Wants head.Log) here hosts c.port c.control c.period [])) refl log_are_clean
@@ -182,12 +182,12 @@ module _ (c : ServeConfig) (rules : KeepsServe c) (named : IsOneWord c.log) wher
   head_leads =
       let last = state (stages.Tail parts.Devices) [] [] [] (opened_program 1) None [] 0 in
       leads-cons config_format (header_line c.node.version) _ nothing_read (early (stages.Wants head.Host) (host_of 0) [] 0 0 0 []) last (header_step c.node.version)
-      (leads-cons config_format (spaced (host_words here)) _ (early (stages.Wants head.Host) (host_of 0) [] 0 0 0 []) (early (stages.Wants head.Hosts) here [] 0 0 0 []) last host_step
-      (leads-cons config_format (spaced (hosts_words hosts)) _ (early (stages.Wants head.Hosts) here [] 0 0 0 []) (early (stages.Wants head.Port) here hosts 0 0 0 []) last hosts_step
-      (leads-cons config_format (spaced (port_words c.port)) _ (early (stages.Wants head.Port) here hosts 0 0 0 []) (early (stages.Wants head.Control) here hosts c.port 0 0 []) last port_step
-      (leads-cons config_format (spaced (control_words c.control)) _ (early (stages.Wants head.Control) here hosts c.port 0 0 []) (early (stages.Wants head.Period) here hosts c.port c.control 0 []) last control_step
-      (leads-cons config_format (spaced (period_words c.period)) _ (early (stages.Wants head.Period) here hosts c.port c.control 0 []) (early (stages.Wants head.Log) here hosts c.port c.control c.period []) last period_step
-      (leads-cons config_format (spaced (log_words c.log)) [] (early (stages.Wants head.Log) here hosts c.port c.control c.period []) last last log_step (leads-nil config_format last)))))))
+      (leads-cons config_format (spaced_words (host_words here)) _ (early (stages.Wants head.Host) (host_of 0) [] 0 0 0 []) (early (stages.Wants head.Hosts) here [] 0 0 0 []) last host_step
+      (leads-cons config_format (spaced_words (hosts_words hosts)) _ (early (stages.Wants head.Hosts) here [] 0 0 0 []) (early (stages.Wants head.Port) here hosts 0 0 0 []) last hosts_step
+      (leads-cons config_format (spaced_words (port_words c.port)) _ (early (stages.Wants head.Port) here hosts 0 0 0 []) (early (stages.Wants head.Control) here hosts c.port 0 0 []) last port_step
+      (leads-cons config_format (spaced_words (control_words c.control)) _ (early (stages.Wants head.Control) here hosts c.port 0 0 []) (early (stages.Wants head.Period) here hosts c.port c.control 0 []) last control_step
+      (leads-cons config_format (spaced_words (period_words c.period)) _ (early (stages.Wants head.Period) here hosts c.port c.control 0 []) (early (stages.Wants head.Log) here hosts c.port c.control c.period []) last period_step
+      (leads-cons config_format (spaced_words (log_words c.log)) [] (early (stages.Wants head.Log) here hosts c.port c.control c.period []) last last log_step (leads-nil config_format last)))))))
 
   pub head_free : Free 10 (head_lines c)
   head_free = (
@@ -228,13 +228,13 @@ module _ (c : ServeConfig) (rules : KeepsServe c) (named : IsOneWord c.log) wher
   device_reads : (seen : List (Host × Dev)) (ports : List (Dev × ℕ)) (n : Host × Dev) (d : Dev × ℕ) → Next seen ports n d → device_line (decimal n.1.0 ∷ decimal n.0.0 ∷ decimal d.1 ∷ []) (at_devices seen ports) ≡ Ok (at_devices (seen ++ n ∷ []) (ports ++ d ∷ []))
   unfolding device_line
   device_reads seen ports n d k =
-      let behind : placed port_device (n.1, d.1) ports ≡ ports ++ d ∷ [] = ap (λ (x : Dev). placed port_device (x, d.1) ports) (sym k.same) ∙ placed_last port_device ports d k.below in
+      let behind : placed_items port_device (n.1, d.1) ports ≡ ports ++ d ∷ [] = ap (λ (x : Dev). placed_items port_device (x, d.1) ports) (sym k.same) ∙ placed_last port_device ports d k.below in
       then_ok _ (n, decimal d.1 ∷ []) _ _ (neighbour_reads here hosts seen n (decimal d.1 ∷ []) k.small k.is (free_there seen n k.lower))
       (then_ok _ (d.1, []) _ _ (free_ok (at_devices seen ports) d.1 [] k.port k.free)
-      (ap (λ (ns : List (Host × Dev)). Ok (at_devices ns (placed port_device (n.1, d.1) ports))) (placed_last device_of seen n k.lower)
+      (ap (λ (ns : List (Host × Dev)). Ok (at_devices ns (placed_items port_device (n.1, d.1) ports))) (placed_last device_of seen n k.lower)
       ∙ ap (λ (ds : List (Dev × ℕ)). Ok (at_devices (seen ++ n ∷ []) ds)) behind))
 
-  device_step : (seen : List (Host × Dev)) (ports : List (Dev × ℕ)) (n : Host × Dev) (d : Dev × ℕ) → Next seen ports n d → (number : ℕ) → config_format.step number (spaced (device_words n d.1)) (at_devices seen ports) ≡ Ok (at_devices (seen ++ n ∷ []) (ports ++ d ∷ []))
+  device_step : (seen : List (Host × Dev)) (ports : List (Dev × ℕ)) (n : Host × Dev) (d : Dev × ℕ) → Next seen ports n d → (number : ℕ) → config_format.step number (spaced_words (device_words n d.1)) (at_devices seen ports) ≡ Ok (at_devices (seen ++ n ∷ []) (ports ++ d ∷ []))
   unfolding config_step_at tail_line tail_rest
   device_step seen ports n d k number =
       usual_again number (codes "dev") (decimal n.1.0 ∷ decimal n.0.0 ∷ decimal d.1 ∷ []) (at_devices seen ports) (at_devices (seen ++ n ∷ []) (ports ++ d ∷ [])) (λ ws. tail_line parts.Devices number ws (at_devices seen ports)) refl (device_clean n d.1 k.small k.is.device.1 k.port.1) (device_reads seen ports n d k)
@@ -242,8 +242,8 @@ module _ (c : ServeConfig) (rules : KeepsServe c) (named : IsOneWord c.log) wher
   ports_apart : PortsDiffer (map port_of c.devs)
   ports_apart = rules.apart.1.1
 
-  unused : (seen : List (Host × Dev)) (ports : List (Dev × ℕ)) (d : Dev × ℕ) (ds : List (Dev × ℕ)) → ports ++ d ∷ ds ≡ c.devs → is_used (at_devices seen ports) d.1 ≡ false
-  unused seen ports d ds e =
+  port_is_unused : (seen : List (Host × Dev)) (ports : List (Dev × ℕ)) (d : Dev × ℕ) (ds : List (Dev × ℕ)) → ports ++ d ∷ ds ≡ c.devs → is_used (at_devices seen ports) d.1 ≡ false
+  port_is_unused seen ports d ds e =
       let own = All-tail (λ q. q ≢ c.port) c.control (map port_of c.devs) rules.apart.0 in
       let not_own = map_middle (λ q. q ≢ c.port) port_of ports d ds (subst (λ (l : List (Dev × ℕ)). All (λ q. q ≢ c.port) (map port_of l)) (sym e) own) in
       let not_owners = map_middle (λ q. q ≢ c.control) port_of ports d ds (subst (λ (l : List (Dev × ℕ)). All (λ q. q ≢ c.control) (map port_of l)) (sym e) rules.apart.1.0) in
@@ -265,7 +265,7 @@ module _ (c : ServeConfig) (rules : KeepsServe c) (named : IsOneWord c.log) wher
         below = subst (λ (x : Dev). All (λ e. e.0.0 < x.0) ports) (sym same) (low_ports n.1.0 ports seen same_above lower);
         same = same;
         port = map_middle IsPort port_of ports d ds (subst (λ (l : List (Dev × ℕ)). All IsPort (map port_of l)) (sym all_ports) neighbours_ports);
-        free = unused seen ports d ds all_ports;
+        free = port_is_unused seen ports d ds all_ports;
       }
 
   both_more : (seen : List (Host × Dev)) (ports : List (Dev × ℕ)) (n : Host × Dev) (d : Dev × ℕ) → map (λ e. e.0) ports ≡ map (λ m. m.1) seen → d.0 ≡ n.1 → map (λ e. e.0) (ports ++ d ∷ []) ≡ map (λ m. m.1) (seen ++ n ∷ [])
@@ -285,7 +285,7 @@ module _ (c : ServeConfig) (rules : KeepsServe c) (named : IsOneWord c.log) wher
   devices_lead (n ∷ ns) (d ∷ ds) seen ports all_seen all_ports same_above same =
       let here_same = same_first d.0 n.1 (map (λ e. e.0) ds) (map (λ m. m.1) ns) same in
       let others = same_others d.0 n.1 (map (λ e. e.0) ds) (map (λ m. m.1) ns) same in
-      leads-cons config_format (spaced (device_words n d.1)) (device_lines ns ds) (at_devices seen ports) (at_devices (seen ++ n ∷ []) (ports ++ d ∷ [])) (at_devices c.node.neighbours c.devs)
+      leads-cons config_format (spaced_words (device_words n d.1)) (device_lines ns ds) (at_devices seen ports) (at_devices (seen ++ n ∷ []) (ports ++ d ∷ [])) (at_devices c.node.neighbours c.devs)
       (device_step seen ports n d (next_is seen ports n ns d ds all_seen all_ports same_above here_same))
       (devices_lead ns ds (seen ++ n ∷ []) (ports ++ d ∷ []) (more_to c.node.neighbours seen n ns all_seen) (more_to c.devs ports d ds all_ports) (both_more seen ports n d same_above here_same) others)
 

@@ -15,7 +15,7 @@ use Rattle.network_plan.specs.Rules.{PackagesDiffer}
 use Rattle.network_plan.specs.NodeRules.{first_link, KeepsInject, weights}
 use Rattle.line_files.specs.declared.fault.LineReason.TheVariants.{BadWord}
 use Rattle.line_files.specs.declared.programs.OpenProgram.{OpenProgram}
-use Rattle.line_files.specs.Lines.{words, spaced}
+use Rattle.line_files.specs.Lines.{words, spaced_words}
 use Rattle.line_files.specs.Files.{is_skipped, at_line}
 use Rattle.line_files.specs.Inside.{after_lines}
 use Rattle.line_files.specs.Packages.{same_package}
@@ -58,7 +58,7 @@ may_follow part (p ∷ ps) e = may_follow parts.Missing ps refl
 missing_clean : (p : PackageName) → Clean (missing_words p)
 missing_clean p = clean_more (codes "without") (package_word p ∷ []) (refl, refl) (package_clean p)
 
-missing_free : (ps : List PackageName) → Free 10 (map (λ p. spaced (missing_words p)) ps)
+missing_free : (ps : List PackageName) → Free 10 (map (λ p. spaced_words (missing_words p)) ps)
 missing_free [] = tt
 missing_free (p ∷ ps) = (line_is (missing_words p) (missing_clean p).1, missing_free ps)
 
@@ -85,7 +85,7 @@ turn_small n few = omega (arith, few)
 bound_small : (n : ℕ) → n ≤ 65535 → n < 2 ^ 64
 bound_small n few = omega (arith, few)
 
-inject_words_are : (p : ProgramText) (by : Chunk → List ℕ) (c : ServeConfig) (i : Injection) → KeepsInject c.node.version i → Injected p by i → words (spaced (inject_words by i)) ≡ codes "at" ∷ read_words by i
+inject_words_are : (p : ProgramText) (by : Chunk → List ℕ) (c : ServeConfig) (i : Injection) → KeepsInject c.node.version i → Injected p by i → words (spaced_words (inject_words by i)) ≡ codes "at" ∷ read_words by i
 inject_words_are p by c i k w =
     words_rest (codes "at") (prefix_words i) (by i.chunk) (
       refl,
@@ -137,7 +137,7 @@ module _ (given : Option ProgramText) (by : Chunk → List ℕ) (c : ServeConfig
   lacks part missing = state part missing (opened_program 1) None [] 0
 
   missing_step : (part : TailPart) (seen : List PackageName) (p : PackageName) → may_come part tail.Without ≡ true → list_any (same_package p) seen ≡ false → (number : ℕ)
-      → config_format.step number (spaced (missing_words p)) (lacks part seen) ≡ Ok (lacks parts.Missing (seen ++ p ∷ []))
+      → config_format.step number (spaced_words (missing_words p)) (lacks part seen) ≡ Ok (lacks parts.Missing (seen ++ p ∷ []))
   unfolding config_step_at tail_line tail_rest missing_line
   missing_step part seen p free new number =
       usual_again number (codes "without") (package_word p ∷ []) (lacks part seen) (lacks parts.Missing (seen ++ p ∷ [])) (λ ws. tail_line part number ws (lacks part seen)) refl (missing_clean p)
@@ -145,10 +145,10 @@ module _ (given : Option ProgramText) (by : Chunk → List ℕ) (c : ServeConfig
       (then_ok _ (seen ++ p ∷ [], []) _ _ (package_reads seen p new) refl))
 
   -- missing packages are read behind others
-  missing_lead : (ps seen : List PackageName) (part : TailPart) → seen ++ ps ≡ c.missing → may_come part tail.Without ≡ true → Leads config_format (map (λ p. spaced (missing_words p)) ps) (lacks part seen) (lacks (part_after part ps) c.missing)
+  missing_lead : (ps seen : List PackageName) (part : TailPart) → seen ++ ps ≡ c.missing → may_come part tail.Without ≡ true → Leads config_format (map (λ p. spaced_words (missing_words p)) ps) (lacks part seen) (lacks (part_after part ps) c.missing)
   missing_lead [] seen part e free = subst (λ (l : List PackageName). Leads config_format [] (lacks part seen) (lacks part l)) (sym (append-nil seen) ∙ e) (leads-nil config_format (lacks part seen))
   missing_lead (p ∷ ps) seen part e free =
-      leads-cons config_format (spaced (missing_words p)) (map (λ q. spaced (missing_words q)) ps) (lacks part seen) (lacks parts.Missing (seen ++ p ∷ [])) (lacks (part_after parts.Missing ps) c.missing)
+      leads-cons config_format (spaced_words (missing_words p)) (map (λ q. spaced_words (missing_words q)) ps) (lacks part seen) (lacks parts.Missing (seen ++ p ∷ [])) (lacks (part_after parts.Missing ps) c.missing)
       (missing_step part seen p free (fresh_package seen p ps (subst PackagesDiffer (sym e) is.rules.missing)))
       (missing_lead ps (seen ++ p ∷ []) parts.Missing (more_to c.missing seen p ps e) refl)
 
@@ -200,33 +200,33 @@ module _ (given : Option ProgramText) (by : Chunk → List ℕ) (c : ServeConfig
       (then_ok _ (i.chunk, i.bound, i.handler) _ _ (ap (λ (q : Program). injection_at c.node.version q args) (sym w.0) ∙ injection_ok c.node.version (by i.chunk) i.chunk i.bound i.handler w.1 w.2 k.2)
       (then_ok _ (weight + (1 + chunk_weight i.chunk)) _ _ (weighed_ok weight i.chunk few) refl))
 
-  says_something : (i : Injection) → is_skipped (spaced (inject_words by i)) ≡ false
+  says_something : (i : Injection) → is_skipped (spaced_words (inject_words by i)) ≡ false
   says_something i = refl
 
   inject_step : (p : ProgramText) (begun : OpenProgram) (seen : List Injection) (weight : ℕ) (i : Injection) → KeepsInject c.node.version i → Injected p by i → weight + (1 + chunk_weight i.chunk) ≤ 16777216 → (number : ℕ)
-      → config_format.step number (spaced (inject_words by i)) (behind p begun seen weight) ≡ Ok (behind p begun (seen ++ i ∷ []) (weight + (1 + chunk_weight i.chunk)))
+      → config_format.step number (spaced_words (inject_words by i)) (behind p begun seen weight) ≡ Ok (behind p begun (seen ++ i ∷ []) (weight + (1 + chunk_weight i.chunk)))
   unfolding config_step_at tail_line tail_rest
   inject_step p begun seen weight i k w few number =
-      usual_by number (spaced (inject_words by i)) (codes "at" ∷ read_words by i) (behind p begun seen weight) (behind p begun (seen ++ i ∷ []) (weight + (1 + chunk_weight i.chunk))) (λ ws. tail_line parts.Behind number ws (behind p begun seen weight)) (says_something i) (inject_words_are p by c i k w)
+      usual_by number (spaced_words (inject_words by i)) (codes "at" ∷ read_words by i) (behind p begun seen weight) (behind p begun (seen ++ i ∷ []) (weight + (1 + chunk_weight i.chunk))) (λ ws. tail_line parts.Behind number ws (behind p begun seen weight)) (says_something i) (inject_words_are p by c i k w)
       (inject_reads p begun seen weight i k w few)
 
   -- injections are read behind others
   injects_lead : (p : ProgramText) (begun : OpenProgram) (rest seen : List Injection) (weight total : ℕ) → seen ++ rest ≡ c.at → weight + weights rest ≡ total → total ≤ 16777216 → All (KeepsInject c.node.version) rest → All (Injected p by) rest
-      → Leads config_format (map (λ i. spaced (inject_words by i)) rest) (behind p begun seen weight) (behind p begun c.at total)
+      → Leads config_format (map (λ i. spaced_words (inject_words by i)) rest) (behind p begun seen weight) (behind p begun c.at total)
   injects_lead p begun [] seen weight total e sum few k w =
       let same : weight ≡ total = omega (arith, sum) in
       subst (λ (n : ℕ). Leads config_format [] (behind p begun seen weight) (behind p begun c.at n)) same
       (subst (λ (l : List Injection). Leads config_format [] (behind p begun seen weight) (behind p begun l weight)) (sym (append-nil seen) ∙ e) (leads-nil config_format (behind p begun seen weight)))
   injects_lead p begun (i ∷ rest) seen weight total e sum few k w =
       let next : weight + (1 + chunk_weight i.chunk) + weights rest ≡ total = omega (arith, sum) in
-      leads-cons config_format (spaced (inject_words by i)) (map (λ x. spaced (inject_words by x)) rest) (behind p begun seen weight) (behind p begun (seen ++ i ∷ []) (weight + (1 + chunk_weight i.chunk))) (behind p begun c.at total)
+      leads-cons config_format (spaced_words (inject_words by i)) (map (λ x. spaced_words (inject_words by x)) rest) (behind p begun seen weight) (behind p begun (seen ++ i ∷ []) (weight + (1 + chunk_weight i.chunk))) (behind p begun c.at total)
       (inject_step p begun seen weight i (All-head (KeepsInject c.node.version) i rest k) (All-head (Injected p by) i rest w) (omega (arith, next, few)))
       (injects_lead p begun rest (seen ++ i ∷ []) (weight + (1 + chunk_weight i.chunk)) total (more_to c.at seen i rest e) next few (All-tail (KeepsInject c.node.version) i rest k) (All-tail (Injected p by) i rest w))
 
   -- ---- the whole
 
   abbrev injected_lines : List Injection → List (List ℕ)
-  injected_lines at = map (λ i. spaced (inject_words by i)) at
+  injected_lines at = map (λ i. spaced_words (inject_words by i)) at
 
   -- lines that lead to what says the configuration
   record Says (number : ℕ) (ls : List (List ℕ)) (s : ConfigReading) : Type 0 where
@@ -262,7 +262,7 @@ module _ (given : Option ProgramText) (by : Chunk → List ℕ) (c : ServeConfig
   rest_says (Some p) g w number = with_program p g w number
 
   abbrev missing_lines : List (List ℕ)
-  missing_lines = map (λ p. spaced (missing_words p)) c.missing
+  missing_lines = map (λ p. spaced_words (missing_words p)) c.missing
 
   abbrev neighbour_lines : List (List ℕ)
   neighbour_lines = device_lines c.node.neighbours c.devs
@@ -292,7 +292,7 @@ module _ (given : Option ProgramText) (by : Chunk → List ℕ) (c : ServeConfig
   rest_free (Some p) g w =
       let both : All (Both p by c) c.at = λ k d h. (is.rules.injects k d h, w k d h) in
       free-append 10 (program_lines p.text) (injected_lines c.at) (refl, free-append 10 p.text _ (text_free p.text g.lines) (refl, tt))
-      (all_free (λ i. spaced (inject_words by i)) (Both p by c) (λ i k. line_is (inject_words by i) (inject_free p by c i k.0 k.1)) c.at both)
+      (all_free (λ i. spaced_words (inject_words by i)) (Both p by c) (λ i k. line_is (inject_words by i) (inject_free p by c i k.0 k.1)) c.at both)
 
   lines_free : Free 10 (config_lines given by c)
   lines_free =

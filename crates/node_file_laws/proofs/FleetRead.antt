@@ -12,7 +12,7 @@ use Rattle.network_plan.specs.declared.fleet.Kid.TheVariants as kids
 use Rattle.network_plan.specs.FileNames.{is_file_name}
 use Rattle.network_plan.specs.NodeRules.{KeepsKid}
 use Rattle.line_files.specs.declared.fault.LineReason.TheVariants.{BadWord, TooMany}
-use Rattle.line_files.specs.Lines.{spaced}
+use Rattle.line_files.specs.Lines.{spaced_words}
 use Rattle.line_files.specs.FileNames.{file_name_at}
 use Rattle.line_files.proofs.Again.{without}
 use Rattle.schedule_laws.proofs.WordLaws.{line_is}
@@ -60,17 +60,17 @@ kid_clean (kids.Ask h file) k f = clean_more (codes "ask") (decimal h.0 ∷ file
 
 -- ---- lines
 
-kid_step : (kid : Kid) (seen : List Kid) → KeepsKid kid → IsNamedFile kid → length seen < 64 → (number : ℕ) → fleet_format.step number (spaced (kid_words kid)) (so_far seen) ≡ Ok (so_far (seen ++ kid ∷ []))
+kid_step : (kid : Kid) (seen : List Kid) → KeepsKid kid → IsNamedFile kid → length seen < 64 → (number : ℕ) → fleet_format.step number (spaced_words (kid_words kid)) (so_far seen) ≡ Ok (so_far (seen ++ kid ∷ []))
 unfolding fleet_step_at
 kid_step (kids.Node h file turns) seen k f room number =
     usual_again number (codes "node") (decimal h.0 ∷ file ∷ decimal turns ∷ []) (so_far seen) (so_far (seen ++ kids.Node h file turns ∷ [])) (λ ws. kid_line ws (so_far seen)) refl (kid_clean (kids.Node h file turns) k f) (kid_reads (kids.Node h file turns) seen k room)
 kid_step (kids.Ask h file) seen k f room number =
     usual_again number (codes "ask") (decimal h.0 ∷ file ∷ []) (so_far seen) (so_far (seen ++ kids.Ask h file ∷ [])) (λ ws. kid_line ws (so_far seen)) refl (kid_clean (kids.Ask h file) k f) (kid_reads (kids.Ask h file) seen k room)
 
-kids_lead : (all seen more : List Kid) → seen ++ more ≡ all → length all ≤ 64 → All KeepsKid more → All IsNamedFile more → Leads fleet_format (map (λ k. spaced (kid_words k)) more) (so_far seen) (so_far all)
+kids_lead : (all seen more : List Kid) → seen ++ more ≡ all → length all ≤ 64 → All KeepsKid more → All IsNamedFile more → Leads fleet_format (map (λ k. spaced_words (kid_words k)) more) (so_far seen) (so_far all)
 kids_lead all seen [] e few k f = subst (λ (l : List Kid). Leads fleet_format [] (so_far seen) (so_far l)) (sym (append-nil seen) ∙ e) (leads-nil fleet_format (so_far seen))
 kids_lead all seen (kid ∷ more) e few k f =
-    leads-cons fleet_format (spaced (kid_words kid)) (map (λ x. spaced (kid_words x)) more) (so_far seen) (so_far (seen ++ kid ∷ [])) (so_far all)
+    leads-cons fleet_format (spaced_words (kid_words kid)) (map (λ x. spaced_words (kid_words x)) more) (so_far seen) (so_far (seen ++ kid ∷ [])) (so_far all)
     (kid_step kid seen (All-head KeepsKid kid more k) (All-head IsNamedFile kid more f) (room_for all seen kid more 64 e few))
     (kids_lead all (seen ++ kid ∷ []) more (more_to all seen kid more e) few (All-tail KeepsKid kid more k) (All-tail IsNamedFile kid more f))
 
@@ -81,7 +81,7 @@ header_step number = refl
 abbrev IsWrittenKid : Kid → Type 0
 IsWrittenKid kid = KeepsKid kid × IsNamedFile kid
 
-kid_free : (kid : Kid) → IsWrittenKid kid → without 10 (spaced (kid_words kid)) ≡ true
+kid_free : (kid : Kid) → IsWrittenKid kid → without 10 (spaced_words (kid_words kid)) ≡ true
 kid_free kid k = line_is (kid_words kid) (kid_clean kid k.0 k.1).1
 
 end_is : (number : ℕ) (f : Fleet) → 1 ≤ length f.children → fleet_format.finish number (so_far f.children) ≡ Ok f
@@ -92,6 +92,6 @@ pub fleet_again : (f : Fleet) → IsFleet f → fleet_of (fleet_text f) ≡ Ok f
 fleet_again f is =
     let both : All IsWrittenKid f.children = λ k d h. (is.rules.children k d h, is.files k d h) in
     said_by fleet_format (fleet_lines f) no_children (so_far f.children) (Ok f)
-    (refl, all_free (λ k. spaced (kid_words k)) IsWrittenKid kid_free f.children both)
+    (refl, all_free (λ k. spaced_words (kid_words k)) IsWrittenKid kid_free f.children both)
     (leads-cons fleet_format (codes "planet fleet 1") _ no_children (so_far []) (so_far f.children) header_step (kids_lead f.children [] f.children refl is.rules.few is.rules.children is.files) 1)
     (end_is (1 + length (fleet_lines f)) f is.rules.some)

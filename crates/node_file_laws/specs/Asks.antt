@@ -4,7 +4,7 @@ use Rattle.std.specs.Fmt.{decimal}
 use lib.Chars.{codes}
 use Rattle.network_plan.specs.declared.fleet.AskFile.{AskFile}
 use Rattle.network_plan.specs.NodeRules.{KeepsAsk}
-use Rattle.line_files.specs.Lines.{spaced}
+use Rattle.line_files.specs.Lines.{spaced_words}
 use Rattle.schedule_laws.specs.Written.{spread, IsCall}
 use Rattle.node_file_laws.specs.Words.{program_lines, IsTextOf}
 
@@ -23,7 +23,7 @@ entry_words args a = codes "entry" ∷ a.chunk.entry ∷ args ∷ []
 
 -- a request line by line, its program last
 abbrev pub ask_lines : List (List ℕ) → List ℕ → AskFile → List (List ℕ)
-ask_lines text args a = codes "planet inject 1" ∷ spaced (to_words a) ∷ spaced (from_words a) ∷ spaced (bound_words a) ∷ spaced (entry_words args a) ∷ program_lines text
+ask_lines text args a = codes "planet inject 1" ∷ spaced_words (to_words a) ∷ spaced_words (from_words a) ∷ spaced_words (bound_words a) ∷ spaced_words (entry_words args a) ∷ program_lines text
 
 -- a request as a text
 abbrev pub ask_text : List (List ℕ) → List ℕ → AskFile → List ℕ

@@ -12,7 +12,7 @@ use Rattle.link_window.specs.declared.window.Version.TheVariants.{One, Two}
 use Rattle.network_plan.specs.declared.serve.Inject.{Inject as Injection}
 use Rattle.network_plan.specs.declared.serve.ServeConfig.{ServeConfig}
 use Rattle.network_plan.specs.NodeRules.{KeepsServe}
-use Rattle.line_files.specs.Lines.{spaced}
+use Rattle.line_files.specs.Lines.{spaced_words}
 use Rattle.schedule_laws.specs.Written.{spread, handler_words, IsCall, IsNamed}
 use Rattle.node_files.specs.LogTexts.{host_words, hosts_words, missing_words}
 use Rattle.node_file_laws.specs.Words.{IsOneWord, program_lines, IsTextOf}
@@ -44,7 +44,7 @@ device_words n p = codes "dev" ∷ decimal n.1.0 ∷ decimal n.0.0 ∷ decimal p
 
 -- the neighbours, each with its port
 unfoldable pub device_lines : List (Host × Dev) → List (Dev × ℕ) → List (List ℕ)
-device_lines (n ∷ ns) (d ∷ ds) = spaced (device_words n d.1) ∷ device_lines ns ds
+device_lines (n ∷ ns) (d ∷ ds) = spaced_words (device_words n d.1) ∷ device_lines ns ds
 device_lines _ _ = []
 
 -- the program, if the file has one
@@ -59,14 +59,14 @@ inject_words by i = codes "at" ∷ decimal i.turn ∷ codes "inject" ∷ i.chunk
 -- the lines in front of the neighbours
 abbrev pub head_lines : ServeConfig → List (List ℕ)
 head_lines c =
-    header_line c.node.version ∷ spaced (host_words c.node.here) ∷ spaced (hosts_words c.node.hosts)
-    ∷ spaced (port_words c.port) ∷ spaced (control_words c.control) ∷ spaced (period_words c.period) ∷ spaced (log_words c.log) ∷ []
+    header_line c.node.version ∷ spaced_words (host_words c.node.here) ∷ spaced_words (hosts_words c.node.hosts)
+    ∷ spaced_words (port_words c.port) ∷ spaced_words (control_words c.control) ∷ spaced_words (period_words c.period) ∷ spaced_words (log_words c.log) ∷ []
 
 -- a configuration line by line: neighbours, missing packages, the program, and what is injected
 abbrev pub config_lines : Option ProgramText → (Chunk → List ℕ) → ServeConfig → List (List ℕ)
 config_lines program by c =
-    head_lines c ++ (device_lines c.node.neighbours c.devs ++ (map (λ p. spaced (missing_words p)) c.missing
-    ++ (given_lines program ++ map (λ i. spaced (inject_words by i)) c.at)))
+    head_lines c ++ (device_lines c.node.neighbours c.devs ++ (map (λ p. spaced_words (missing_words p)) c.missing
+    ++ (given_lines program ++ map (λ i. spaced_words (inject_words by i)) c.at)))
 
 -- a configuration as a text
 abbrev pub config_text : Option ProgramText → (Chunk → List ℕ) → ServeConfig → List ℕ

@@ -7,7 +7,7 @@ use Rattle.network_plan.specs.declared.fleet.Fleet.{Fleet}
 use Rattle.network_plan.specs.declared.fleet.Kid.{Kid}
 use Rattle.network_plan.specs.declared.fleet.Kid.TheVariants as kids
 use Rattle.network_plan.specs.NodeRules.{KeepsFleet}
-use Rattle.line_files.specs.Lines.{spaced}
+use Rattle.line_files.specs.Lines.{spaced_words}
 use Rattle.schedule_laws.specs.Written.{spread}
 use Rattle.node_file_laws.specs.Words.{IsOneWord}
 
@@ -18,7 +18,7 @@ kid_words (kids.Ask h file) = codes "ask" ∷ decimal h.0 ∷ file ∷ []
 
 -- a fleet line by line: the header, and then the children
 abbrev pub fleet_lines : Fleet → List (List ℕ)
-fleet_lines f = codes "planet fleet 1" ∷ map (λ k. spaced (kid_words k)) f.children
+fleet_lines f = codes "planet fleet 1" ∷ map (λ k. spaced_words (kid_words k)) f.children
 
 -- a fleet as a text
 abbrev pub fleet_text : Fleet → List ℕ

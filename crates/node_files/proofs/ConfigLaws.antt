@@ -23,12 +23,12 @@ use Rattle.network_plan.specs.NodeRules.{IsNeighbour, DevicesAscend, IsPort, Por
 use Rattle.line_files.specs.declared.fault.LineReason.TheVariants.{BadHeader, BadWord, UnknownProgram, TwiceNamed}
 use Rattle.line_files.specs.declared.fault.LineFault.{LineFault}
 use Rattle.line_files.specs.Lines.{lines}
-use Rattle.line_files.specs.Reads.{word_at, end_at, allowed, FileGives}
+use Rattle.line_files.specs.Reads.{word_at, end_at, allowed_or_reason, FileGives}
 use Rattle.line_files.specs.Numbers.{number_at}
 use Rattle.line_files.specs.Packages.{package_at}
 use Rattle.line_files.specs.FileNames.{file_name_at}
 use Rattle.line_files.specs.Headers.{version_in}
-use Rattle.line_files.specs.Programs.{opened_program, with_line, program_in, weighed}
+use Rattle.line_files.specs.Programs.{opened_program, with_line, program_in, weighed_sum}
 use Rattle.line_files.specs.Injections.{injection_at}
 use Rattle.line_files.specs.Inside.{OnFault, RefusesRead}
 use Rattle.line_files.proofs.FileLaws.{is_keeping}
@@ -46,7 +46,7 @@ use Rattle.node_files.specs.declared.config.ConfigStage.{ConfigStage}
 use Rattle.node_files.specs.declared.config.ConfigStage.TheVariants as stages
 use Rattle.node_files.specs.declared.config.ConfigReading.{ConfigReading}
 use Rattle.node_files.specs.Parts.{behind_word, last_number}
-use Rattle.node_files.specs.Nodes.{host_line, hosts_line, neighbour_at, placed, device_of, port_device}
+use Rattle.node_files.specs.Nodes.{host_line, hosts_line, neighbour_at, placed_items, device_of, port_device}
 use Rattle.node_files.specs.Configs.{port_line, is_used, free_port, control_line, period_line, log_line, wanted_line, tail_word, may_come, with_device, device_line, missing_line, program_line, inject_line, tail_rest, tail_line, close_program, begun_by, config_step_at, config_said, config_end, config_format, nothing_read, config_of}
 use Rattle.node_files.specs.Answers.{Accepted, Refused}
 use Rattle.node_files.proofs.PartLaws.{HasChecked, last_number_is, link_small, usual_keeps, usual_placed, value_or_refusal}
@@ -132,7 +132,7 @@ free_port_is : (s : ConfigReading) (ws : List (List ℕ)) → IfRead (FreeFront 
 unfolding free_port
 free_port_is s ws =
     then_keeps (FreeFront s) (number_at 1 65535 ws) _ (λ p hp.
-    then_keeps (FreeFront s) (allowed (not (is_used s p.0)) TwiceNamed) _ (λ u hu.
+    then_keeps (FreeFront s) (allowed_or_reason (not (is_used s p.0)) TwiceNamed) _ (λ u hu.
     done_keeps (FreeFront s) p (free_is s p.0 (number_is 1 65535 ws p hp) (allowed_not (is_used s p.0) TwiceNamed u hu))))
 
 -- ---- the lines up to the name of the log
@@ -192,7 +192,7 @@ wanted_keeps head.Log ws s k = log_keeps ws s k
 
 -- ---- the lines behind it
 
-more_devices : (s : ConfigReading) (n : Host × Dev) (p : ℕ) → Devices s → IsNew s.here s.hosts s.neighbours n → IsFree s p → KeepsDevices s.here s.hosts s.port s.control (placed device_of n s.neighbours) (placed port_device (n.1, p) s.devs)
+more_devices : (s : ConfigReading) (n : Host × Dev) (p : ℕ) → Devices s → IsNew s.here s.hosts s.neighbours n → IsFree s p → KeepsDevices s.here s.hosts s.port s.control (placed_items device_of n s.neighbours) (placed_items port_device (n.1, p) s.devs)
 more_devices s n p k new free =
     let P = λ (d : Dev × ℕ). d.1 in
     let more = All-tail IsPort s.port (s.control ∷ map P s.devs) k.ports in
@@ -200,11 +200,11 @@ more_devices s n p k new free =
       neighbours = all_placed (IsNeighbour s.here s.hosts) device_of n s.neighbours new.neighbour k.neighbours;
       ascend = ascend_placed n s.neighbours new.free k.ascend;
       same = same_devices n p s.neighbours s.devs k.same;
-      ports = All-cons IsPort s.port (s.control ∷ map P (placed port_device (n.1, p) s.devs)) (All-head IsPort s.port (s.control ∷ map P s.devs) k.ports)
-          (All-cons IsPort s.control (map P (placed port_device (n.1, p) s.devs)) (All-head IsPort s.control (map P s.devs) more)
+      ports = All-cons IsPort s.port (s.control ∷ map P (placed_items port_device (n.1, p) s.devs)) (All-head IsPort s.port (s.control ∷ map P s.devs) k.ports)
+          (All-cons IsPort s.control (map P (placed_items port_device (n.1, p) s.devs)) (All-head IsPort s.control (map P s.devs) more)
           (all_ports IsPort P port_device (n.1, p) s.devs free.port (All-tail IsPort s.control (map P s.devs) more)));
       apart = (
-        All-cons (λ q. q ≢ s.port) s.control (map P (placed port_device (n.1, p) s.devs)) (All-head (λ q. q ≢ s.port) s.control (map P s.devs) k.apart.0)
+        All-cons (λ q. q ≢ s.port) s.control (map P (placed_items port_device (n.1, p) s.devs)) (All-head (λ q. q ≢ s.port) s.control (map P s.devs) k.apart.0)
             (all_ports (λ q. q ≢ s.port) P port_device (n.1, p) s.devs (λ e. free.other (sym e)) (All-tail (λ q. q ≢ s.port) s.control (map P s.devs) k.apart.0)),
         (
           all_ports (λ q. q ≢ s.control) P port_device (n.1, p) s.devs (λ e. free.owner (sym e)) k.apart.1.0,
@@ -264,7 +264,7 @@ inject_keeps ws s l k =
     then_keeps Kept (number_at 1 1000000 ws) _ (λ turn ht.
     then_keeps Kept (behind_word (codes "inject") turn.1) _ (λ more hm.
     then_keeps Kept (injection_at s.version program more) _ (λ i hi.
-    then_keeps Kept (weighed s.weight i.0) _ (λ total hw.
+    then_keeps Kept (weighed_sum s.weight i.0) _ (λ total hw.
     let t = k.2 in
     let turns = number_is 1 1000000 ws turn ht in
     let in_all = weighed_is s.weight i.0 total hw in
@@ -296,7 +296,7 @@ unfolding tail_line
 tail_keeps part number ws s l k =
     then_keeps Kept (word_at ws) _ (λ w hw.
     then_keeps Kept (ok_or (tail_word w.0) BadWord) _ (λ kind hk.
-    then_keeps Kept (allowed (may_come part kind) BadWord) _ (λ u hu.
+    then_keeps Kept (allowed_or_reason (may_come part kind) BadWord) _ (λ u hu.
     rest_keeps kind number w.1 s l k)))
 
 close_keeps : (s : ConfigReading) → Whole s → IfRead Kept (close_program s)
@@ -427,7 +427,7 @@ rest_begun number ws s low b tail.At =
     then_keeps (Begun number) (number_at 1 1000000 ws) _ (λ turn ht.
     then_keeps (Begun number) (behind_word (codes "inject") turn.1) _ (λ more hm.
     then_keeps (Begun number) (injection_at s.version program more) _ (λ i hi.
-    then_keeps (Begun number) (weighed s.weight i.0) _ (λ total hw.
+    then_keeps (Begun number) (weighed_sum s.weight i.0) _ (λ total hw.
     done_keeps (Begun number) (record s { at = s.at ++ (record { turn = turn.0; bound = i.1; chunk = i.0; handler = i.2 }) ∷ []; weight = total }) b)))))
 
 tail_begun : (part : TailPart) (number : ℕ) (ws : List (List ℕ)) (s : ConfigReading) → 1 ≤ number → Begun number s → IfRead (Begun number) (tail_line part number ws s)
@@ -435,7 +435,7 @@ unfolding tail_line
 tail_begun part number ws s low b =
     then_keeps (Begun number) (word_at ws) _ (λ w hw.
     then_keeps (Begun number) (ok_or (tail_word w.0) BadWord) _ (λ kind hk.
-    then_keeps (Begun number) (allowed (may_come part kind) BadWord) _ (λ u hu.
+    then_keeps (Begun number) (allowed_or_reason (may_come part kind) BadWord) _ (λ u hu.
     rest_begun number w.1 s low b kind)))
 
 close_begun : (number : ℕ) (s : ConfigReading) → Begun number s → IfRead (Begun number) (close_program s)

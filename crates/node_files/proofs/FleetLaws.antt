@@ -13,7 +13,7 @@ use Rattle.network_plan.specs.NodeRules.{KeepsKid, KeepsFleet}
 use Rattle.line_files.specs.declared.fault.LineReason.TheVariants.{BadHeader, BadWord, TooMany}
 use Rattle.line_files.specs.declared.fault.LineFault.{LineFault}
 use Rattle.line_files.specs.Lines.{lines}
-use Rattle.line_files.specs.Reads.{word_at, end_at, allowed, FileGives}
+use Rattle.line_files.specs.Reads.{word_at, end_at, allowed_or_reason, FileGives}
 use Rattle.line_files.specs.Numbers.{number_at}
 use Rattle.line_files.specs.FileNames.{file_name_at}
 use Rattle.line_files.proofs.FileLaws.{is_keeping}
@@ -61,7 +61,7 @@ unfolding kid_line
 kid_keeps ws s k =
     then_keeps Keeps (word_at ws) _ (λ w hw.
     then_keeps Keeps (ok_or (kid_word w.0) BadWord) _ (λ kind hk.
-    then_keeps Keeps (allowed (ltb (length s.children) 64) TooMany) _ (λ u hu.
+    then_keeps Keeps (allowed_or_reason (ltb (length s.children) 64) TooMany) _ (λ u hu.
     then_keeps Keeps (kid_rest kind w.1) _ (λ kid hd.
     done_keeps Keeps _ (record {
       few = omega (arith, length-append s.children (kid ∷ []), allowed_below (length s.children) 64 TooMany u hu);

@@ -21,7 +21,7 @@ use Rattle.network_plan.specs.NodeRules.{IsNeighbour, DevicesAscend, KeepsBoot, 
 use Rattle.line_files.specs.declared.fault.LineReason.TheVariants.{BadHeader, BadWord, TooMany, BadArgument}
 use Rattle.line_files.specs.declared.fault.LineFault.{LineFault}
 use Rattle.line_files.specs.Lines.{lines}
-use Rattle.line_files.specs.Reads.{word_at, end_at, allowed, FileGives}
+use Rattle.line_files.specs.Reads.{word_at, end_at, allowed_or_reason, FileGives}
 use Rattle.line_files.specs.Numbers.{number_at}
 use Rattle.line_files.specs.Packages.{package_at}
 use Rattle.line_files.specs.HexWords.{hex_at}
@@ -41,7 +41,7 @@ use Rattle.node_files.specs.declared.log.LogStage.{LogStage}
 use Rattle.node_files.specs.declared.log.LogStage.TheVariants as stages
 use Rattle.node_files.specs.declared.log.LogReading.{LogReading}
 use Rattle.node_files.specs.Parts.{behind_word, last_number}
-use Rattle.node_files.specs.Nodes.{host_line, hosts_line, neighbour_at, placed, device_of}
+use Rattle.node_files.specs.Nodes.{host_line, hosts_line, neighbour_at, placed_items, device_of}
 use Rattle.node_files.specs.ChunkWords.{typed_chunk, chunk_at}
 use Rattle.node_files.specs.Logs.{behind_host, own_line, boot_line, network_line, node_word, may_come, device_line, missing_line, events_line, node_rest, node_line, entry_word, inject_entry, frame_entry, control_entry, take_entry, entry_rest, entry_line, begun_by, log_step_at, log_said, log_end, log_format, nothing_logged, log_of}
 use Rattle.node_files.specs.Answers.{Accepted, Refused}
@@ -198,7 +198,7 @@ device_keeps ws s l k =
     then_keeps Kept (neighbour_at s.here s.hosts s.neighbours ws) _ (λ n hn.
     then_keeps Kept (end_at n.1) _ (λ u hu.
     let new = neighbour_is s.here s.hosts s.neighbours ws n hn in
-    let next : LogReading = record s { neighbours = placed device_of n.0 s.neighbours } in
+    let next : LogReading = record s { neighbours = placed_items device_of n.0 s.neighbours } in
     done_keeps Kept next (late_is s.stage next l (
       k.0,
       record {
@@ -232,7 +232,7 @@ unfolding node_line
 node_keeps lacks ws s l k =
     then_keeps Kept (word_at ws) _ (λ w hw.
     then_keeps Kept (ok_or (node_word w.0) BadWord) _ (λ kind hk.
-    then_keeps Kept (allowed (may_come lacks kind) BadWord) _ (λ u hu.
+    then_keeps Kept (allowed_or_reason (may_come lacks kind) BadWord) _ (λ u hu.
     node_rest_keeps kind w.1 s l k)))
 
 entry_keeps : (ws : List (List ℕ)) (s : LogReading) → IsLate s.stage → Whole s → IfRead Kept (entry_line ws s)
@@ -240,7 +240,7 @@ unfolding entry_line
 entry_keeps ws s l k =
     then_keeps Kept (word_at ws) _ (λ w hw.
     then_keeps Kept (ok_or (entry_word w.0) BadWord) _ (λ kind hk.
-    then_keeps Kept (allowed (ltb (length s.events) 50000) TooMany) _ (λ u hu.
+    then_keeps Kept (allowed_or_reason (ltb (length s.events) 50000) TooMany) _ (λ u hu.
     then_keeps Kept (entry_rest s.version kind w.1) _ (λ e he.
     let r = k.2 in
     let next : LogReading = record s { events = s.events ++ e ∷ [] } in

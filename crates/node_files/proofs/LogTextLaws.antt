@@ -29,7 +29,7 @@ use Rattle.network_plan.specs.declared.node.Log.{Log}
 use Rattle.network_plan.specs.Hosts.{host_of, is_listed}
 use Rattle.network_plan.specs.Rules.{PackagesDiffer, MayName, KeepsInjection, MayArrive}
 use Rattle.network_plan.specs.NodeRules.{Ascend, DevicesAscend, IsNeighbour, first_link, KeepsBoot, KeepsNode, KeepsEntry, KeepsLog}
-use Rattle.line_files.specs.Lines.{lines, words, spaced, behind}
+use Rattle.line_files.specs.Lines.{lines, words, spaced_words, behind}
 use Rattle.line_files.specs.Files.{is_skipped, read_on}
 use Rattle.line_files.specs.Packages.{same_package}
 use Rattle.line_files.specs.HexWords.{within_size, hex_at}
@@ -57,14 +57,14 @@ closing_is : (ws : List (List ℕ)) → closing ws ≡ behind ws ++ (10 ∷ [])
 closing_is [] = refl
 closing_is (w ∷ ws) = ap (λ (l : List ℕ). (32 ∷ w) ++ l) (closing_is ws) ∙ sym (append_assoc (32 ∷ w) (behind ws) (10 ∷ []))
 
-line_ends : (w : List ℕ) (ws : List (List ℕ)) → line_text (w ∷ ws) ≡ spaced (w ∷ ws) ++ (10 ∷ [])
+line_ends : (w : List ℕ) (ws : List (List ℕ)) → line_text (w ∷ ws) ≡ spaced_words (w ∷ ws) ++ (10 ∷ [])
 line_ends w ws = ap (λ (l : List ℕ). w ++ l) (closing_is ws) ∙ sym (append_assoc w (behind ws) (10 ∷ []))
 
-lines_again : (w : List ℕ) (ws : List (List ℕ)) (more : List ℕ) → Clean (w ∷ ws) → lines (line_text (w ∷ ws) ++ more) ≡ spaced (w ∷ ws) ∷ lines more
+lines_again : (w : List ℕ) (ws : List (List ℕ)) (more : List ℕ) → Clean (w ∷ ws) → lines (line_text (w ∷ ws) ++ more) ≡ spaced_words (w ∷ ws) ∷ lines more
 lines_again w ws more c =
     ap (λ (l : List ℕ). lines (l ++ more)) (line_ends w ws)
-    ∙ ap lines (append_assoc (spaced (w ∷ ws)) (10 ∷ []) more)
-    ∙ line_first (spaced (w ∷ ws)) more (line_is (w ∷ ws) c.1)
+    ∙ ap lines (append_assoc (spaced_words (w ∷ ws)) (10 ∷ []) more)
+    ∙ line_first (spaced_words (w ∷ ws)) more (line_is (w ∷ ws) c.1)
 
 -- ---- a text that takes a reading from one state to another
 
@@ -94,10 +94,10 @@ step_on : (n : ℕ) (line : List ℕ) (more : List (List ℕ)) (s u : LogReading
 unfolding read_on
 step_on n line more s u e = rw e refl
 
-leads_line : (w : List ℕ) (ws : List (List ℕ)) (s u : LogReading) → Clean (w ∷ ws) → ((n : ℕ) → log_step_at s.stage n (spaced (w ∷ ws)) s ≡ Ok u) → LeadsTo (line_text (w ∷ ws)) s u
+leads_line : (w : List ℕ) (ws : List (List ℕ)) (s u : LogReading) → Clean (w ∷ ws) → ((n : ℕ) → log_step_at s.stage n (spaced_words (w ∷ ws)) s ≡ Ok u) → LeadsTo (line_text (w ∷ ws)) s u
 leads_line w ws s u c step n more = record {
   last = n + 1;
-  is = ap (λ (l : List (List ℕ)). read_on log_format n l s) (lines_again w ws more c) ∙ step_on n (spaced (w ∷ ws)) (lines more) s u (step n);
+  is = ap (λ (l : List (List ℕ)). read_on log_format n l s) (lines_again w ws more c) ∙ step_on n (spaced_words (w ∷ ws)) (lines more) s u (step n);
 }
 
 -- ---- the node's own host
@@ -156,7 +156,7 @@ handler_clean (Some name) named = clean_more (codes "handler") (name ∷ []) (re
 module _ (v : Version) (b : ℕ) where
   -- ---- the hosts of the network
 
-  says_hosts : (ws : List (List ℕ)) → is_skipped (spaced (codes "hosts" ∷ ws)) ≡ false
+  says_hosts : (ws : List (List ℕ)) → is_skipped (spaced_words (codes "hosts" ∷ ws)) ≡ false
   says_hosts ws = refl
 
   hosts_lead : (here : Host) (hosts : List Host) → length hosts ≤ 32 → Ascend hosts → All (λ h. h.0 < 2 ^ 32) hosts → is_listed here hosts ≡ true → LeadsTo (line_text (hosts_words hosts)) (state v b stages.Hosts here [] [] [] []) (state v b (stages.Node false) here hosts [] [] [])
@@ -354,7 +354,7 @@ module _ (v : Version) (b : ℕ) where
   words_of (logged.Step (events.Take d)) = refl
   words_of logged.Lost = refl
 
-  entry_says : (e : LogEvent) → is_skipped (spaced (first_of e ∷ others_of e)) ≡ false
+  entry_says : (e : LogEvent) → is_skipped (spaced_words (first_of e ∷ others_of e)) ≡ false
   entry_says (logged.Step (events.Inject c bound handler)) = refl
   entry_says (logged.Step (events.Frame d bytes)) = refl
   entry_says (logged.Step (events.Control bytes)) = refl

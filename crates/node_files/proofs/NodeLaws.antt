@@ -7,7 +7,7 @@ use Rattle.plan_base.specs.declared.ids.Dev.{Dev}
 use Rattle.network_plan.specs.Hosts.{host_of, dev_of, is_listed}
 use Rattle.network_plan.specs.NodeRules.{IsNeighbour}
 use Rattle.line_files.specs.declared.fault.LineReason.TheVariants.{UnknownHost, TwiceNamed, BadArgument}
-use Rattle.line_files.specs.Reads.{allowed}
+use Rattle.line_files.specs.Reads.{allowed_or_reason}
 use Rattle.line_files.specs.Numbers.{number_at}
 use Rattle.line_files.proofs.Keeping.{IfRead, then_keeps, done_keeps, allowed_true, allowed_not, number_is, AreHosts, hosts_with_is}
 use Rattle.node_files.specs.Parts.{behind_word}
@@ -31,10 +31,10 @@ pub neighbour_is : (here : Host) (hosts : List Host) (seen : List (Host × Dev))
 unfolding neighbour_at
 neighbour_is here hosts seen ws =
     then_keeps (NewFront here hosts seen) (number_at 1 8 ws) _ (λ d hd.
-    then_keeps (NewFront here hosts seen) (allowed (not (has_device d.0 seen)) TwiceNamed) _ (λ u hu.
+    then_keeps (NewFront here hosts seen) (allowed_or_reason (not (has_device d.0 seen)) TwiceNamed) _ (λ u hu.
     then_keeps (NewFront here hosts seen) (number_at 0 4294967295 d.1) _ (λ h hh.
-    then_keeps (NewFront here hosts seen) (allowed (is_listed (host_of h.0) hosts) UnknownHost) _ (λ v hv.
-    then_keeps (NewFront here hosts seen) (allowed (not (eqb h.0 here.0)) BadArgument) _ (λ w hw.
+    then_keeps (NewFront here hosts seen) (allowed_or_reason (is_listed (host_of h.0) hosts) UnknownHost) _ (λ v hv.
+    then_keeps (NewFront here hosts seen) (allowed_or_reason (not (eqb h.0 here.0)) BadArgument) _ (λ w hw.
     done_keeps (NewFront here hosts seen) ((host_of h.0, dev_of d.0), h.1) (record {
       neighbour = record {
         listed = allowed_true (is_listed (host_of h.0) hosts) UnknownHost v hv;

@@ -13,7 +13,7 @@ use Rattle.service_api.specs.declared.package.PackageName.TheVariants as package
 use Rattle.network_plan.specs.Hosts.{is_listed}
 use Rattle.network_plan.specs.NodeRules.{Ascend, DevicesAscend, IsNeighbour}
 use Rattle.line_files.specs.declared.fault.LineReason.{LineReason}
-use Rattle.line_files.specs.Lines.{words, spaced}
+use Rattle.line_files.specs.Lines.{words, spaced_words}
 use Rattle.line_files.specs.Files.{is_skipped}
 use Rattle.line_files.specs.Packages.{package_of, same_package, package_at}
 use Rattle.line_files.specs.HostLists.{is_above, host_more, hosts_from, hosts_with}
@@ -22,7 +22,7 @@ use Rattle.schedule_laws.proofs.WordLaws.{Free, IsFree, words_are, number_free}
 use Rattle.schedule_laws.proofs.ReadSteps.{number_ok}
 use Rattle.schedule_laws.proofs.NetworkRead.{all_middle}
 use Rattle.node_files.specs.Parts.{behind_word, last_number, usual_line}
-use Rattle.node_files.specs.Nodes.{host_line, hosts_line, has_device, neighbour_at, placed}
+use Rattle.node_files.specs.Nodes.{host_line, hosts_line, has_device, neighbour_at, placed_items}
 use Rattle.node_files.specs.LogTexts.{host_words, hosts_words}
 use Rattle.node_files.proofs.Placed.{placed_step}
 
@@ -41,8 +41,8 @@ pub usual_by : {A : Type 0} (n : ℕ) (line : List ℕ) (ws : List (List ℕ)) (
 usual_by n line ws s u read says are e = rw (says, are, e) refl
 
 -- which are those that it was made of
-pub usual_again : {A : Type 0} (n : ℕ) (w : List ℕ) (ws : List (List ℕ)) (s u : A) (read : List (List ℕ) → Result A LineReason) → is_skipped (spaced (w ∷ ws)) ≡ false → Clean (w ∷ ws) → read (w ∷ ws) ≡ Ok u → usual_line n (spaced (w ∷ ws)) s read ≡ Ok u
-usual_again n w ws s u read says c e = usual_by n (spaced (w ∷ ws)) (w ∷ ws) s u read says (words_are w ws c.0) e
+pub usual_again : {A : Type 0} (n : ℕ) (w : List ℕ) (ws : List (List ℕ)) (s u : A) (read : List (List ℕ) → Result A LineReason) → is_skipped (spaced_words (w ∷ ws)) ≡ false → Clean (w ∷ ws) → read (w ∷ ws) ≡ Ok u → usual_line n (spaced_words (w ∷ ws)) s read ≡ Ok u
+usual_again n w ws s u read says c e = usual_by n (spaced_words (w ∷ ws)) (w ∷ ws) s u read says (words_are w ws c.0) e
 
 -- ---- numbers
 
@@ -122,12 +122,12 @@ last_by true x y ys zs e = absurd cc
 last_by false x y ys zs e = refl
 
 -- an item with a number above all others stands behind them
-pub placed_last : {A : Type 0} (key : A → ℕ) (seen : List A) (x : A) → All (λ y. key y < key x) seen → placed key x seen ≡ seen ++ (x ∷ [])
+pub placed_last : {A : Type 0} (key : A → ℕ) (seen : List A) (x : A) → All (λ y. key y < key x) seen → placed_items key x seen ≡ seen ++ (x ∷ [])
 placed_last key [] x h = refl
 placed_last {A} key (y ∷ ys) x h =
     let lower : key y < key x = All-head (λ (z : A). key z < key x) y ys h in
     placed_step key x y ys
-    ∙ last_by (ltb (key x) (key y)) x y ys (placed key x ys) (le-ltb (key x) (key y) (omega (arith, lower)))
+    ∙ last_by (ltb (key x) (key y)) x y ys (placed_items key x ys) (le-ltb (key x) (key y) (omega (arith, lower)))
     ∙ ap (λ (l : List A). y ∷ l) (placed_last key ys x (All-tail (λ (z : A). key z < key x) y ys h))
 
 pub neighbour_reads : (here : Host) (hosts : List Host) (seen : List (Host × Dev)) (n : Host × Dev) (ws : List (List ℕ)) → n.0.0 < 2 ^ 32 → IsNeighbour here hosts n → has_device n.1.0 seen ≡ false → neighbour_at here hosts seen (decimal n.1.0 ∷ decimal n.0.0 ∷ ws) ≡ Ok (n, ws)

@@ -16,12 +16,12 @@ use Rattle.line_files.specs.declared.fault.LineReason.TheVariants.{BadHeader, Ba
 use Rattle.line_files.specs.declared.fault.LineFault.{LineFault}
 use Rattle.line_files.specs.declared.fault.LineFault.TheVariants as faults
 use Rattle.line_files.specs.Files.{Format, at_line, file_of}
-use Rattle.line_files.specs.Reads.{◌>>=◌, Part, word_at, end_at, allowed}
+use Rattle.line_files.specs.Reads.{◌>>=◌, Part, word_at, end_at, allowed_or_reason}
 use Rattle.line_files.specs.Numbers.{number_at}
 use Rattle.line_files.specs.Packages.{package_at}
 use Rattle.line_files.specs.FileNames.{file_name_at}
 use Rattle.line_files.specs.Headers.{version_line}
-use Rattle.line_files.specs.Programs.{opened_program, with_line, program_in, weighed}
+use Rattle.line_files.specs.Programs.{opened_program, with_line, program_in, weighed_sum}
 use Rattle.line_files.specs.Injections.{injection_at}
 use Rattle.node_files.specs.declared.config.HeadWord.{HeadWord}
 use Rattle.node_files.specs.declared.config.HeadWord.TheVariants as head
@@ -33,7 +33,7 @@ use Rattle.node_files.specs.declared.config.ConfigStage.{ConfigStage}
 use Rattle.node_files.specs.declared.config.ConfigStage.TheVariants as stages
 use Rattle.node_files.specs.declared.config.ConfigReading.{ConfigReading}
 use Rattle.node_files.specs.Parts.{behind_word, last_number, usual_line}
-use Rattle.node_files.specs.Nodes.{host_line, hosts_line, neighbour_at, placed, device_of, port_device}
+use Rattle.node_files.specs.Nodes.{host_line, hosts_line, neighbour_at, placed_items, device_of, port_device}
 
 -- ---- the lines in front of the devices, in their order
 
@@ -60,7 +60,7 @@ is_used s p = is_own s p || has_port p s.devs
 unfoldable pub free_port : ConfigReading → List (List ℕ) → Part ℕ
 free_port s ws = do
   p ← number_at 1 65535 ws
-  _ ← allowed (not (is_used s p.0)) TwiceNamed
+  _ ← allowed_or_reason (not (is_used s p.0)) TwiceNamed
   Ok p
 
 -- `control P`
@@ -115,7 +115,7 @@ may_come parts.Behind _ = false
 
 -- a neighbour with its port more
 abbrev pub with_device : ConfigReading → Host × Dev → ℕ → ConfigReading
-with_device s n p = record s { neighbours = placed device_of n s.neighbours; devs = placed port_device (n.1, p) s.devs }
+with_device s n p = record s { neighbours = placed_items device_of n s.neighbours; devs = placed_items port_device (n.1, p) s.devs }
 
 -- `dev D HOST PORT` behind its first word
 unfoldable pub device_line : List (List ℕ) → ConfigReading → Result ConfigReading LineReason
@@ -145,7 +145,7 @@ inject_line ws s = do
   turn ← number_at 1 1000000 ws
   more ← behind_word (codes "inject") turn.1
   i ← injection_at s.version program more
-  total ← weighed s.weight i.0
+  total ← weighed_sum s.weight i.0
   Ok (record s { at = s.at ++ (record { turn = turn.0; bound = i.1; chunk = i.0; handler = i.2 }) ∷ []; weight = total })
 
 -- a line behind its first word
@@ -160,7 +160,7 @@ unfoldable pub tail_line : TailPart → ℕ → List (List ℕ) → ConfigReadin
 tail_line part number ws s = do
   w ← word_at ws
   k ← ok_or (tail_word w.0) BadWord
-  _ ← allowed (may_come part k) BadWord
+  _ ← allowed_or_reason (may_come part k) BadWord
   tail_rest k number w.1 s
 
 -- the end of the program's text

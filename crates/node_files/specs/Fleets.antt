@@ -12,7 +12,7 @@ use Rattle.line_files.specs.declared.fault.LineReason.TheVariants.{BadHeader, Ba
 use Rattle.line_files.specs.declared.fault.LineFault.{LineFault}
 use Rattle.line_files.specs.declared.fault.LineFault.TheVariants as faults
 use Rattle.line_files.specs.Files.{Format, file_of}
-use Rattle.line_files.specs.Reads.{◌>>=◌, word_at, end_at, allowed}
+use Rattle.line_files.specs.Reads.{◌>>=◌, word_at, end_at, allowed_or_reason}
 use Rattle.line_files.specs.Numbers.{number_at}
 use Rattle.line_files.specs.FileNames.{file_name_at}
 use Rattle.node_files.specs.declared.fleet.KidWord.{KidWord}
@@ -50,7 +50,7 @@ unfoldable pub kid_line : List (List ℕ) → FleetReading → Result FleetReadi
 kid_line ws s = do
   w ← word_at ws
   k ← ok_or (kid_word w.0) BadWord
-  _ ← allowed (nat_lt (length s.children) 64) TooMany
+  _ ← allowed_or_reason (nat_lt (length s.children) 64) TooMany
   kid ← kid_rest k w.1
   Ok (record s { children = s.children ++ kid ∷ [] })
 

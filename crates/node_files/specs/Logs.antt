@@ -16,7 +16,7 @@ use Rattle.line_files.specs.declared.fault.LineReason.TheVariants.{BadHeader, Ba
 use Rattle.line_files.specs.declared.fault.LineFault.{LineFault}
 use Rattle.line_files.specs.declared.fault.LineFault.TheVariants as faults
 use Rattle.line_files.specs.Files.{Format, file_of}
-use Rattle.line_files.specs.Reads.{◌>>=◌, word_at, end_at, allowed}
+use Rattle.line_files.specs.Reads.{◌>>=◌, word_at, end_at, allowed_or_reason}
 use Rattle.line_files.specs.Numbers.{number_at}
 use Rattle.line_files.specs.Packages.{package_at}
 use Rattle.line_files.specs.HexWords.{hex_at}
@@ -30,7 +30,7 @@ use Rattle.node_files.specs.declared.log.LogStage.{LogStage}
 use Rattle.node_files.specs.declared.log.LogStage.TheVariants as stages
 use Rattle.node_files.specs.declared.log.LogReading.{LogReading}
 use Rattle.node_files.specs.Parts.{behind_word, last_number, usual_line}
-use Rattle.node_files.specs.Nodes.{host_line, hosts_line, neighbour_at, placed, device_of}
+use Rattle.node_files.specs.Nodes.{host_line, hosts_line, neighbour_at, placed_items, device_of}
 use Rattle.node_files.specs.ChunkWords.{chunk_at}
 
 -- ---- how the node began
@@ -73,7 +73,7 @@ unfoldable pub device_line : List (List ℕ) → LogReading → Result LogReadin
 device_line ws s = do
   n ← neighbour_at s.here s.hosts s.neighbours ws
   _ ← end_at n.1
-  Ok (record s { neighbours = placed device_of n.0 s.neighbours })
+  Ok (record s { neighbours = placed_items device_of n.0 s.neighbours })
 
 -- `without PACKAGE` behind its first word
 unfoldable pub missing_line : List (List ℕ) → LogReading → Result LogReading LineReason
@@ -99,7 +99,7 @@ unfoldable pub node_line : Bool → List (List ℕ) → LogReading → Result Lo
 node_line lacks ws s = do
   w ← word_at ws
   k ← ok_or (node_word w.0) BadWord
-  _ ← allowed (may_come lacks k) BadWord
+  _ ← allowed_or_reason (may_come lacks k) BadWord
   node_rest k w.1 s
 
 -- ---- what happened to it
@@ -156,7 +156,7 @@ unfoldable pub entry_line : List (List ℕ) → LogReading → Result LogReading
 entry_line ws s = do
   w ← word_at ws
   k ← ok_or (entry_word w.0) BadWord
-  _ ← allowed (nat_lt (length s.events) 50000) TooMany
+  _ ← allowed_or_reason (nat_lt (length s.events) 50000) TooMany
   e ← entry_rest s.version k w.1
   Ok (record s { events = s.events ++ e ∷ [] })
 

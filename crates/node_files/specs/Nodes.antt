@@ -7,7 +7,7 @@ use Rattle.plan_base.specs.declared.ids.Dev.{Dev}
 use Rattle.network_plan.specs.Hosts.{host_of, dev_of, is_listed}
 use Rattle.line_files.specs.declared.fault.LineReason.{LineReason}
 use Rattle.line_files.specs.declared.fault.LineReason.TheVariants.{UnknownHost, TwiceNamed, BadArgument}
-use Rattle.line_files.specs.Reads.{◌>>=◌, Part, allowed}
+use Rattle.line_files.specs.Reads.{◌>>=◌, Part, allowed_or_reason}
 use Rattle.line_files.specs.Numbers.{number_at}
 use Rattle.line_files.specs.HostLists.{hosts_with}
 use Rattle.node_files.specs.Parts.{behind_word, last_number}
@@ -33,10 +33,10 @@ has_device d ns = list_any (λ n. n.1.0 == d) ns
 unfoldable pub neighbour_at : Host → List Host → List (Host × Dev) → List (List ℕ) → Part (Host × Dev)
 neighbour_at here hosts seen ws = do
   d ← number_at 1 8 ws
-  _ ← allowed (not (has_device d.0 seen)) TwiceNamed
+  _ ← allowed_or_reason (not (has_device d.0 seen)) TwiceNamed
   h ← number_at 0 4294967295 d.1
-  _ ← allowed (is_listed (host_of h.0) hosts) UnknownHost
-  _ ← allowed (not (h.0 == here.0)) BadArgument
+  _ ← allowed_or_reason (is_listed (host_of h.0) hosts) UnknownHost
+  _ ← allowed_or_reason (not (h.0 == here.0)) BadArgument
   Ok ((host_of h.0, dev_of d.0), h.1)
 
 -- the place in front of the first item with a higher number
@@ -44,8 +44,8 @@ abbrev pub place_of : {A : Type 0} → (A → ℕ) → ℕ → List A → ℕ
 place_of key n xs = position_or_len (λ x. nat_lt n (key x)) xs
 
 -- an item put at its place by its number
-abbrev pub placed : {A : Type 0} → (A → ℕ) → A → List A → List A
-placed key x xs = insert xs (place_of key (key x) xs) x
+abbrev pub placed_items : {A : Type 0} → (A → ℕ) → A → List A → List A
+placed_items key x xs = insert xs (place_of key (key x) xs) x
 
 -- the number of a neighbour's device
 abbrev pub device_of : Host × Dev → ℕ

@@ -7,14 +7,14 @@ use Rattle.line_files.specs.declared.fault.LineFault.{LineFault}
 use Rattle.line_files.specs.declared.fault.LineFault.TheVariants as faults
 use Rattle.line_files.specs.Lines.{words}
 use Rattle.line_files.specs.Files.{is_skipped, at_line}
-use Rattle.line_files.specs.Reads.{◌>>=◌, word_at, end_at, allowed}
+use Rattle.line_files.specs.Reads.{◌>>=◌, word_at, end_at, allowed_or_reason}
 use Rattle.line_files.specs.Numbers.{number_at}
 
 -- the words behind this one, which must stand next
 unfoldable pub behind_word : List ℕ → List (List ℕ) → Result (List (List ℕ)) LineReason
 behind_word word ws = do
   w ← word_at ws
-  _ ← allowed (bytes_eq w.0 word) BadWord
+  _ ← allowed_or_reason (bytes_eq w.0 word) BadWord
   Ok w.1
 
 -- a number that ends its line

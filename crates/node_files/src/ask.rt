@@ -77,7 +77,7 @@ impl AskReading {
             bound: 0,
             entry: Bytes::new(alloc),
             entry_line: 1,
-            program: OpenProgram::begun(alloc, 1),
+            program: OpenProgram::begin_at(alloc, 1),
             checked: None,
         }
     }
@@ -139,14 +139,14 @@ impl AskReading {
     {
         expect(words, b"program")?;
         words.end()?;
-        self.program = OpenProgram::begun(alloc, number);
+        self.program = OpenProgram::begin_at(alloc, number);
         self.stage = AskStage::Inside;
         Ok(())
     }
 
     /// The line with a word. Reasons: `BadWord`, `BadNumber`.
     #[tactic(auto, unfolding(crate::specs::Asks::wanted_line))]
-    fn wanted(
+    fn line_of_word(
         &mut self,
         alloc: Global,
         word: AskWord,
@@ -191,7 +191,7 @@ impl AskReading {
             return Ok(());
         }
         let mut words = Words::of(line);
-        match self.wanted(alloc, word, number, &mut words) {
+        match self.line_of_word(alloc, word, number, &mut words) {
             Ok(()) => Ok(()),
             Err(stop) => Err(stopped_at(number, stop)),
         }

@@ -22,7 +22,7 @@ fn not_memory(fault: &SpellFault) -> Result<(), NoMemory>
 }
 
 /// The chunk that bytes spell, or none. Condition: at most 16,383 bytes.
-fn spelled(alloc: Global, bytes: &[u8]) -> Result<Option<Chunk>, NoMemory>
+fn chunk_of_bytes(alloc: Global, bytes: &[u8]) -> Result<Option<Chunk>, NoMemory>
     requires { length bytes.now ≤ 16383 }
     ensures value { Finds result (spelled_chunk bytes.now) }
     ensures fits { IfOk result (λ o. IfSome o a_whole_chunk.Fits) }
@@ -45,7 +45,7 @@ fn spelled(alloc: Global, bytes: &[u8]) -> Result<Option<Chunk>, NoMemory>
 
 #[tactic(auto, using(packet_frame::proofs::Carried::chunk_is_formed, packet_frame::proofs::Carried::chunk_is_full, packet_frame::proofs::Carried::chunk_is_small))]
 /// A chunk that was read, where it is typed. Condition: it keeps the limits of a spelling.
-fn typed(alloc: Global, chunk: Chunk) -> Result<Option<CheckedChunk>, NoMemory>
+fn checked_chunk(alloc: Global, chunk: Chunk) -> Result<Option<CheckedChunk>, NoMemory>
     requires { a_whole_chunk.Fits chunk }
     ensures { Finds result (if_typed (Some chunk)) }
 {
@@ -61,8 +61,8 @@ fn chunk_in(alloc: Global, bytes: &[u8]) -> Result<Option<CheckedChunk>, NoMemor
     requires { length bytes.now ≤ 16383 }
     ensures { Finds result (typed_chunk bytes.now) }
 {
-    match spelled(alloc, bytes)? {
-        Some(chunk) => typed(alloc, chunk),
+    match chunk_of_bytes(alloc, bytes)? {
+        Some(chunk) => checked_chunk(alloc, chunk),
         None => Ok(None),
     }
 }

@@ -8,8 +8,8 @@ ghost use Rattle.node_files.specs.Configs.{tail_word, may_come, with_device, tai
 use crate::nodes::{host_line, hosts_line, neighbour, put_neighbour, put_port};
 use crate::parts::{expect, last_number};
 use line_files::{
-    LineFault, LineFile, LineReason, LineStop, OpenProgram, Words, allow, file_name, injection, is,
-    number, package, program, read_file, says_nothing, stopped_at, version_of, weighed,
+    LineFault, LineFile, LineReason, LineStop, OpenProgram, Words, add_weight, allow, file_name,
+    injection, is, number, package, program, read_file, says_nothing, stopped_at, version_of,
 };
 use link_window::Version;
 use network_plan::{DevPorts, Hosts, Inject, Injects, NodeConfig, ServeConfig, first_link};
@@ -165,7 +165,7 @@ impl ConfigReading {
             neighbours: Items::new(alloc),
             devs: Items::new(alloc),
             missing: Items::new(alloc),
-            program: OpenProgram::begun(alloc, 1),
+            program: OpenProgram::begin_at(alloc, 1),
             checked: None,
             at: Items::new(alloc),
             weight: 0,
@@ -247,7 +247,7 @@ impl ConfigReading {
 
     /// The line with a word. Reasons: `BadWord`, `BadNumber`, `TooMany`, `BadArgument`, `TwiceNamed`.
     #[tactic(auto, unfolding(crate::specs::Configs::wanted_line))]
-    fn wanted(
+    fn line_of_word(
         &mut self,
         alloc: Global,
         word: HeadWord,
@@ -316,7 +316,7 @@ impl ConfigReading {
         ensures { Leaves result self.new (spec.program_line number words.old self.old) }
     {
         words.end()?;
-        self.program = OpenProgram::begun(alloc, number);
+        self.program = OpenProgram::begin_at(alloc, number);
         self.stage = ConfigStage::Inside;
         Ok(())
     }
@@ -333,7 +333,7 @@ impl ConfigReading {
         let turn = number(words, 1, 1_000_000)?;
         expect(words, b"inject")?;
         let (chunk, bound, handler) = injection(alloc, self.version, program, words)?;
-        let weight = weighed(self.weight, chunk.chunk())?;
+        let weight = add_weight(self.weight, chunk.chunk())?;
         self.at.add(Inject {
             turn,
             bound,
@@ -410,7 +410,7 @@ impl ConfigReading {
             return Ok(());
         }
         let mut words = Words::of(line);
-        match self.wanted(alloc, word, &mut words) {
+        match self.line_of_word(alloc, word, &mut words) {
             Ok(()) => Ok(()),
             Err(stop) => Err(stopped_at(number, stop)),
         }
@@ -464,7 +464,7 @@ impl ConfigReading {
     }
 
     /// How the node serves.
-    fn said(self) -> ServeConfig
+    fn into_config(self) -> ServeConfig
         ensures { result ≡ spec.config_said self }
     {
         ServeConfig {
@@ -509,7 +509,7 @@ impl LineFile for ConfigReading {
         let _unused = alloc;
         match self.stage {
             ConfigStage::Header => Err(LineFault::Line(number, LineReason::BadHeader)),
-            ConfigStage::Tail(_) => Ok(self.said()),
+            ConfigStage::Tail(_) => Ok(self.into_config()),
             ConfigStage::Wants(_) | ConfigStage::Inside => {
                 Err(LineFault::Line(number, LineReason::BadWord))
             }

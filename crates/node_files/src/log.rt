@@ -441,7 +441,7 @@ impl LogReading {
     }
 
     /// The log.
-    fn said(self) -> Log
+    fn into_log(self) -> Log
         ensures { result ≡ spec.log_said self }
     {
         Log {
@@ -482,7 +482,7 @@ impl LineFile for LogReading {
         let _unused = alloc;
         match self.stage {
             LogStage::Header => Err(LineFault::Line(number, LineReason::BadHeader)),
-            LogStage::Events => Ok(self.said()),
+            LogStage::Events => Ok(self.into_log()),
             LogStage::Host | LogStage::Boot | LogStage::Hosts | LogStage::Node(_) => {
                 Err(LineFault::Line(number, LineReason::BadWord))
             }

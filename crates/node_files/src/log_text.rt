@@ -44,7 +44,7 @@ fn put_hex(alloc: Global, bytes: &[u8], out: &mut Bytes) -> Result<(), NoMemory>
 
 /// A chunk that keeps the limits of its spelling, as its bytes.
 #[tactic(auto, using(packet_frame::proofs::Sizes::chunk_small, packet_frame::proofs::Sizes::chunk_can, spelling_sizes::proofs::LengthLaws::chunk_length))]
-fn spelled(alloc: Global, chunk: &Chunk) -> Result<Bytes, NoMemory>
+fn bytes_of_chunk(alloc: Global, chunk: &Chunk) -> Result<Bytes, NoMemory>
     requires { a_whole_chunk.Fits chunk.now }
     ensures value { IfOk result (λ b. b ≡ bytes_of chunk.now) }
     ensures few { IfOk result (λ b. length b ≤ 16383) }
@@ -101,7 +101,7 @@ fn put_inject(
 {
     let chunk = chunk.chunk();
     may_be_spelled(chunk);
-    let bytes = spelled(alloc, chunk)?;
+    let bytes = bytes_of_chunk(alloc, chunk)?;
     are_bytes(bytes.as_slice());
     out.add_all(b"inject ")?;
     put_number(alloc, u64::from(bound), out)?;

@@ -34,7 +34,7 @@ use Rattle.service_api.specs.declared.router.Hop.{Hop}
 use Rattle.service_api.specs.declared.router.Hop.TheVariants.{To, NoService, NoRoute}
 use Rattle.service_api.specs.Adverts.{AdvertFits}
 use Rattle.service_api.specs.Routes.{hop}
-use Rattle.service_api.specs.Services.{Rows, ServiceState, IsGoodChunk, IsGoodValue, AreGoodRows, expired}
+use Rattle.service_api.specs.Services.{Rows, ServiceState, IsGoodChunk, IsGoodValue, AreGoodRows, unexpired_services}
 use Rattle.plan_meaning.specs.declared.sent.Sent.{Sent}
 use Rattle.plan_meaning.specs.Visit.{bounds}
 use Rattle.dv_routing.specs.Routing.{all_routes, own_advert}
@@ -48,7 +48,7 @@ use Rattle.node_model.specs.State.{Links, Queues, NodeState, routing_of, is_host
 use Rattle.settled_visit.proofs.Sends.{IsGoodSettled, settled_good}
 use Rattle.node_model.specs.Visits.{around, visit_at, settled_at}
 use Rattle.spelled_frame.specs.Spelled.{stamp_with}
-use Rattle.node_model.specs.Node.{NodeStep, stepped, mark_of, mark, takes_as, seen_then, with_seen, noting, stamped_as, stamped_step, asked_plain, take_first, hop_packet, packet_sending, advert_sending, visit_sends, tick_sends, visited, next_serial, injected_packet, inject_step, forward_by, forward_step, packet_step, hearing, advert_step, frame_step, arrived, arrive_step, asked, control_step, next_tick, tick_step, take_from, take_step, node_step}
+use Rattle.node_model.specs.Node.{NodeStep, stepped_node, mark_of, mark, takes_as, seen_then, with_seen, noting, stamped_as, stamped_step, asked_plain, take_first, hop_packet, packet_sending, advert_sending, visit_sends, tick_sends, visit_step, next_serial, injected_packet, inject_step, forward_by, forward_step, packet_step, hearing, advert_step, frame_step, arrived_read, arrive_step, asked_read, control_step, next_tick, tick_step, take_from, take_step, node_step}
 use Rattle.node_model.specs.Fits.{PacketFits, FrameKeeps, IsMarked, StampedKeeps, QueuesKeep, ServicesFit, NodeFits, comes_fit}
 use Rattle.node_laws.proofs.Keeping.{Sends, Whatever, send_keeps, sends_keep, took}
 use Rattle.node_laws.proofs.VisitLaws.{settled_keeps, visit_fits}
@@ -120,7 +120,7 @@ living_good now r g = record {
   greatest = g.greatest;
 }
 
-expired_fits : (now : ℕ) (n : ServiceState) → ServicesFit n → ServicesFit (expired now n)
+expired_fits : (now : ℕ) (n : ServiceState) → ServicesFit n → ServicesFit (unexpired_services now n)
 expired_fits now n h = record { good = record { serve = h.good.serve; rows = living_good now n.rows h.good.rows }; closed = h.closed; waits = h.waits }
 
 -- ---- steps
@@ -141,11 +141,11 @@ step_cases false a b x y = y
 with_fits : (node : NodeState) (queues : Queues) → QueuesKeep (StampedKeeps node.version) queues → NodeFits node → NodeFits (record node { queues = queues })
 with_fits node queues q n = record { here = n.here; hosts = n.hosts; near = n.near; ordered = n.ordered; services = n.services; queues = q; serial = n.serial; now = n.now }
 
-still : (acts : List Act) (node : NodeState) → NodeFits node → StepFits (stepped acts None node)
+still : (acts : List Act) (node : NodeState) → NodeFits node → StepFits (stepped_node acts None node)
 still acts node n = record { node = n; frame = tt }
 
-visited_fits : (acts : List Act) (node : NodeState) (p : Packet) → PacketFits p → NodeFits node → StepFits (visited acts node p)
-unfolding visited visit_sends
+visited_fits : (acts : List Act) (node : NodeState) (p : Packet) → PacketFits p → NodeFits node → StepFits (visit_step acts node p)
+unfolding visit_step visit_sends
 visited_fits acts node p h n =
     let k = settled_keeps node p in
     let v = visit_fits node p n.services.good n.near h.chunk in
@@ -174,7 +174,7 @@ next_fits : (node : NodeState) → (node.serial == 18446744073709551615) ≡ fal
 next_fits node e n = record { here = n.here; hosts = n.hosts; near = n.near; ordered = n.ordered; services = n.services; queues = n.queues; serial = serial_fits node.serial e n.serial; now = n.now }
 
 inject_cases : (t : Bool) (before : List Act) (node : NodeState) (chunk : Chunk) (bound : ℕ) (handler : Option Name) → (node.serial == 18446744073709551615) ≡ t → PacketFits (injected_packet node chunk bound handler) → NodeFits node
-    → StepFits (cond t (stepped (before ++ SerialsSpent ∷ []) None node) (visited (before ++ Injected (record { source = node.here; serial = node.serial }) bound ∷ []) (next_serial node) (injected_packet node chunk bound handler)))
+    → StepFits (cond t (stepped_node (before ++ SerialsSpent ∷ []) None node) (visit_step (before ++ Injected (record { source = node.here; serial = node.serial }) bound ∷ []) (next_serial node) (injected_packet node chunk bound handler)))
 inject_cases true before node chunk bound handler e h n = still _ node n
 inject_cases false before node chunk bound handler e h n = visited_fits _ (next_serial node) (injected_packet node chunk bound handler) h (next_fits node e n)
 
@@ -248,7 +248,7 @@ stamped_taken_fits node d x h n = as_fits node d x (takes_as node.seen d x.stamp
 pub stamped_fits : (node : NodeState) (d : Dev) (x : PlainStamped) → FrameKeeps x.frame → NodeFits node → StepFits (stamped_step node d x)
 stamped_fits node d x h n = stamped_taken_fits node d x (kept_taken x.frame h) n
 
-arrived_fits : (node : NodeState) (d : Dev) (bytes : List ℕ) (r : Result PlainStamped FrameFault) → IsBytes bytes → read_by node.version bytes ≡ r → NodeFits node → StepFits (arrived node d r)
+arrived_fits : (node : NodeState) (d : Dev) (bytes : List ℕ) (r : Result PlainStamped FrameFault) → IsBytes bytes → read_by node.version bytes ≡ r → NodeFits node → StepFits (arrived_read node d r)
 arrived_fits node d bytes (Ok x) b e n = stamped_taken_fits node d x (taken_in bytes node.version x (found_by node.version bytes x b e)) n
 arrived_fits node d bytes (Err e) b h n = still _ node n
 
@@ -261,7 +261,7 @@ asked_taken node (PlainFrame.Packet p) h n = still _ node n
 asked_taken node (PlainFrame.Advert a) h n = still _ node n
 asked_taken node (PlainFrame.Ask bound chunk) h n = inject_fits (Asked ∷ []) node chunk bound None (record { bound = h.0; chunk = h.1; handler = tt }) n
 
-asked_fits : (node : NodeState) (bytes : List ℕ) (r : Result PlainStamped FrameFault) → IsBytes bytes → read_by node.version bytes ≡ r → NodeFits node → StepFits (asked node r)
+asked_fits : (node : NodeState) (bytes : List ℕ) (r : Result PlainStamped FrameFault) → IsBytes bytes → read_by node.version bytes ≡ r → NodeFits node → StepFits (asked_read node r)
 asked_fits node bytes (Ok x) b e n = asked_taken node x.frame (taken_in bytes node.version x (found_by node.version bytes x b e)) n
 asked_fits node bytes (Err e) b h n = still _ node n
 

@@ -34,7 +34,7 @@ use Rattle.node_model.specs.State.{Links, Queues, NodeState, routing_of, is_host
 use Rattle.settled_visit.specs.declared.settling.Settled.{Settled}
 use Rattle.node_model.specs.Visits.{visit_at, settled_at}
 use Rattle.spelled_frame.specs.Spelled.{numbered_frame}
-use Rattle.node_model.specs.Node.{NodeStep, stepped, queue_room, has_room, lane_room, lane_with, queue_push, drop_act, mark, takes_as, stamped_as, stamped_step, take_first, hop_packet, packet_sending, advert_sending, visit_sends, tick_sends, send_act, send_queues, sends_acts, sends_queues, handled_acts, visit_acts, visited, next_serial, injected_packet, inject_step, only_acts, onward, forward_by, forward_step, packet_step, hearing, advert_step, frame_step, arrived, arrive_step, next_tick, tick_step, take_from, take_step}
+use Rattle.node_model.specs.Node.{NodeStep, stepped_node, queue_room, has_room, lane_room, lane_with, queue_push, drop_act, mark, takes_as, stamped_as, stamped_step, take_first, hop_packet, packet_sending, advert_sending, visit_sends, tick_sends, send_act, send_queues, sends_acts, sends_queues, handled_acts, visit_acts, visit_step, next_serial, injected_packet, inject_step, only_acts, onward, forward_by, forward_step, packet_step, hearing, advert_step, frame_step, arrived_read, arrive_step, next_tick, tick_step, take_from, take_step}
 use Rattle.node_model.specs.Counts.{only, is_family, act_sum, act_granted, act_injections, queues_sum, frame_one, packet_one, taken_sum}
 use Rattle.node_laws.proofs.CountLaws.{act_sum-nil, act_sum-cons, act_sum-append, queue_sum-push, queue_sum-cons, queues_sum-set, only-zero}
 use Rattle.node_laws.proofs.VisitLaws.{settled_keeps}
@@ -116,8 +116,8 @@ module _ (c : Act → ℕ) (z : OnlyInjects c) where
         sends_none queues (map (packet_sending m) v.outbox) (quiet_packets m v.outbox),
       )
 
-  visited_count : (act : Act) (node : NodeState) (p : Packet) → act_sum c (visited (act ∷ []) node p).acts ≡ c act
-  unfolding visited
+  visited_count : (act : Act) (node : NodeState) (p : Packet) → act_sum c (visit_step (act ∷ []) node p).acts ≡ c act
+  unfolding visit_step
   visited_count act node p =
       let left = (visit_at node p).left in
       let s = settled_at node p in
@@ -162,7 +162,7 @@ module _ (c : Act → ℕ) (z : OnlyInjects c) where
   unfolding stamped_step
   stamped_none node d x = as_none node d x (takes_as node.seen d x.stamp)
 
-  arrived_none : (node : NodeState) (d : Dev) (r : Result PlainStamped FrameFault) → act_sum c (arrived node d r).acts ≡ 0
+  arrived_none : (node : NodeState) (d : Dev) (r : Result PlainStamped FrameFault) → act_sum c (arrived_read node d r).acts ≡ 0
   arrived_none node d (Ok x) = stamped_none node d x
   arrived_none node d (Err e) = two_none _ _ (z (Arrived d) refl) (z (Bad e) refl)
 
@@ -260,7 +260,7 @@ module _ (f : Family) where
     pub limit : act_sum (act_granted f) step.acts ≤ 65535 * act_sum (act_injections f) step.acts
 
   inject_cases : (t : Bool) (node : NodeState) (chunk : Chunk) (bound : ℕ) (handler : Option Name) → bound ≤ 65535
-      → StepGives node (cond t (stepped ([] ++ SerialsSpent ∷ []) None node) (visited ([] ++ Injected (record { source = node.here; serial = node.serial }) bound ∷ []) (next_serial node) (injected_packet node chunk bound handler)))
+      → StepGives node (cond t (stepped_node ([] ++ SerialsSpent ∷ []) None node) (visit_step ([] ++ Injected (record { source = node.here; serial = node.serial }) bound ∷ []) (next_serial node) (injected_packet node chunk bound handler)))
   inject_cases true node chunk bound handler h = record {
     once = omega (arith, act_sum-cons (act_injections f) SerialsSpent [], act_sum-nil (act_injections f));
     limit = omega (arith, act_sum-cons (act_granted f) SerialsSpent [], act_sum-nil (act_granted f));
@@ -272,7 +272,7 @@ module _ (f : Family) where
       let injected = visited_count (act_injections f) injections_injects act (next_serial node) p in
       let paid = visited_count (act_granted f) granted_injects act (next_serial node) p in
       let s = visited_stays (act ∷ []) (next_serial node) p in
-      let same = same_gives (next_serial node) (visited (act ∷ []) (next_serial node) p).node s.node.here s.serial in
+      let same = same_gives (next_serial node) (visit_step (act ∷ []) (next_serial node) p).node s.node.here s.serial in
       record { once = omega (arith, injected, same, one_given node); limit = omega (arith, injected, paid, only_limit g bound h) }
 
   pub inject_gives : (node : NodeState) (chunk : Chunk) (bound : ℕ) (handler : Option Name) → bound ≤ 65535 → StepGives node (inject_step [] node chunk bound handler)
@@ -334,8 +334,8 @@ module _ (f : Family) where
   adverts_of m a [] = All-nil NotOf
   adverts_of m a (l ∷ ls) = All-cons NotOf (advert_sending m a l) (map (advert_sending m a) ls) refl (adverts_of m a ls)
 
-  visited_adds : (acts : List Act) (node : NodeState) (p : Packet) → only f p.family 1 ≡ 0 → count_in node.queues ≡ 0 → count_in (visited acts node p).node.queues ≡ 0
-  unfolding visited visit_sends
+  visited_adds : (acts : List Act) (node : NodeState) (p : Packet) → only f p.family 1 ≡ 0 → count_in node.queues ≡ 0 → count_in (visit_step acts node p).node.queues ≡ 0
+  unfolding visit_step visit_sends
   visited_adds acts node p h q =
       let m = mark node in
       let outbox = (settled_at node p).visit.outbox in
@@ -346,8 +346,8 @@ module _ (f : Family) where
   adds_cases false a b x y = y
 
   inject_adds_cases : (t : Bool) (node : NodeState) (chunk : Chunk) (bound : ℕ) (handler : Option Name) → count_in node.queues ≡ 0
-      → act_sum (act_injections f) (cond t (stepped ([] ++ SerialsSpent ∷ []) None node) (visited ([] ++ Injected (record { source = node.here; serial = node.serial }) bound ∷ []) (next_serial node) (injected_packet node chunk bound handler))).acts ≡ 0
-      → count_in (cond t (stepped ([] ++ SerialsSpent ∷ []) None node) (visited ([] ++ Injected (record { source = node.here; serial = node.serial }) bound ∷ []) (next_serial node) (injected_packet node chunk bound handler))).node.queues ≡ 0
+      → act_sum (act_injections f) (cond t (stepped_node ([] ++ SerialsSpent ∷ []) None node) (visit_step ([] ++ Injected (record { source = node.here; serial = node.serial }) bound ∷ []) (next_serial node) (injected_packet node chunk bound handler))).acts ≡ 0
+      → count_in (cond t (stepped_node ([] ++ SerialsSpent ∷ []) None node) (visit_step ([] ++ Injected (record { source = node.here; serial = node.serial }) bound ∷ []) (next_serial node) (injected_packet node chunk bound handler))).node.queues ≡ 0
   inject_adds_cases true node chunk bound handler q z = q
   inject_adds_cases false node chunk bound handler q z =
       let g : Family = record { source = node.here; serial = node.serial } in
@@ -395,7 +395,7 @@ module _ (f : Family) where
   came_one (Ok x) = frame_one f x.frame
   came_one (Err e) = 0
 
-  arrived_adds : (node : NodeState) (d : Dev) (r : Result PlainStamped FrameFault) → came_one r ≡ 0 → count_in node.queues ≡ 0 → count_in (arrived node d r).node.queues ≡ 0
+  arrived_adds : (node : NodeState) (d : Dev) (r : Result PlainStamped FrameFault) → came_one r ≡ 0 → count_in node.queues ≡ 0 → count_in (arrived_read node d r).node.queues ≡ 0
   arrived_adds node d (Ok x) h q = stamped_adds node d x h q
   arrived_adds node d (Err e) h q = q
 

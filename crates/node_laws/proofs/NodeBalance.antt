@@ -36,7 +36,7 @@ use Rattle.node_model.specs.State.{Links, Queues, NodeState, routing_of, is_host
 use Rattle.settled_visit.specs.declared.settling.Settled.{Settled}
 use Rattle.node_model.specs.Visits.{visit_at, settled_at, VisitKeeps}
 use Rattle.spelled_frame.specs.Spelled.{numbered_frame}
-use Rattle.node_model.specs.Node.{NodeStep, stepped, queue_room, has_room, lane_room, lane_with, queue_push, drop_act, mark, takes_as, noting, stamped_as, stamped_step, asked_plain, take_first, packet_sending, advert_sending, visit_sends, tick_sends, send_act, send_queues, sends_acts, sends_queues, with_queues, handled_acts, visit_acts, visited, injected_packet, next_serial, inject_step, only_acts, forward_by, forward_step, packet_step, hearing, advert_step, frame_step, arrived, arrive_step, asked, control_step, next_tick, tick_step, take_from, take_step, node_step}
+use Rattle.node_model.specs.Node.{NodeStep, stepped_node, queue_room, has_room, lane_room, lane_with, queue_push, drop_act, mark, takes_as, noting, stamped_as, stamped_step, asked_plain, take_first, packet_sending, advert_sending, visit_sends, tick_sends, send_act, send_queues, sends_acts, sends_queues, with_queues, handled_acts, visit_acts, visit_step, injected_packet, next_serial, inject_step, only_acts, forward_by, forward_step, packet_step, hearing, advert_step, frame_step, arrived_read, arrive_step, asked_read, control_step, next_tick, tick_step, take_from, take_step, node_step}
 use Rattle.node_model.specs.Counts.{only, act_sum, act_granted, act_hops, act_evals, act_left, act_stale, what_left, packet_live, frame_live, queues_sum, node_live, if_fresh, if_stale, stamped_came, stamped_stale, bytes_came, bytes_stale, came, stale, StepBalances}
 use Rattle.node_laws.proofs.CountLaws.{only-plus, only_hop, act_sum-nil, act_sum-cons, act_sum-append, queue_sum-push, queue_sum-cons, queues_sum-set, dropped_left, sent_live}
 use Rattle.node_laws.proofs.VisitLaws.{settled_keeps}
@@ -278,8 +278,8 @@ module _ (f : Family) where
   none_begins : BeginsBalance [] 0 0
   none_begins = record { stale = act_sum-nil (act_stale f); hops = act_sum-nil (act_hops f); evals = act_sum-nil (act_evals f); left = act_sum-nil (act_left f); granted = omega (arith, act_sum-nil (act_granted f)) }
 
-  visited_balances : (acts : List Act) (arrived : ℕ) (node : NodeState) (p : Packet) → BeginsBalance acts arrived (packet_live f p) → StepBalances f arrived 0 node (visited acts node p)
-  unfolding visited
+  visited_balances : (acts : List Act) (arrived : ℕ) (node : NodeState) (p : Packet) → BeginsBalance acts arrived (packet_live f p) → StepBalances f arrived 0 node (visit_step acts node p)
+  unfolding visit_step
   visited_balances acts arrived node p g =
       let left = (visit_at node p).left in
       let more = visit_acts (mark node) node.queues p left (settled_at node p) in
@@ -302,14 +302,14 @@ module _ (f : Family) where
       }
 
   -- acts that count nothing, with nothing changed
-  plain_balances : (acts : List Act) (arrived : ℕ) (old new : NodeState) → node_live f old ≡ node_live f new → BeginsBalance acts arrived 0 → StepBalances f arrived 0 old (stepped acts None new)
+  plain_balances : (acts : List Act) (arrived : ℕ) (old new : NodeState) → node_live f old ≡ node_live f new → BeginsBalance acts arrived 0 → StepBalances f arrived 0 old (stepped_node acts None new)
   plain_balances acts arrived old new e b = record { law = omega (arith, b.hops, b.evals, b.left, b.granted); stale = b.stale }
 
   same_node_balances : (arrived : ℕ) (old new : NodeState) (step : NodeStep) → node_live f old ≡ node_live f new → StepBalances f arrived 0 new step → StepBalances f arrived 0 old step
   same_node_balances arrived old new step e b = record { law = omega (arith, b.law); stale = b.stale }
 
   inject_cases : (t : Bool) (before : List Act) (node : NodeState) (chunk : Chunk) (bound : ℕ) (handler : Option Name) → BeginsBalance before 0 0
-      → StepBalances f 0 0 node (cond t (stepped (before ++ SerialsSpent ∷ []) None node) (visited (before ++ Injected (record { source = node.here; serial = node.serial }) bound ∷ []) (next_serial node) (injected_packet node chunk bound handler)))
+      → StepBalances f 0 0 node (cond t (stepped_node (before ++ SerialsSpent ∷ []) None node) (visit_step (before ++ Injected (record { source = node.here; serial = node.serial }) bound ∷ []) (next_serial node) (injected_packet node chunk bound handler)))
   inject_cases true before node chunk bound handler b = plain_balances (before ++ SerialsSpent ∷ []) 0 node node refl (more_begins before SerialsSpent 0 b (one_begins SerialsSpent 0 0 refl refl refl refl refl))
   inject_cases false before node chunk bound handler b =
       let act = Injected (record { source = node.here; serial = node.serial }) bound in
@@ -330,7 +330,7 @@ module _ (f : Family) where
 
   -- an arrival, and then one act that queues or drops the packet
   two_acts : (d : Dev) (act : Act) (node : NodeState) (queues : Queues) (p : Packet) → SendBalance act (live_in node.queues) (live_in queues) (packet_live f p)
-      → StepBalances f (packet_live f p) 0 node (stepped (Arrived d ∷ act ∷ []) None (with_queues node queues))
+      → StepBalances f (packet_live f p) 0 node (stepped_node (Arrived d ∷ act ∷ []) None (with_queues node queues))
   two_acts d act node queues p b = record {
     stale = omega (arith, b.stale, act_sum-cons (act_stale f) (Arrived d) (act ∷ []), act_sum-cons (act_stale f) act [], act_sum-nil (act_stale f));
     law = omega (
@@ -380,7 +380,7 @@ module _ (f : Family) where
   unfolding forward_step
   forward_balances node d p = forward_cases (p.bound == 0) (hop (all_routes (routing_of node)) p.route node.here p.dest) node d p (zero_true p.bound) (zero_false p.bound)
 
-  packet_cases : (t : Bool) (node : NodeState) (d : Dev) (p : Packet) → StepBalances f (packet_live f p) 0 node (cond t (visited (Arrived d ∷ []) node p) (forward_step node d p))
+  packet_cases : (t : Bool) (node : NodeState) (d : Dev) (p : Packet) → StepBalances f (packet_live f p) 0 node (cond t (visit_step (Arrived d ∷ []) node p) (forward_step node d p))
   packet_cases true node d p = visited_balances (Arrived d ∷ []) (packet_live f p) node p (one_begins (Arrived d) (packet_live f p) (packet_live f p) refl refl refl refl (omega arith))
   packet_cases false node d p = forward_balances node d p
 
@@ -446,7 +446,7 @@ module _ (f : Family) where
   unfolding stamped_step
   stamped_balances node d x = as_balances node d x (takes_as node.seen d x.stamp)
 
-  arrived_balances : (node : NodeState) (d : Dev) (r : Result PlainStamped FrameFault) → StepBalances f (bytes_came f node d r) (bytes_stale f node d r) node (arrived node d r)
+  arrived_balances : (node : NodeState) (d : Dev) (r : Result PlainStamped FrameFault) → StepBalances f (bytes_came f node d r) (bytes_stale f node d r) node (arrived_read node d r)
   arrived_balances node d (Ok x) = stamped_balances node d x
   arrived_balances node d (Err e) = only_balances (Arrived d) (Bad e) node node refl (begins_none (Arrived d) refl refl refl refl refl) (begins_none (Bad e) refl refl refl refl refl)
 
@@ -463,7 +463,7 @@ module _ (f : Family) where
   plain_asked node (PlainFrame.Packet p) = misplaced_balances node
   plain_asked node (PlainFrame.Advert a) = misplaced_balances node
 
-  asked_balances : (node : NodeState) (r : Result PlainStamped FrameFault) → StepBalances f 0 0 node (asked node r)
+  asked_balances : (node : NodeState) (r : Result PlainStamped FrameFault) → StepBalances f 0 0 node (asked_read node r)
   asked_balances node (Ok x) = plain_asked node x.frame
   asked_balances node (Err e) = only_balances Asked (Bad e) node node refl (begins_none Asked refl refl refl refl refl) (begins_none (Bad e) refl refl refl refl refl)
 

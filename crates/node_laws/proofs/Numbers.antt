@@ -29,7 +29,7 @@ use Rattle.node_model.specs.declared.acts.Sending.{Sending}
 use Rattle.node_model.specs.State.{Queues, NodeState, routing_of, is_host, leads_to}
 use Rattle.node_model.specs.Visits.{settled_at}
 use Rattle.spelled_frame.specs.Spelled.{stamp_with, numbered_frame}
-use Rattle.node_model.specs.Node.{NodeStep, stepped, queue_room, has_room, number_after, lane_with, queue_push, mark, takes_as, stamped_as, stamped_step, asked_plain, take_first, packet_sending, visit_sends, tick_sends, send_queues, sends_queues, visited, next_serial, injected_packet, inject_step, forward_by, forward_step, packet_step, advert_step, frame_step, arrived, arrive_step, asked, control_step, tick_step, take_from, take_step, node_step}
+use Rattle.node_model.specs.Node.{NodeStep, stepped_node, queue_room, has_room, number_after, lane_with, queue_push, mark, takes_as, stamped_as, stamped_step, asked_plain, take_first, packet_sending, visit_sends, tick_sends, send_queues, sends_queues, visit_step, next_serial, injected_packet, inject_step, forward_by, forward_step, packet_step, advert_step, frame_step, arrived_read, arrive_step, asked_read, control_step, tick_step, take_from, take_step, node_step}
 use Rattle.node_model.specs.Orders.{frames_of, queue_at, MovesInOrder, joined, taken}
 use Rattle.node_model.specs.Numbers.{link_in, numbers_in, Ascend, NumbersFit, FitsAt}
 
@@ -131,12 +131,12 @@ module _ (before : List ℕ) (d : ℕ) where
   still : (node : NodeState) → KeepsAt node.queues node.queues
   still node f = f
 
-  visited_rises : (acts : List Act) (node : NodeState) (p : Packet) → StepRises node (visited acts node p)
-  unfolding visited
+  visited_rises : (acts : List Act) (node : NodeState) (p : Packet) → StepRises node (visit_step acts node p)
+  unfolding visit_step
   visited_rises acts node p = sends_rise node.queues (visit_sends (mark node) (settled_at node p).visit)
 
   inject_cases : (t : Bool) (before : List Act) (node : NodeState) (chunk : Chunk) (bound : ℕ) (handler : Option Name)
-      → StepRises node (cond t (stepped (before ++ SerialsSpent ∷ []) None node) (visited (before ++ Injected (record { source = node.here; serial = node.serial }) bound ∷ []) (next_serial node) (injected_packet node chunk bound handler)))
+      → StepRises node (cond t (stepped_node (before ++ SerialsSpent ∷ []) None node) (visit_step (before ++ Injected (record { source = node.here; serial = node.serial }) bound ∷ []) (next_serial node) (injected_packet node chunk bound handler)))
   inject_cases true before node chunk bound handler = still node
   inject_cases false before node chunk bound handler = visited_rises _ (next_serial node) (injected_packet node chunk bound handler)
 
@@ -176,7 +176,7 @@ module _ (before : List ℕ) (d : ℕ) where
   unfolding stamped_step
   stamped_rises node dev x = as_rises node dev x (takes_as node.seen dev x.stamp)
 
-  arrived_rises : (node : NodeState) (dev : Dev) (r : Result PlainStamped FrameFault) → StepRises node (arrived node dev r)
+  arrived_rises : (node : NodeState) (dev : Dev) (r : Result PlainStamped FrameFault) → StepRises node (arrived_read node dev r)
   arrived_rises node dev (Ok x) = stamped_rises node dev x
   arrived_rises node dev (Err e) = still node
 
@@ -185,7 +185,7 @@ module _ (before : List ℕ) (d : ℕ) where
   plain_rises node (PlainFrame.Packet p) = still node
   plain_rises node (PlainFrame.Advert a) = still node
 
-  asked_rises : (node : NodeState) (r : Result PlainStamped FrameFault) → StepRises node (asked node r)
+  asked_rises : (node : NodeState) (r : Result PlainStamped FrameFault) → StepRises node (asked_read node r)
   asked_rises node (Ok x) = plain_rises node x.frame
   asked_rises node (Err e) = still node
 

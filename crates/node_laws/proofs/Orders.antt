@@ -26,7 +26,7 @@ use Rattle.node_model.specs.declared.acts.Sending.{Sending}
 use Rattle.node_model.specs.State.{Queues, NodeState, routing_of, is_host, leads_to}
 use Rattle.node_model.specs.Visits.{settled_at}
 use Rattle.spelled_frame.specs.Spelled.{numbered_frame}
-use Rattle.node_model.specs.Node.{NodeStep, stepped, queue_room, has_room, number_after, lane_with, queue_push, mark, takes_as, stamped_as, stamped_step, asked_plain, take_first, packet_sending, visit_sends, tick_sends, send_queues, sends_queues, visited, next_serial, injected_packet, inject_step, forward_by, forward_step, packet_step, advert_step, frame_step, arrived, arrive_step, asked, control_step, tick_step, take_from, take_step, node_step}
+use Rattle.node_model.specs.Node.{NodeStep, stepped_node, queue_room, has_room, number_after, lane_with, queue_push, mark, takes_as, stamped_as, stamped_step, asked_plain, take_first, packet_sending, visit_sends, tick_sends, send_queues, sends_queues, visit_step, next_serial, injected_packet, inject_step, forward_by, forward_step, packet_step, advert_step, frame_step, arrived_read, arrive_step, asked_read, control_step, tick_step, take_from, take_step, node_step}
 use Rattle.node_model.specs.Orders.{frames_of, queue_at, MovesInOrder, joined, taken}
 
 -- one queue set anew, seen at a device
@@ -94,12 +94,12 @@ module _ (d : ℕ) where
   still : (node : NodeState) → JoinsAt node.queues node.queues
   still node = none_join (queue_at node.queues d)
 
-  visited_joins : (acts : List Act) (node : NodeState) (p : Packet) → StepJoins node (visited acts node p)
-  unfolding visited
+  visited_joins : (acts : List Act) (node : NodeState) (p : Packet) → StepJoins node (visit_step acts node p)
+  unfolding visit_step
   visited_joins acts node p = sends_join node.queues (visit_sends (mark node) (settled_at node p).visit)
 
   inject_cases : (t : Bool) (before : List Act) (node : NodeState) (chunk : Chunk) (bound : ℕ) (handler : Option Name)
-      → StepJoins node (cond t (stepped (before ++ SerialsSpent ∷ []) None node) (visited (before ++ Injected (record { source = node.here; serial = node.serial }) bound ∷ []) (next_serial node) (injected_packet node chunk bound handler)))
+      → StepJoins node (cond t (stepped_node (before ++ SerialsSpent ∷ []) None node) (visit_step (before ++ Injected (record { source = node.here; serial = node.serial }) bound ∷ []) (next_serial node) (injected_packet node chunk bound handler)))
   inject_cases true before node chunk bound handler = still node
   inject_cases false before node chunk bound handler = visited_joins _ (next_serial node) (injected_packet node chunk bound handler)
 
@@ -139,7 +139,7 @@ module _ (d : ℕ) where
   unfolding stamped_step
   stamped_joins node dev x = as_joins node dev x (takes_as node.seen dev x.stamp)
 
-  arrived_joins : (node : NodeState) (dev : Dev) (r : Result PlainStamped FrameFault) → StepJoins node (arrived node dev r)
+  arrived_joins : (node : NodeState) (dev : Dev) (r : Result PlainStamped FrameFault) → StepJoins node (arrived_read node dev r)
   arrived_joins node dev (Ok x) = stamped_joins node dev x
   arrived_joins node dev (Err e) = still node
 
@@ -148,7 +148,7 @@ module _ (d : ℕ) where
   plain_joins node (PlainFrame.Packet p) = still node
   plain_joins node (PlainFrame.Advert a) = still node
 
-  asked_joins : (node : NodeState) (r : Result PlainStamped FrameFault) → StepJoins node (asked node r)
+  asked_joins : (node : NodeState) (r : Result PlainStamped FrameFault) → StepJoins node (asked_read node r)
   asked_joins node (Ok x) = plain_joins node x.frame
   asked_joins node (Err e) = still node
 

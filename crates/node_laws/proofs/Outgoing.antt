@@ -19,12 +19,12 @@ use Rattle.service_api.specs.declared.answer.Answer.TheVariants.{Gives, Raises}
 use Rattle.service_api.specs.declared.router.Hop.{Hop}
 use Rattle.service_api.specs.declared.router.Hop.TheVariants.{To, NoService, NoRoute}
 use Rattle.service_api.specs.Routes.{hop, default_route}
-use Rattle.service_api.specs.Services.{served}
+use Rattle.service_api.specs.Services.{served_call}
 use Rattle.plan_meaning.specs.declared.sent.Sent.{Sent}
 use Rattle.plan_meaning.specs.declared.stop.EvalStop.TheVariants.{Raised, WorkSpent, Wrong, NoMemory}
 use Rattle.plan_meaning.specs.State.{VisitState}
-use Rattle.plan_meaning.specs.Run.{After, gave, stopped, RunStep, Run, «next», quiet, raise, otherwise, spend, serve, answered}
-use Rattle.plan_meaning.specs.Meaning.{Env, pay_eval, no_bound, is_paid, bound_of, sent, sent_by, send_remote, is_next, not_neighbour, send_neighbour, run_to, meaning, visited}
+use Rattle.plan_meaning.specs.Run.{After, gave, stopped, RunStep, Run, «next», quiet, raise, otherwise, spend, serve, answered_call}
+use Rattle.plan_meaning.specs.Meaning.{Env, pay_eval, no_bound, is_paid, bound_of, sent_packet, sent_by, send_remote, is_next, not_neighbour, send_neighbour, run_to, meaning, visited_chunk}
 use Rattle.meaning_laws.specs.Laws.{left_by}
 use Rattle.meaning_laws.proofs.Walk.{Kept, run_kept, visited_kept}
 
@@ -63,7 +63,7 @@ module _ (f : Family) where
   rescue_out (stopped Wrong s) g h k = h
   rescue_out (stopped NoMemory s) g h k = h
 
-  sent_out : (s : VisitState) (dev : Dev) (k : Chunk) (h : Host) (n : ℕ) (r : Name) → 0 < n → Outgoing s.family s.outbox → Out (sent dev k h n r s).after
+  sent_out : (s : VisitState) (dev : Dev) (k : Chunk) (h : Host) (n : ℕ) (r : Name) → 0 < n → Outgoing s.family s.outbox → Out (sent_packet dev k h n r s).after
   sent_out s dev k h n r e o = record {
     same = o.same;
     family = All-push (λ s. s.packet.family ≡ f) s.outbox _ o.family o.same;
@@ -81,11 +81,11 @@ module _ (f : Family) where
   remote_out s k h n r false e o = o
 
   neighbour_out : (s : VisitState) (k : Chunk) (h : Host) (n : ℤ) (d : Dev) (b : Bool) → is_paid n s.ctx.purse ≡ b → Outgoing s.family s.outbox
-      → Out (if b then (if is_next s d h then sent d k h (bound_of n) default_route s else raise not_neighbour s) else raise no_bound s).after
+      → Out (if b then (if is_next s d h then sent_packet d k h (bound_of n) default_route s else raise not_neighbour s) else raise no_bound s).after
   neighbour_out s k h n d true e o = choose (is_next s d h) _ _ (sent_out s d k h (bound_of n) default_route (bound_low n _ e) o) o
   neighbour_out s k h n d false e o = o
 
-  served_out : (t : VisitState) → Outgoing t.family t.outbox → (a : Answer) → Out (answered a t)
+  served_out : (t : VisitState) → Outgoing t.family t.outbox → (a : Answer) → Out (answered_call a t)
   served_out t o (Gives v told) = o
   served_out t o (Raises x) = o
 
@@ -107,7 +107,7 @@ module _ (f : Family) where
 
   serves : (d : Svc) (args : List Value) → Sends Value (serve d args) (serve d args)
   unfolding serve
-  serves d args s o = served_out _ o (served s.services d args s.ctx).answer
+  serves d args s o = served_out _ o (served_call s.services d args s.ctx).answer
 
   sends_kept : Kept Sends
   sends_kept = record {
@@ -131,5 +131,5 @@ module _ (f : Family) where
   means_sends code seen env e s o = run_sends (suc s.work) code seen env e s o
 
   -- what is sent is of the family and has a bound
-  pub visit_sends : (k : Chunk) → Sends Value (visited meaning k) (visited meaning k)
+  pub visit_sends : (k : Chunk) → Sends Value (visited_chunk meaning k) (visited_chunk meaning k)
   visit_sends k = visited_kept Sends sends_kept meaning meaning means_sends k

@@ -28,7 +28,7 @@ use Rattle.node_model.specs.State.{Links, Queues, NodeState, routing_of, is_host
 use Rattle.node_model.specs.Visits.{settled_at}
 use Rattle.link_window.specs.declared.window.Stamp.{Stamp}
 use Rattle.link_window.specs.Seen.{Seen, seen_with}
-use Rattle.node_model.specs.Node.{NodeStep, stepped, queue_room, has_room, lane_with, queue_push, mark, takes_as, seen_at, seen_then, noting, stamped_as, stamped_step, take_first, packet_sending, advert_sending, visit_sends, tick_sends, send_queues, sends_queues, visited, next_serial, injected_packet, inject_step, only_acts, onward, forward_by, forward_step, packet_step, hearing, advert_step, frame_step, arrived, arrive_step, tick_step, take_from, take_step}
+use Rattle.node_model.specs.Node.{NodeStep, stepped_node, queue_room, has_room, lane_with, queue_push, mark, takes_as, seen_at, seen_then, noting, stamped_as, stamped_step, take_first, packet_sending, advert_sending, visit_sends, tick_sends, send_queues, sends_queues, visit_step, next_serial, injected_packet, inject_step, only_acts, onward, forward_by, forward_step, packet_step, hearing, advert_step, frame_step, arrived_read, arrive_step, tick_step, take_from, take_step}
 
 -- a node with the same host, hosts and neighbours, and as many queues
 pub record Stays (old new : NodeState) : Type 0 where
@@ -81,11 +81,11 @@ cases : (t : Bool) (old : NodeState) (a b : NodeStep) → StepStays old a → St
 cases true old a b x y = x
 cases false old a b x y = y
 
-still : (acts : List Act) (node : NodeState) → StepStays node (stepped acts None node)
+still : (acts : List Act) (node : NodeState) → StepStays node (stepped_node acts None node)
 still acts node = record { node = itself node; serial = refl; seen = refl }
 
-pub visited_stays : (acts : List Act) (node : NodeState) (p : Packet) → StepStays node (visited acts node p)
-unfolding visited
+pub visited_stays : (acts : List Act) (node : NodeState) (p : Packet) → StepStays node (visit_step acts node p)
+unfolding visit_step
 visited_stays acts node p = record {
   node = record { here = refl; hosts = refl; neighbours = refl; count = sends_count node.queues (visit_sends (mark node) (settled_at node p).visit); version = refl; boot = refl; windows = refl };
   serial = refl;
@@ -160,7 +160,7 @@ pub stamped_stays : (node : NodeState) (d : Dev) (x : PlainStamped) → StampedS
 unfolding stamped_step
 stamped_stays node d x = as_stays node d x (takes_as node.seen d x.stamp)
 
-arrived_stays : (node : NodeState) (d : Dev) (r : Result PlainStamped FrameFault) → StampedStays node (arrived node d r)
+arrived_stays : (node : NodeState) (d : Dev) (r : Result PlainStamped FrameFault) → StampedStays node (arrived_read node d r)
 arrived_stays node d (Ok x) = stamped_stays node d x
 arrived_stays node d (Err e) = unstamped_stays node _ (still _ node)
 
@@ -190,7 +190,7 @@ take_stays node d = take_from_stays node d (slice_get node.queues d.0)
 
 -- an injection changes the serial number alone
 inject_cases : (t : Bool) (node : NodeState) (chunk : Chunk) (bound : ℕ) (handler : Option Name)
-    → Stays node (cond t (stepped ([] ++ SerialsSpent ∷ []) None node) (visited ([] ++ Injected (record { source = node.here; serial = node.serial }) bound ∷ []) (next_serial node) (injected_packet node chunk bound handler))).node
+    → Stays node (cond t (stepped_node ([] ++ SerialsSpent ∷ []) None node) (visit_step ([] ++ Injected (record { source = node.here; serial = node.serial }) bound ∷ []) (next_serial node) (injected_packet node chunk bound handler))).node
 inject_cases true node chunk bound handler = itself node
 inject_cases false node chunk bound handler =
     let s = visited_stays ([] ++ Injected (record { source = node.here; serial = node.serial }) bound ∷ []) (next_serial node) (injected_packet node chunk bound handler) in
@@ -209,8 +209,8 @@ none_cases : (t : Bool) (a b : NodeStep) → NoFrame a → NoFrame b → NoFrame
 none_cases true a b x y = x
 none_cases false a b x y = y
 
-visited_frame : (acts : List Act) (node : NodeState) (p : Packet) → NoFrame (visited acts node p)
-unfolding visited
+visited_frame : (acts : List Act) (node : NodeState) (p : Packet) → NoFrame (visit_step acts node p)
+unfolding visit_step
 visited_frame acts node p = refl
 
 pub inject_frame : (acts : List Act) (node : NodeState) (chunk : Chunk) (bound : ℕ) (handler : Option Name) → NoFrame (inject_step acts node chunk bound handler)
@@ -249,7 +249,7 @@ pub stamped_frame : (node : NodeState) (d : Dev) (x : PlainStamped) → NoFrame 
 unfolding stamped_step
 stamped_frame node d x = as_frame node d x (takes_as node.seen d x.stamp)
 
-arrived_frame : (node : NodeState) (d : Dev) (r : Result PlainStamped FrameFault) → NoFrame (arrived node d r)
+arrived_frame : (node : NodeState) (d : Dev) (r : Result PlainStamped FrameFault) → NoFrame (arrived_read node d r)
 arrived_frame node d (Ok x) = stamped_frame node d x
 arrived_frame node d (Err e) = refl
 

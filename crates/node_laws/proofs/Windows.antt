@@ -18,7 +18,7 @@ use Rattle.node_model.specs.declared.acts.Act.{Act}
 use Rattle.node_model.specs.declared.acts.Act.TheVariants.{Injected, SerialsSpent}
 use Rattle.node_model.specs.State.{NodeState}
 use Rattle.node_model.specs.Fits.{IsMarked}
-use Rattle.node_model.specs.Node.{NodeStep, stepped, took_by, takes_as, seen_at, seen_then, noting, stamped_as, stamped_step, arrived, arrive_step, visited, next_serial, injected_packet, inject_step, frame_step}
+use Rattle.node_model.specs.Node.{NodeStep, stepped_node, took_by, takes_as, seen_at, seen_then, noting, stamped_as, stamped_step, arrived_read, arrive_step, visit_step, next_serial, injected_packet, inject_step, frame_step}
 use Rattle.node_laws.proofs.Staying.{frame_stays}
 
 -- what isn't fresh on a device isn't fresh there later
@@ -100,7 +100,7 @@ pub stamped_later : (node : NodeState) (d : Dev) (x : PlainStamped) → SeenLate
 unfolding stamped_step
 stamped_later node d x = as_later node d x (takes_as node.seen d x.stamp) refl
 
-arrived_later : (node : NodeState) (d : Dev) (r : Result PlainStamped FrameFault) → SeenLater node.seen (arrived node d r).node.seen
+arrived_later : (node : NodeState) (d : Dev) (r : Result PlainStamped FrameFault) → SeenLater node.seen (arrived_read node d r).node.seen
 arrived_later node d (Ok x) = stamped_later node d x
 arrived_later node d (Err e) = same_later node.seen node.seen refl
 
@@ -109,8 +109,8 @@ unfolding arrive_step
 arrive_later node d bytes = arrived_later node d (read_by node.version bytes)
 
 inject_cases : (t : Bool) (node : NodeState) (chunk : Chunk) (bound : ℕ) (handler : Option Name)
-    → (cond t (stepped ([] ++ SerialsSpent ∷ []) None node) (visited ([] ++ Injected (record { source = node.here; serial = node.serial }) bound ∷ []) (next_serial node) (injected_packet node chunk bound handler))).node.seen ≡ node.seen
-unfolding visited
+    → (cond t (stepped_node ([] ++ SerialsSpent ∷ []) None node) (visit_step ([] ++ Injected (record { source = node.here; serial = node.serial }) bound ∷ []) (next_serial node) (injected_packet node chunk bound handler))).node.seen ≡ node.seen
+unfolding visit_step
 inject_cases true node chunk bound handler = refl
 inject_cases false node chunk bound handler = refl
 

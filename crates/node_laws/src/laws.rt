@@ -9,7 +9,7 @@ ghost use Rattle.plan_base.specs.declared.tree.Packet.{Packet};
 ghost use Rattle.service_api.specs.Services.{IsGood, IsGoodChunk, begun_now};
 ghost use Rattle.network_plan.specs.declared.event.Event.{Event};
 ghost use Rattle.node_model.specs.State.{NodeState};
-ghost use Rattle.node_model.specs.Visits.{VisitKeeps, HasCase, around, evaluated, visit_at, settled_at};
+ghost use Rattle.node_model.specs.Visits.{VisitKeeps, HasCase, around, evaluated_packet, visit_at, settled_at};
 ghost use Rattle.node_model.specs.Node.{node_step, stamped_step, takes_as};
 ghost use Rattle.node_model.specs.Orders.{queue_at, MovesInOrder};
 ghost use Rattle.node_model.specs.Contexts.{IsOrdered};
@@ -28,7 +28,7 @@ pub fn settled_visit_balance()
 
 /// With services that keep their laws and at most 8 neighbours, the visit of a typed chunk never is without a case.
 pub fn visit_has_case()
-    ensures { (node : NodeState) (p : Packet) → IsGood node.services → length node.neighbours ≤ 8 → IsGoodChunk p.chunk → HasCase (evaluated (around node p) (begun_now node.services) p) }
+    ensures { (node : NodeState) (p : Packet) → IsGood node.services → length node.neighbours ≤ 8 → IsGoodChunk p.chunk → HasCase (evaluated_packet (around node p) (begun_now node.services) p) }
 {}
 
 /// Each step of a node is in balance, for each family, and what came in with a stale frame stands in its acts.

@@ -19,7 +19,7 @@ use Rattle.service_api.specs.declared.advert.Advert.{Advert}
 use Rattle.service_api.specs.declared.router.Hop.{Hop}
 use Rattle.service_api.specs.declared.router.Hop.TheVariants.{To, NoService, NoRoute}
 use Rattle.service_api.specs.Routes.{hop, default_route}
-use Rattle.service_api.specs.Services.{ServiceState, begun_now, expired}
+use Rattle.service_api.specs.Services.{ServiceState, begun_now, unexpired_services}
 use Rattle.dv_routing.specs.Routing.{all_routes, own_advert}
 use Rattle.network_plan.specs.declared.event.Event.{Event}
 use Rattle.network_plan.specs.declared.event.Event.TheVariants as event
@@ -42,8 +42,8 @@ pub record NodeStep : Type 0 where
   pub frame : Option PlainStamped
   pub node : NodeState
 
-abbrev pub stepped : List Act → Option PlainStamped → NodeState → NodeStep
-stepped acts frame node = record { acts = acts; frame = frame; node = node }
+abbrev pub stepped_node : List Act → Option PlainStamped → NodeState → NodeStep
+stepped_node acts frame node = record { acts = acts; frame = frame; node = node }
 
 -- ---- frames into queues
 
@@ -144,8 +144,8 @@ visit_acts m queues p left s =
     ++ (Ended p.family s.visit.outcome s.visit.evals s.visit.left ∷ (handled_acts p.family s.handled left ++ sends_acts queues (visit_sends m s.visit)))
 
 -- a settled visit at a node, after these acts
-unfoldable pub visited : List Act → NodeState → Packet → NodeStep
-visited acts node p = stepped (acts ++ visit_acts (mark node) node.queues p (visit_at node p).left (settled_at node p)) None
+unfoldable pub visit_step : List Act → NodeState → Packet → NodeStep
+visit_step acts node p = stepped_node (acts ++ visit_acts (mark node) node.queues p (visit_at node p).left (settled_at node p)) None
     (with_services (with_queues node (sends_queues node.queues (visit_sends (mark node) (settled_at node p).visit))) (services_after (around node p) (begun_now node.services) p))
 
 -- ---- injections
@@ -159,18 +159,18 @@ next_serial node = record node { serial = node.serial + 1 }
 
 -- an injection after these acts, which is refused where the last serial number would be given
 unfoldable pub inject_step : List Act → NodeState → Chunk → ℕ → Option Name → NodeStep
-inject_step acts node chunk bound handler = if node.serial == 18446744073709551615 then stepped (acts ++ SerialsSpent ∷ []) None node
-    else visited (acts ++ Injected (record { source = node.here; serial = node.serial }) bound ∷ []) (next_serial node) (injected_packet node chunk bound handler)
+inject_step acts node chunk bound handler = if node.serial == 18446744073709551615 then stepped_node (acts ++ SerialsSpent ∷ []) None node
+    else visit_step (acts ++ Injected (record { source = node.here; serial = node.serial }) bound ∷ []) (next_serial node) (injected_packet node chunk bound handler)
 
 -- ---- arrivals
 
 -- nothing but two acts
 abbrev pub only_acts : Act → Act → NodeState → NodeStep
-only_acts first act node = stepped (first ∷ act ∷ []) None node
+only_acts first act node = stepped_node (first ∷ act ∷ []) None node
 
 -- a packet goes on over a device
 abbrev pub onward : NodeState → Dev → Sending → NodeStep
-onward node d s = stepped (Arrived d ∷ send_act node.queues s ∷ []) None (with_queues node (send_queues node.queues s))
+onward node d s = stepped_node (Arrived d ∷ send_act node.queues s ∷ []) None (with_queues node (send_queues node.queues s))
 
 -- a packet that goes on by a hop
 unfoldable pub forward_by : NodeState → Dev → Packet → Hop → NodeStep
@@ -185,7 +185,7 @@ forward_step node d p = if p.bound == 0 then only_acts (Arrived d) (Dropped reas
 
 -- a packet for this host is visited
 unfoldable pub packet_step : NodeState → Dev → Packet → NodeStep
-packet_step node d p = if is_host p.dest node.here then visited (Arrived d ∷ []) node p else forward_step node d p
+packet_step node d p = if is_host p.dest node.here then visit_step (Arrived d ∷ []) node p else forward_step node d p
 
 abbrev pub hearing : NodeState → Dev → Advert → NodeState
 hearing node d a = record node { heard = node.heard ++ (d, a) ∷ [] }
@@ -225,7 +225,7 @@ with_seen seen node = record node { seen = seen }
 
 -- a step at which a fresh stamp is taken
 abbrev pub noting : NodeState → Dev → Option Stamp → NodeStep → NodeStep
-noting node d stamp step = stepped step.acts step.frame (with_seen (seen_then node.seen d stamp) step.node)
+noting node d stamp step = stepped_node step.acts step.frame (with_seen (seen_then node.seen d stamp) step.node)
 
 abbrev pub stamped_as : NodeState → Dev → PlainStamped → Took → NodeStep
 stamped_as node d x Fresh = noting node d x.stamp (frame_step node d x.frame)
@@ -235,25 +235,25 @@ stamped_as node d x t = only_acts (Arrived d) (Stale t (what_of x.frame)) node
 unfoldable pub stamped_step : NodeState → Dev → PlainStamped → NodeStep
 stamped_step node d x = stamped_as node d x (takes_as node.seen d x.stamp)
 
-abbrev pub arrived : NodeState → Dev → Result PlainStamped FrameFault → NodeStep
-arrived node d (Ok x) = stamped_step node d x
-arrived node d (Err e) = only_acts (Arrived d) (Bad e) node
+abbrev pub arrived_read : NodeState → Dev → Result PlainStamped FrameFault → NodeStep
+arrived_read node d (Ok x) = stamped_step node d x
+arrived_read node d (Err e) = only_acts (Arrived d) (Bad e) node
 
 -- bytes arrive
 unfoldable pub arrive_step : NodeState → Dev → List ℕ → NodeStep
-arrive_step node d bytes = arrived node d (read_by node.version bytes)
+arrive_step node d bytes = arrived_read node d (read_by node.version bytes)
 
 abbrev pub asked_plain : NodeState → PlainFrame → NodeStep
 asked_plain node (PlainFrame.Ask bound chunk) = inject_step (Asked ∷ []) node chunk bound None
 asked_plain node x = only_acts Asked Misplaced node
 
-abbrev pub asked : NodeState → Result PlainStamped FrameFault → NodeStep
-asked node (Ok x) = asked_plain node x.frame
-asked node (Err e) = only_acts Asked (Bad e) node
+abbrev pub asked_read : NodeState → Result PlainStamped FrameFault → NodeStep
+asked_read node (Ok x) = asked_plain node x.frame
+asked_read node (Err e) = only_acts Asked (Bad e) node
 
 -- bytes arrive from the owner: an ask is an injection
 unfoldable pub control_step : NodeState → List ℕ → NodeStep
-control_step node bytes = asked node (read_by node.version bytes)
+control_step node bytes = asked_read node (read_by node.version bytes)
 
 -- ---- ticks
 
@@ -263,7 +263,7 @@ next_tick now = if now == 18446744073709551615 then now else now + 1
 
 -- the node at its next tick: rows that have expired go
 abbrev pub ticking : NodeState → NodeState
-ticking node = record node { services = expired (next_tick node.now) node.services; now = next_tick node.now }
+ticking node = record node { services = unexpired_services (next_tick node.now) node.services; now = next_tick node.now }
 
 -- an advert to be queued for a neighbour
 abbrev pub advert_sending : Option Stamp → Advert → Host × Dev → Sending
@@ -280,16 +280,16 @@ unfoldable pub tick_sends : NodeState → List Sending
 tick_sends node = map (advert_sending (mark node) (own_advert (routing_of node))) node.neighbours
 
 unfoldable pub tick_step : NodeState → NodeStep
-tick_step node = stepped (Ticked (next_tick node.now) ∷ sends_acts node.queues (tick_sends node)) None (with_queues (ticking node) (sends_queues node.queues (tick_sends node)))
+tick_step node = stepped_node (Ticked (next_tick node.now) ∷ sends_acts node.queues (tick_sends node)) None (with_queues (ticking node) (sends_queues node.queues (tick_sends node)))
 
 -- ---- takes
 
 abbrev pub take_first : NodeState → Dev → ℕ → List PlainStamped → NodeStep
-take_first node d n [] = stepped [] None node
-take_first node d n (x ∷ queue) = stepped (Taken d (what_of x.frame) ∷ []) (Some x) (with_queues node (slice_set node.queues d.0 (record { frames = queue; number = n })))
+take_first node d n [] = stepped_node [] None node
+take_first node d n (x ∷ queue) = stepped_node (Taken d (what_of x.frame) ∷ []) (Some x) (with_queues node (slice_set node.queues d.0 (record { frames = queue; number = n })))
 
 abbrev pub take_from : NodeState → Dev → Option Lane → NodeStep
-take_from node d None = stepped [] None node
+take_from node d None = stepped_node [] None node
 take_from node d (Some lane) = take_first node d lane.number lane.frames
 
 -- the first frame of a device is taken; nothing where there is none

@@ -6,7 +6,7 @@ use Rattle.network_plan.specs.declared.serve.ServeConfig.{ServeConfig}
 use Rattle.node_files.specs.LogTexts.{entry_text}
 use Rattle.node_io.specs.FileMaps.{file_at, ChangesOnly, WritesMore}
 use Rattle.node_model.specs.State.{NodeState}
-use Rattle.serve_model.specs.Runs.{Running, opened_run, node_by, node_after, played, with_entry}
+use Rattle.serve_model.specs.Runs.{Running, opened_run, node_by, node_after, played_entries, with_entry}
 use Rattle.serve_model.specs.Texts.{begun_trace, whole_trace}
 use Rattle.serve_model.specs.Follow.{Ext}
 use Rattle.serve_model.proofs.Going.{ext_trans, ext_entry}
@@ -29,8 +29,8 @@ take_short (suc n) (x ∷ xs) ys h = ap (λ l. x ∷ l) (take_short n xs ys (ome
 
 -- ---- the frames of a run
 
-run_lines : (node : NodeState) (r : Running) → Ext (opened_run node) r → r.entries ≡ played 0 node r.events
-run_lines node r x = x.lines ∙ ap (played 0 node) (sym x.log)
+run_lines : (node : NodeState) (r : Running) → Ext (opened_run node) r → r.entries ≡ played_entries 0 node r.events
+run_lines node r x = x.lines ∙ ap (played_entries 0 node) (sym x.log)
 
 run_node : (node : NodeState) (r : Running) → Ext (opened_run node) r → node_after node r.events ≡ r.node
 run_node node r x = ap (node_after node) x.log ∙ sym x.node
@@ -73,8 +73,8 @@ module _ (cfg : ServeConfig) (base : Start) (seen : Seen) where
         next = a.next;
         few = omega (arith, a.few, size);
         log = subst (HasLogged cfg seen.files) (sym logged) a.log;
-        out = record { count = a.out.count; is = a.out.is ∙ ap (λ l. base.taken ++ take a.out.count (whole_trace cfg.node.here (played 0 base.node l))) (sym logged) };
-        lines = subst (λ l. length (begun_trace cfg.node.here (played 0 base.node l)) ≤ a.out.count) (sym made) a.lines;
+        out = record { count = a.out.count; is = a.out.is ∙ ap (λ l. base.taken ++ take a.out.count (whole_trace cfg.node.here (played_entries 0 base.node l))) (sym logged) };
+        lines = subst (λ l. length (begun_trace cfg.node.here (played_entries 0 base.node l)) ≤ a.out.count) (sym made) a.lines;
         sent = a.sent ∙ ap (λ l. base.sent ++ frames_of base.node l) (sym made);
       }
 
@@ -87,7 +87,7 @@ module _ (cfg : ServeConfig) (base : Start) (seen : Seen) where
       let n = length r.events in
       let all : take n r.events ≡ r.events = take-length r.events in
       let trace = run_trace cfg r in
-      let lines : r.entries ≡ played 0 base.node (take n r.events) = run_lines base.node r x ∙ ap (played 0 base.node) (sym all) in
+      let lines : r.entries ≡ played_entries 0 base.node (take n r.events) = run_lines base.node r x ∙ ap (played_entries 0 base.node) (sym all) in
       let short : length trace ≤ length trace + count = omega arith in
       record {
         made = n;
@@ -117,9 +117,9 @@ module _ (cfg : ServeConfig) (base : Start) (seen : Seen) where
       let before = run_trace cfg r in
       let next = next_lines cfg e r in
       let done = take count next in
-      let lines : (with_entry e r).entries ≡ played 0 base.node (take (n + 1) es) = run_lines base.node (with_entry e r) (ext_trans (opened_run base.node) r (with_entry e r) x (ext_entry e r)) ∙ ap (played 0 base.node) (sym all) in
+      let lines : (with_entry e r).entries ≡ played_entries 0 base.node (take (n + 1) es) = run_lines base.node (with_entry e r) (ext_trans (opened_run base.node) r (with_entry e r) x (ext_entry e r)) ∙ ap (played_entries 0 base.node) (sym all) in
       let front : before ++ done ≡ take (length before + length done) (before ++ (next ++ codes "end\n")) = ap (λ l. before ++ l) (front_exact count next (codes "end\n")) ∙ sym (take-append-add before (next ++ codes "end\n") (length done)) in
-      let whole : before ++ (next ++ codes "end\n") ≡ whole_trace cfg.node.here (played 0 base.node (take (n + 1) es)) =
+      let whole : before ++ (next ++ codes "end\n") ≡ whole_trace cfg.node.here (played_entries 0 base.node (take (n + 1) es)) =
       sym (append_assoc before next (codes "end\n")) ∙ ap (λ l. l ++ codes "end\n") (sym (trace_more cfg e r)) ∙ ap (whole_trace cfg.node.here) lines in
       let short : length before ≤ length before + length done = omega arith in
       record {
@@ -129,7 +129,7 @@ module _ (cfg : ServeConfig) (base : Start) (seen : Seen) where
         few = omega (arith, size);
         log = record { more = []; there = log ∙ ap Some (sym (append-nil (entries_log cfg es))) ∙ ap (λ l. Some (entries_log cfg l ++ [])) (sym all) };
         out = record { count = length before + length done; is = out ∙ ap (λ l. base.taken ++ l) (front ∙ ap (take (length before + length done)) whole) };
-        lines = subst (λ l. length (begun_trace cfg.node.here l) ≤ length before + length done) (run_lines base.node r x ∙ ap (played 0 base.node) (sym old)) short;
+        lines = subst (λ l. length (begun_trace cfg.node.here l) ≤ length before + length done) (run_lines base.node r x ∙ ap (played_entries 0 base.node) (sym old)) short;
         sent = sent ∙ ap (λ l. base.sent ++ l) (frames ∙ ap (frames_of base.node) (sym old));
       }
 

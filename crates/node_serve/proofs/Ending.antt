@@ -10,7 +10,7 @@ use Rattle.node_io.specs.FileMaps.{ChangesOnly, SavesFront, untouched, begun}
 use Rattle.node_io.specs.Sinks.{SinkState}
 use Rattle.node_io.proofs.SinkLaws.{front_longer}
 use Rattle.node_model.specs.State.{NodeState}
-use Rattle.serve_model.specs.Runs.{Running, opened_run, played, turns, node_run}
+use Rattle.serve_model.specs.Runs.{Running, opened_run, played_entries, turns, node_run}
 use Rattle.serve_model.specs.Texts.{trace_line, lines_text, begun_trace, whole_trace}
 use Rattle.serve_model.specs.Follow.{Ext, lost_after, lost_places}
 use Rattle.serve_model.proofs.Places.{own_places}
@@ -32,12 +32,12 @@ log_goes_on cfg r d x = (flat_map entry_text x.events, ap (λ es. head_text cfg.
 trace_goes_on : (cfg : ServeConfig) (r d : Running) → Ext r d → (more : List ℕ) × (run_trace cfg d ≡ run_trace cfg r ++ more)
 unfolding begun_trace lines_text
 trace_goes_on cfg r d x =
-    let new = played (length r.events) r.node x.events in
+    let new = played_entries (length r.events) r.node x.events in
     (lines_text cfg.node.here new, ap (begun_trace cfg.node.here) x.lines ∙ text_more (codes "planet trace 1\n") (trace_line cfg.node.here) r.entries new)
 
 -- entries used of a list that is as before
-used : {A : Type 0} {n : ℕ} {old mid new : List A} → mid ≡ old → UsedUpTo n mid new → UsedUpTo n old new
-used same u = record { count = u.count; few = u.few; is = u.is ∙ ap (drop u.count) same }
+used_as_before : {A : Type 0} {n : ℕ} {old mid new : List A} → mid ≡ old → UsedUpTo n mid new → UsedUpTo n old new
+used_as_before same u = record { count = u.count; few = u.few; is = u.is ∙ ap (drop u.count) same }
 
 -- ---- the beginning
 
@@ -135,11 +135,11 @@ module _ (cfg : ServeConfig) (node : NodeState) (n : ℕ) (first : Desk) (mid la
   same_run refused = ap (λ x. turns cfg x mid.clock.last mid.clock.answers n refused (opened_run node)) b.script
 
   -- the whole run
-  pub served : {stands : Running → Type 0} (out : SinkState) → Reached stands cfg (start_at first node) (seen_at (desk_of last)) (opened_run node) (turns cfg mid.link.script mid.clock.last mid.clock.answers n)
+  pub run_is_served : {stands : Running → Type 0} (out : SinkState) → Reached stands cfg (start_at first node) (seen_at (desk_of last)) (opened_run node) (turns cfg mid.link.script mid.clock.last mid.clock.answers n)
       → out.taken ≡ last.out.taken ++ codes "end\n" → last.link.binds ≡ mid.link.binds → last.link.script ≡ drop n mid.link.script → last.clock.answers ≡ drop n mid.clock.answers
       → Served cfg node n (with_clock first mid.clock) (record last { out = out })
   unfolding whole_trace
-  served out a taken binds script answers =
+  run_is_served out a taken binds script answers =
       let refused = lost_places a.done.events in
       let same : a.done ≡ run_in cfg node n (with_clock first mid.clock) refused = a.is refused (own_places a.done.events) ∙ same_run refused in
       record {
@@ -155,11 +155,11 @@ module _ (cfg : ServeConfig) (node : NodeState) (n : ℕ) (first : Desk) (mid la
       }
 
   -- a prefix of it
-  pub stopped : Stopped cfg (start_at first node) (seen_at (desk_of last)) (opened_run node) (turns cfg mid.link.script mid.clock.last mid.clock.answers n)
+  pub stop_is_begun : Stopped cfg (start_at first node) (seen_at (desk_of last)) (opened_run node) (turns cfg mid.link.script mid.clock.last mid.clock.answers n)
       → last.link.binds ≡ mid.link.binds → UsedUpTo n mid.link.script last.link.script → UsedUpTo n mid.clock.answers last.clock.answers
       → Begun cfg node n (with_clock first mid.clock) last
   unfolding whole_trace
-  stopped a binds script answers =
+  stop_is_begun a binds script answers =
       let refused = lost_places a.done.events in
       let whole = run_in cfg node n (with_clock first mid.clock) refused in
       let x : Ext a.done whole = subst (Ext a.done) (same_run refused) (a.within refused (own_places a.done.events)) in
@@ -182,7 +182,7 @@ module _ (cfg : ServeConfig) (node : NodeState) (n : ℕ) (first : Desk) (mid la
         readable = subst (All (IsReadable cfg.node.version)) (sym front) a.shows.readable;
         agrees = inr (subst (Agrees cfg (start_at first node) (seen_at (desk_of last))) (sym x.log) (agrees_more cfg (start_at first node) (seen_at (desk_of last)) a.done.events x.events a.shows.agrees));
         binds = inr (binds ∙ b.binds);
-        script = used b.script script;
+        script = used_as_before b.script script;
         answers = answers;
       }
 

@@ -8,7 +8,7 @@ use Rattle.network_plan.specs.declared.event.Event.TheVariants.{Tick, Take}
 use Rattle.network_plan.specs.declared.event.LogEvent.{LogEvent}
 use Rattle.network_plan.specs.declared.event.LogEvent.TheVariants.{Step, Lost}
 use Rattle.network_plan.specs.declared.serve.ServeConfig.{ServeConfig}
-use Rattle.serve_model.specs.Runs.{Running, Action, then_do, with_entry, marked, holding, is_refused, make, tick, first_on, come_back, take_back, send_taken, take_send, release}
+use Rattle.serve_model.specs.Runs.{Running, Action, then_do, with_entry, marked_running, holding, is_refused, make, tick, first_on, come_back, take_back, send_taken, take_send, release}
 use Rattle.serve_model.specs.Follow.{Ext, Grows, entry_of, is_lost, Fits}
 use Rattle.node_serve.specs.Shown.{Seen, Start, Shows, Fronts, Reached, Stopped, Leaves}
 use Rattle.serve_model.proofs.Going.{ext_refl, ext_trans, ext_entry, ext_marked, ext_holding, send_taken_ext, come_back_grows}
@@ -157,12 +157,12 @@ stopped_back cfg base seen r a = record {
 
 -- ---- a tick
 
-pub tick_over : (stands after : Running → Type 0) (cfg : ServeConfig) (base : Start) (seen : Seen) (r : Running) (period t : ℕ) → nat_le (r.last + period) t ≡ true → (a : Reached stands cfg base seen r (make Tick)) → after (marked t a.done) → Reached after cfg base seen r (tick period t)
+pub tick_over : (stands after : Running → Type 0) (cfg : ServeConfig) (base : Start) (seen : Seen) (r : Running) (period t : ℕ) → nat_le (r.last + period) t ≡ true → (a : Reached stands cfg base seen r (make Tick)) → after (marked_running t a.done) → Reached after cfg base seen r (tick period t)
 unfolding tick
 tick_over stands after cfg base seen r period t over a h = record {
-  done = marked t a.done;
-  grows = ext_trans r a.done (marked t a.done) a.grows (ext_marked t a.done);
-  is = λ refused f. ap (marked t) (a.is refused f) ∙ sym (if_true (nat_le (r.last + period) t) (marked t (make Tick refused r)) r over);
+  done = marked_running t a.done;
+  grows = ext_trans r a.done (marked_running t a.done) a.grows (ext_marked t a.done);
+  is = λ refused f. ap (marked_running t) (a.is refused f) ∙ sym (if_true (nat_le (r.last + period) t) (marked_running t (make Tick refused r)) r over);
   stands_for = h;
   shows = shows_marked cfg base seen t a.done a.shows;
 }
@@ -172,14 +172,14 @@ unfolding tick
 tick_stopped cfg base seen r period t over a = record {
   done = a.done;
   grows = a.grows;
-  within = λ refused f. subst (Ext a.done) (sym (if_true (nat_le (r.last + period) t) (marked t (make Tick refused r)) r over)) (ext_trans a.done (make Tick refused r) (marked t (make Tick refused r)) (a.within refused f) (ext_marked t (make Tick refused r)));
+  within = λ refused f. subst (Ext a.done) (sym (if_true (nat_le (r.last + period) t) (marked_running t (make Tick refused r)) r over)) (ext_trans a.done (make Tick refused r) (marked_running t (make Tick refused r)) (a.within refused f) (ext_marked t (make Tick refused r)));
   shows = a.shows;
 }
 
 -- the period isn't over
 pub tick_early : (period t : ℕ) (r : Running) → nat_le (r.last + period) t ≡ false → (refused : List ℕ) → tick period t refused r ≡ r
 unfolding tick
-tick_early period t r early refused = if_false (nat_le (r.last + period) t) (marked t (make Tick refused r)) r early
+tick_early period t r early refused = if_false (nat_le (r.last + period) t) (marked_running t (make Tick refused r)) r early
 
 -- ---- a frame that is taken and sent
 

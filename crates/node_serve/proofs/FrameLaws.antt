@@ -15,7 +15,7 @@ use Rattle.node_io.specs.declared.link.Peer.{Peer}
 use Rattle.node_io.specs.declared.link.Arrival.{Arrival}
 use Rattle.node_io.specs.Links.{Heard, has_peer, next_heard}
 use Rattle.node_model.specs.State.{NodeState}
-use Rattle.serve_model.specs.Runs.{node_by, node_after, Running, opened_run, with_entry, marked, holding, with_sent, Action, then_do, is_refused, make, tick, inject_one, inject_to, arrival, hear, first_on, queued_on, come_back, take_back, loop_back, send_taken, take_send, repeat_send, flush_device, flush_to, release, flush, begin_turn, end_turn, turn, turns, node_run, peers_of, time_at}
+use Rattle.serve_model.specs.Runs.{node_by, node_after, Running, opened_run, with_entry, marked_running, holding, with_sent, Action, then_do, is_refused, make, tick, inject_one, inject_to, arrival, hear, first_on, queued_on, come_back, take_back, loop_back, send_taken, take_send, repeat_send, flush_device, flush_to, release, flush, begin_turn, end_turn, turn, turns, node_run, peers_of, time_at}
 use Rattle.node_serve.specs.Sendings.{sending, sent_at, frames_of, SendsNone}
 
 -- what arrives sends nothing
@@ -99,8 +99,8 @@ make_sends e none refused r = by (is_refused refused r)
 
 tick_sends : (period t : ℕ) → AllSends (tick period t)
 unfolding tick
-tick_sends period t refused r = either (nat_le (r.last + period) t) r (marked t (make Tick refused r)) r
-    (both_sends r (make Tick refused r) (marked t (make Tick refused r)) (make_sends Tick (λ node. refl) refused r) (same_sends (make Tick refused r) (marked t (make Tick refused r)) refl refl refl)) (stay_sends r)
+tick_sends period t refused r = either (nat_le (r.last + period) t) r (marked_running t (make Tick refused r)) r
+    (both_sends r (make Tick refused r) (marked_running t (make Tick refused r)) (make_sends Tick (λ node. refl) refused r) (same_sends (make Tick refused r) (marked_running t (make Tick refused r)) refl refl refl)) (stay_sends r)
 
 inject_one_sends : (turn : ℕ) (x : Option Injection) → AllSends (inject_one turn x)
 inject_one_sends turn None refused r = stay_sends r

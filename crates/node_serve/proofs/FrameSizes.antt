@@ -18,17 +18,17 @@ front_some xs ys h = omega (arith, h, length-append xs ys)
 back_some : (xs ys : List ℕ) → 1 ≤ length ys → 1 ≤ length (xs ++ ys)
 back_some xs ys h = omega (arith, h, length-append xs ys)
 
-headed : (kind : ℕ) (rest : List ℕ) → 1 ≤ length (head_bytes kind ++ rest)
-headed kind rest = front_some (head_bytes kind) rest (back_some (to_be_bytes w32 letters) (1 ∷ kind ∷ []) (omega arith))
+head_has_bytes : (kind : ℕ) (rest : List ℕ) → 1 ≤ length (head_bytes kind ++ rest)
+head_has_bytes kind rest = front_some (head_bytes kind) rest (back_some (to_be_bytes w32 letters) (1 ∷ kind ∷ []) (omega arith))
 
 some_plain : (x : PlainFrame) → 1 ≤ length (frame_bytes x)
 unfolding frame_bytes
-some_plain (PlainFrame.Packet p) = headed 1 (packet_bytes p)
-some_plain (PlainFrame.Advert a) = headed 2 (to_be_bytes w32 a.host.0 ++ rows_bytes a.rows)
-some_plain (PlainFrame.Ask bound c) = headed 3 (to_be_bytes w32 bound ++ chunk_bytes c)
+some_plain (PlainFrame.Packet p) = head_has_bytes 1 (packet_bytes p)
+some_plain (PlainFrame.Advert a) = head_has_bytes 2 (to_be_bytes w32 a.host.0 ++ rows_bytes a.rows)
+some_plain (PlainFrame.Ask bound c) = head_has_bytes 3 (to_be_bytes w32 bound ++ chunk_bytes c)
 
-stamped : (kind : ℕ) (s : Stamp) (rest : List ℕ) → 1 ≤ length (stamped_head kind s ++ rest)
-stamped kind s rest =
+stamp_has_bytes : (kind : ℕ) (s : Stamp) (rest : List ℕ) → 1 ≤ length (stamped_head kind s ++ rest)
+stamp_has_bytes kind s rest =
     front_some (stamped_head kind s) rest (front_some (to_be_bytes w32 letters ++ (2 ∷ kind ∷ [])) (to_be_bytes w64 s.boot ++ to_be_bytes w64 s.link)
     (back_some (to_be_bytes w32 letters) (2 ∷ kind ∷ []) (omega arith)))
 
@@ -37,9 +37,9 @@ some_bytes None x = some_plain x
 some_bytes (Some s) (PlainFrame.Packet p) = by p.handler
   where
     by : (h : Option Name) → 1 ≤ length (packet_with s p h)
-    by None = stamped 1 s (packet_bytes p)
-    by (Some n) = stamped 4 s (handled_bytes p n)
-some_bytes (Some s) (PlainFrame.Advert a) = stamped 2 s (to_be_bytes w32 a.host.0 ++ rows_bytes a.rows)
+    by None = stamp_has_bytes 1 s (packet_bytes p)
+    by (Some n) = stamp_has_bytes 4 s (handled_bytes p n)
+some_bytes (Some s) (PlainFrame.Advert a) = stamp_has_bytes 2 s (to_be_bytes w32 a.host.0 ++ rows_bytes a.rows)
 some_bytes (Some s) (PlainFrame.Ask bound c) = some_plain (PlainFrame.Ask bound c)
 
 pub frame_arrives : (v : Version) (bytes : List ℕ) (x : PlainStamped) → AcceptsBy v bytes x → IsBytes bytes → MayArrive bytes

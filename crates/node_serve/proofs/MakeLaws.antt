@@ -23,7 +23,7 @@ use Rattle.node_model.specs.State.{NodeState}
 use Rattle.node_core.specs.declared.node.Node.{Node}
 use Rattle.node_core.specs.Stands.{NodeStands}
 use Rattle.node_core.specs.Queued.{queued_at}
-use Rattle.serve_model.specs.Runs.{Running, acts_of, node_by, entries_at, with_entry, holding, marked, then_do, make, first_on, inject_one, inject_to, hear, frames_in, queued_on, come_back, take_back, loop_back, send_taken, take_send, repeat_send, flush_device, flush_to, turn, time_at, turns, peers_of}
+use Rattle.serve_model.specs.Runs.{Running, acts_of, node_by, entries_at, with_entry, holding, marked_running, then_do, make, first_on, inject_one, inject_to, hear, frames_in, queued_on, come_back, take_back, loop_back, send_taken, take_send, repeat_send, flush_device, flush_to, turn, time_at, turns, peers_of}
 use Rattle.serve_model.specs.Texts.{lines_text}
 use Rattle.serve_model.specs.Follow.{entry_of}
 use Rattle.node_serve.specs.Sendings.{sending, sent_at, frames_of, SendsNone}
@@ -84,7 +84,7 @@ module _ {S : Type 0} (stands : S → ServiceState) (cfg : ServeConfig) (base : 
 
 -- ---- parts of a server
 
-pub stands_marked : {S : Type 0} (stands : S → ServiceState) (server after : Server S) (r : Running) (t : ℕ) → StandsFor stands server r → after.node ≡ server.node → after.last ≡ t → after.held ≡ server.held → after.steps ≡ server.steps → StandsFor stands after (marked t r)
+pub stands_marked : {S : Type 0} (stands : S → ServiceState) (server after : Server S) (r : Running) (t : ℕ) → StandsFor stands server r → after.node ≡ server.node → after.last ≡ t → after.held ≡ server.held → after.steps ≡ server.steps → StandsFor stands after (marked_running t r)
 stands_marked stands server after r t st n l h k = record { node = subst (λ x. NodeStands stands x r.node) (sym n) st.node; last = l; held = h ∙ st.held; steps = k ∙ st.steps }
 
 pub stands_holding : {S : Type 0} (stands : S → ServiceState) (server after : Server S) (r : Running) (b : Bool) → StandsFor stands server r → after.node ≡ server.node → after.last ≡ server.last → after.held ≡ b → after.steps ≡ server.steps → StandsFor stands after (holding b r)

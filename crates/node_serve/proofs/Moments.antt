@@ -12,10 +12,10 @@ use Rattle.node_model.specs.State.{new_node}
 use Rattle.service_api.specs.Services.{ServiceState}
 use Rattle.node_serve.specs.declared.fault.ServeFault.{ServeFault}
 use Rattle.node_serve.specs.Desks.{Serving}
-use Rattle.node_serve.specs.Moments.{booted, Asks, ServesFrom}
+use Rattle.node_serve.specs.Moments.{booted_config, Asks, ServesFrom}
 use Rattle.node_serve.specs.Serves.{Serves}
 
-pub booted_keeps : (cfg : ServeConfig) (boot : ℕ) → cfg.node.version ≡ Two → boot < 2 ^ 64 → KeepsServe cfg → KeepsServe (booted boot cfg)
+pub booted_keeps : (cfg : ServeConfig) (boot : ℕ) → cfg.node.version ≡ Two → boot < 2 ^ 64 → KeepsServe cfg → KeepsServe (booted_config boot cfg)
 booted_keeps cfg boot two small k = record {
   node = record {
     few = k.node.few;
@@ -45,7 +45,7 @@ pub booted_so : (cfg : ServeConfig) (boot : ℕ) (node : NodeConfig) (missing : 
     → node ≡ cfg.node → missing ≡ cfg.missing → log ≡ cfg.log → devs ≡ cfg.devs → at ≡ cfg.at → cfg.node.version ≡ Two → boot < 2 ^ 64 → KeepsServe cfg
     → KeepsServe (record { node = record node { boot = boot }; missing = missing; port = cfg.port; control = cfg.control; period = cfg.period; log = log; devs = devs; at = at })
 booted_so cfg boot node missing log devs at n m l d a two small k =
-    let same : record { node = record node { boot = boot }; missing = missing; port = cfg.port; control = cfg.control; period = cfg.period; log = log; devs = devs; at = at } ≡ booted boot cfg =
+    let same : record { node = record node { boot = boot }; missing = missing; port = cfg.port; control = cfg.control; period = cfg.period; log = log; devs = devs; at = at } ≡ booted_config boot cfg =
     (λ i. record { node = record (n i) { boot = boot }; missing = m i; port = cfg.port; control = cfg.control; period = cfg.period; log = l i; devs = d i; at = a i }) in
     subst KeepsServe (sym same) (booted_keeps cfg boot two small k)
 
@@ -54,7 +54,7 @@ module _ {T : Type 0} (cfg : ServeConfig) (services : ServiceState) (n : ℕ) (o
   pub one_served : cfg.node.version ≡ One → KeepsServe cfg → Serves cfg (new_node cfg.node services) n old new result → ServesFrom cfg services n old new result
   one_served one k h =
       let none : cfg.node.boot ≡ 0 = subst (λ v. KeepsBoot v cfg.node.boot) one k.node.boot in
-      let same : cfg ≡ booted 0 cfg = (λ i. record cfg { node = record cfg.node { boot = none i } }) in
+      let same : cfg ≡ booted_config 0 cfg = (λ i. record cfg { node = record cfg.node { boot = none i } }) in
       record {
         boot = 0;
         clock = old.clock;
@@ -63,7 +63,7 @@ module _ {T : Type 0} (cfg : ServeConfig) (services : ServiceState) (n : ℕ) (o
       }
 
   -- under version 2
-  pub two_served : (boot : ℕ) (clock : ClockState) (c : ServeConfig) → cfg.node.version ≡ Two → Tells old.clock clock boot → c ≡ booted boot cfg
+  pub two_served : (boot : ℕ) (clock : ClockState) (c : ServeConfig) → cfg.node.version ≡ Two → Tells old.clock clock boot → c ≡ booted_config boot cfg
       → Serves c (new_node c.node services) n (record old { clock = clock }) new result → ServesFrom cfg services n old new result
   two_served boot clock c two told is h = record {
     boot = boot;

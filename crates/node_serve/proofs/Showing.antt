@@ -12,7 +12,7 @@ use Rattle.packet_frame.specs.declared.frame.PlainStamped.{PlainStamped}
 use Rattle.packet_frame.specs.Stamped.{stamped_bytes}
 use Rattle.node_files.specs.LogTexts.{head_text, entry_text}
 use Rattle.node_io.specs.FileMaps.{FileMap, file_at, contents, ChangesOnly, WritesMore}
-use Rattle.serve_model.specs.Runs.{Running, opened_run, acts_of, entries_at, with_entry, marked, holding, with_sent}
+use Rattle.serve_model.specs.Runs.{Running, opened_run, acts_of, entries_at, with_entry, marked_running, holding, with_sent}
 use Rattle.serve_model.specs.Texts.{trace_line, lines_text, begun_trace}
 use Rattle.serve_model.proofs.Going.{ext_trans, ext_entry, ext_marked, ext_holding, ext_sent}
 use Rattle.node_serve.specs.Shown.{Seen, Start, run_log, run_trace, IsReadable, Sees, Shows}
@@ -88,10 +88,10 @@ sees_sent cfg base old new d x bytes r h spelled files target out sent = record 
 
 -- ---- what isn't shown
 
-pub shows_marked : (cfg : ServeConfig) (base : Start) (seen : Seen) (t : ℕ) (r : Running) → Shows cfg base seen r → Shows cfg base seen (marked t r)
+pub shows_marked : (cfg : ServeConfig) (base : Start) (seen : Seen) (t : ℕ) (r : Running) → Shows cfg base seen r → Shows cfg base seen (marked_running t r)
 shows_marked cfg base seen t r h = record {
   sees = record {
-    grows = ext_trans (opened_run base.node) r (marked t r) h.sees.grows (ext_marked t r);
+    grows = ext_trans (opened_run base.node) r (marked_running t r) h.sees.grows (ext_marked t r);
     log = h.sees.log;
     target = h.sees.target;
     out = h.sees.out;

@@ -21,7 +21,7 @@ use Rattle.node_serve.specs.Goes.{GoesTurns}
 use Rattle.node_serve.specs.declared.server.Server.{Server}
 use Rattle.node_serve.specs.declared.fault.ServeFault.{ServeFault}
 use Rattle.node_serve.specs.declared.fault.ServeFault.TheVariants.{LinkFault, WriteFault, NoMemory}
-use Rattle.node_serve.proofs.Ending.{begins, early_trace, early_log, ended_early, ended_before, served, stopped, cut}
+use Rattle.node_serve.proofs.Ending.{begins, early_trace, early_log, ended_early, ended_before, run_is_served, stop_is_begun, cut}
 use Rattle.node_serve.proofs.Joining.{others_same, keeps_both, faults_from, seen_on}
 use Rattle.node_serve.proofs.PeerLaws.{some_peers}
 use Rattle.node_serve.proofs.Showing.{changes_more}
@@ -167,7 +167,7 @@ module _ {S : Type 0} (stands : S → ServiceState) (cfg : ServeConfig) (n : ℕ
     keeps = g.keeps;
     faults = g.faults;
     ends = λ seen clock node first st begins.
-        stopped cfg node n first a b begins ((g.goes clock).run seen (start_at first node) (opened_run node) st (begins.shows node)) g.keeps.binds (g.script seen.2) (g.answers clock);
+        stop_is_begun cfg node n first a b begins ((g.goes clock).run seen (start_at first node) (opened_run node) st (begins.shows node)) g.keeps.binds (g.script seen.2) (g.answers clock);
   }
 
   keeps_out : (o : SinkState) → o.observable ≡ b.out.observable → b.out.faults ≤ o.faults → KeepsDesk (desk_of b) (desk b.files o b.link)
@@ -197,7 +197,7 @@ module _ {S : Type 0} (stands : S → ServiceState) (cfg : ServeConfig) (n : ℕ
       keeps = keeps_both (desk_of a) (desk_of b) (desk b.files o b.link) g.keeps (keeps_out o w.same w.later);
       faults = tt;
       ends = λ seen clock node first st begins.
-          served cfg node n first a b begins o ((g.goes clock).run seen (start_at first node) (opened_run node) st (begins.shows node))
+          run_is_served cfg node n first a b begins o ((g.goes clock).run seen (start_at first node) (opened_run node) st (begins.shows node))
           (w.taken (subst IsTrue (sym g.keeps.only.out) seen.1)) g.keeps.binds (g.script seen.2) (g.answers clock);
     }
 

@@ -5,7 +5,7 @@ use Rattle.network_plan.specs.declared.serve.ServeConfig.{ServeConfig}
 use Rattle.node_files.specs.Logs.{log_of}
 use Rattle.node_io.specs.FileMaps.{file_at}
 use Rattle.node_model.specs.State.{NodeState}
-use Rattle.serve_model.specs.Runs.{played}
+use Rattle.serve_model.specs.Runs.{played_entries}
 use Rattle.serve_model.specs.Texts.{whole_trace}
 use Rattle.node_serve.specs.Desks.{Serving}
 
@@ -17,4 +17,4 @@ pub record ReadsAgain (cfg : ServeConfig) (node : NodeState) (old new : Serving)
   pub reads : log_of bytes ≡ Ok log
   pub begins : log.node ≡ cfg.node
   pub missing : log.missing ≡ cfg.missing
-  pub trace : new.out.taken ≡ old.out.taken ++ whole_trace cfg.node.here (played 0 node log.events)
+  pub trace : new.out.taken ≡ old.out.taken ++ whole_trace cfg.node.here (played_entries 0 node log.events)

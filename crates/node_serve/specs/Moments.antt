@@ -12,8 +12,8 @@ use Rattle.node_serve.specs.Desks.{Serving}
 use Rattle.node_serve.specs.Serves.{Serves}
 
 -- a configuration whose node begins at this moment
-abbrev pub booted : ℕ → ServeConfig → ServeConfig
-booted boot cfg = record cfg { node = record cfg.node { boot = boot } }
+abbrev pub booted_config : ℕ → ServeConfig → ServeConfig
+booted_config boot cfg = record cfg { node = record cfg.node { boot = boot } }
 
 -- a node of version 2 begins at the next answer of the clock; one of version 1 asks for none, and its moment is 0
 abbrev pub Asks : Version → ClockState → ClockState → ℕ → Type 0
@@ -25,7 +25,7 @@ pub record ServesFrom {T : Type 0} (cfg : ServeConfig) (services : ServiceState)
   pub boot : ℕ
   pub clock : ClockState
   pub asked : Asks cfg.node.version old.clock clock boot
-  pub serves : Serves (booted boot cfg) (new_node (booted boot cfg).node services) turns (record old { clock = clock }) new result
+  pub serves : Serves (booted_config boot cfg) (new_node (booted_config boot cfg).node services) turns (record old { clock = clock }) new result
 
 -- a node of version 1 takes no handler
 abbrev pub takes_handler : Version → Option Name → Bool

@@ -10,7 +10,7 @@ use Rattle.node_io.specs.FileMaps.{FileMap, file_at, ChangesOnly}
 use Rattle.node_serve.specs.Fronts.{AppendsFront}
 use Rattle.node_io.specs.Links.{Heard}
 use Rattle.node_model.specs.State.{NodeState}
-use Rattle.serve_model.specs.Runs.{Running, Action, opened_run, played}
+use Rattle.serve_model.specs.Runs.{Running, Action, opened_run, played_entries}
 use Rattle.serve_model.specs.Texts.{begun_trace, whole_trace}
 use Rattle.serve_model.specs.Follow.{Ext, Fits}
 use Rattle.node_serve.specs.Sendings.{frames_of}
@@ -72,8 +72,8 @@ pub record Agrees (cfg : ServeConfig) (base : Start) (seen : Seen) (events : Lis
   pub next : (logged ≡ made) ⊎ (logged ≡ made + 1)
   pub few : logged ≤ length events
   pub log : HasLogged cfg seen.files (take logged events)
-  pub out : AppendsFront base.taken seen.taken (whole_trace cfg.node.here (played 0 base.node (take logged events)))
-  pub lines : length (begun_trace cfg.node.here (played 0 base.node (take made events))) ≤ out.count
+  pub out : AppendsFront base.taken seen.taken (whole_trace cfg.node.here (played_entries 0 base.node (take logged events)))
+  pub lines : length (begun_trace cfg.node.here (played_entries 0 base.node (take made events))) ≤ out.count
   pub sent : seen.sent ≡ base.sent ++ frames_of base.node (take made events)
 
 -- the log and what was written are prefixes of those of the run so far, and its frames were sent, and they agree

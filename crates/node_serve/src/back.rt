@@ -21,7 +21,7 @@ use spelled_frame::SpelledFrame;
 use std::alloc::Global;
 
 /// The event of a frame that the node sent to itself.
-fn arrived(frame: SpelledFrame) -> Event
+fn event_of_frame(frame: SpelledFrame) -> Event
     ensures event { result ≡ event.Frame (dev_of 0) (stamped_bytes frame) }
     ensures keeps { (v : Version) → KeepsNodeEvent v result }
 {
@@ -48,7 +48,7 @@ impl<S: Services> Server<S> {
         let Some(frame) = frame else {
             return Ok(());
         };
-        let event = Some(arrived(frame));
+        let event = Some(event_of_frame(frame));
         self.step(alloc, cfg, files, out, &event)
     }
 

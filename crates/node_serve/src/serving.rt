@@ -124,10 +124,10 @@ fn injects_again(alloc: Global, at: &[Inject]) -> Result<Injects, NoMemory>
 }
 
 /// This configuration with another moment at which the node begins. Conditions: it keeps the rules, and is of version 2.
-fn booted(alloc: Global, cfg: &ServeConfig, boot: u64) -> Result<ServeConfig, NoMemory>
+fn with_boot(alloc: Global, cfg: &ServeConfig, boot: u64) -> Result<ServeConfig, NoMemory>
     requires keeps { KeepsServe cfg.now }
     requires two { cfg.now.node.version ≡ version.Two }
-    ensures is { IfOk result (λ c. c ≡ moments.booted boot cfg.now) }
+    ensures is { IfOk result (λ c. c ≡ moments.booted_config boot cfg.now) }
     ensures keeps { IfOk result KeepsServe }
 {
     let mut node = config_again(alloc, &cfg.node)?;
@@ -164,7 +164,7 @@ fn serve_booted<S: Services + Drop, L: Link, C: Clock, F: Files, K: Sink>(
         result }
 {
     let boot = clock.now();
-    let Ok(cfg) = booted(alloc, cfg, boot) else {
+    let Ok(cfg) = with_boot(alloc, cfg, boot) else {
         return Err(ServeFault::NoMemory);
     };
     serve_as(alloc, &cfg, services, link, clock, files, out, turns)

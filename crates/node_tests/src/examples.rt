@@ -67,7 +67,7 @@ fn are_told(alloc: Global, notes: &[Note], text: &[u8]) -> bool {
 }
 
 // Whether a visit ended so, and noted so many times whom it greeted.
-fn ended(alloc: Global, visit: &Visit, text: &[u8], count: usize) -> bool {
+fn ended_with_notes(alloc: Global, visit: &Visit, text: &[u8], count: usize) -> bool {
     let notes = visit.notes.as_slice();
     notes.len() == count
         && are_told(alloc, notes, b"\"ann\"")
@@ -89,7 +89,7 @@ fn ends(
 {
     let ctx = around(alloc);
     match visit_once(alloc, services, &ctx, packet) {
-        Ok(visit) => ended(alloc, &visit, text, count),
+        Ok(visit) => ended_with_notes(alloc, &visit, text, count),
         Err(_) => false,
     }
 }

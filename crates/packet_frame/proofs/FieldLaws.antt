@@ -7,7 +7,7 @@ use mir.Val.{bits}
 use Rattle.wire_bytes.specs.Fields.{IsBytes}
 use Rattle.read_laws.specs.Reading.{◌>>=◌}
 use Rattle.read_laws.proofs.Binds.{ok_inj, bind_ok, bind_is}
-use Rattle.read_laws.proofs.Agendas.{Goes, chain, one_step, made, idle}
+use Rattle.read_laws.proofs.Agendas.{Goes, chain, one_step, making_goes_on, idle}
 use Rattle.plan_base.specs.declared.limit.Limit.{Limit}
 use Rattle.chunk_spelling.specs.declared.fault.SpellFault.{SpellFault}
 use Rattle.chunk_spelling.specs.Scan.{Scan, number_field}
@@ -187,7 +187,7 @@ rows_go before (suc n) more f =
     (one_step frame_step (rows_behind before (suc n)) more f (λ h. a_cost ∷ rows_behind (Some h) n ∷ more) (row_host_at before f) refl)
     (λ x _. chain frame_step (a_cost ∷ rows_behind (Some x.0) n ∷ more) x.1 (λ _. rows_behind (Some x.0) n ∷ more) (λ _. more) (cost_at x.1) _
     (one_step frame_step a_cost (rows_behind (Some x.0) n ∷ more) x.1 (λ _. rows_behind (Some x.0) n ∷ more) (cost_at x.1) refl)
-    (λ y _. made frame_step (λ rs. row_of x.0 y.0 ∷ rs) (rows_behind (Some x.0) n ∷ more) y.1 more (rows_from (Some x.0) n y.1) (rows_go (Some x.0) n more y.1)))
+    (λ y _. making_goes_on frame_step (λ rs. row_of x.0 y.0 ∷ rs) (rows_behind (Some x.0) n ∷ more) y.1 more (rows_from (Some x.0) n y.1) (rows_go (Some x.0) n more y.1)))
 
 count_takes : (f g : Scan) (n : ℕ) → IsBytes f.front.rest → count_at f ≡ Ok (n, g) → Took f (to_be_bytes w16 n) 0 g × (n ≤ 32)
 unfolding count_at

@@ -32,10 +32,10 @@ same_length s t (PlainFrame.Packet p) h = by p.handler
 same_length s t (PlainFrame.Advert a) h = refl
 same_length s t (PlainFrame.Ask bound c) h = absurd h
 
-pub relinked : (s : Stamp) (x : PlainFrame) (old new : List ℕ) (link : ℕ) → new ≡ relink old link → link < 2 ^ 64
+pub relinked_bytes_spell : (s : Stamp) (x : PlainFrame) (old new : List ℕ) (link : ℕ) → new ≡ relink old link → link < 2 ^ 64
     → SpellsStamped old (record { stamp = Some s; frame = x }) → SpellsStamped new (record { stamp = Some (with_link s link); frame = x })
 unfolding stamped_bytes
-relinked s x old new link e l h =
+relinked_bytes_spell s x old new link e l h =
     let b = h.fits.1.0 in
     let is : new ≡ bytes_with (Some (with_link s link)) x = e ∙ (ap (λ bs. relink bs link) h.is ∙ put_is s link x b) in
     record {

@@ -14,7 +14,7 @@ use Rattle.packet_frame.specs.declared.fault.FrameFault.{FrameFault}
 use Rattle.packet_frame.specs.declared.frame.PlainFrame.{PlainFrame}
 use Rattle.packet_frame.specs.Bytes.{frame_bytes}
 use Rattle.packet_frame.specs.Forms.{FrameFits, frame_at}
-use Rattle.packet_frame.specs.Frames.{SpellsFrame, SpellingFault, too_long, begins, carried}
+use Rattle.packet_frame.specs.Frames.{SpellsFrame, SpellingFault, too_long, begins, carried_chunk}
 use Rattle.packet_frame.specs.Typed.{CarriesTyped, Accepts, FrameFirst, misspelled, ill_typed}
 use Rattle.packet_frame.proofs.Carried.{chunk_is_formed, chunk_is_full, chunk_is_small}
 use Rattle.packet_frame.proofs.FrameLaws.{spelled_read, found_whole, trailing_fault, refused_fault, one_fault_is, either_is, never_both_is}
@@ -49,7 +49,7 @@ module _ (bytes : List ℕ) (are_bytes : IsBytes bytes) (f : FrameFault) (first 
 
 -- ---- types
 
-pub carried_well : (x : PlainFrame) → FrameFits x → CarriesTyped x → illness_in (carried x) ≡ None
+pub carried_well : (x : PlainFrame) → FrameFits x → CarriesTyped x → illness_in (carried_chunk x) ≡ None
 carried_well (PlainFrame.Packet p) fits typed = chunk_only p.chunk (chunk_is_formed p.chunk fits.1.1.1.1.1.0) typed
 carried_well (PlainFrame.Advert a) fits typed = refl
 carried_well (PlainFrame.Ask bound c) fits typed = chunk_only c (chunk_is_formed c fits.1.0) typed
@@ -68,18 +68,18 @@ first_is bytes e h (ill_typed x spells c) = ap typed_of (spelled_is bytes x spel
 found_chunk : (c : Chunk) → a_whole_chunk.Fits c → illness c ≡ None → IsTypedChunk c
 found_chunk c fits well = (chunk_found c (chunk_is_formed c fits) (chunk_is_full c fits) (chunk_is_small c fits) well).typed
 
-pub found_typed : (x : PlainFrame) → FrameFits x → illness_in (carried x) ≡ None → CarriesTyped x
+pub found_typed : (x : PlainFrame) → FrameFits x → illness_in (carried_chunk x) ≡ None → CarriesTyped x
 found_typed (PlainFrame.Packet p) fits well = found_chunk p.chunk fits.1.1.1.1.1.0 well
 found_typed (PlainFrame.Advert a) fits well = tt
 found_typed (PlainFrame.Ask bound c) fits well = found_chunk c fits.1.0 well
 
 module _ (bytes : List ℕ) (x : PlainFrame) where
-  by_illness : (y : PlainFrame) → SpellsFrame bytes y → (o : Option Ill) → illness_in (carried y) ≡ o → or_ill y o ≡ Ok x → Accepts bytes x
+  by_illness : (y : PlainFrame) → SpellsFrame bytes y → (o : Option Ill) → illness_in (carried_chunk y) ≡ o → or_ill y o ≡ Ok x → Accepts bytes x
   by_illness y spells None well e = let same : y ≡ x = cc in subst (Accepts bytes) same (record { spells = spells; typed = found_typed y spells.fits well })
   by_illness y spells (Some i) well e = absurd (cc)
 
   by_spelling : IsBytes bytes → ((y : PlainFrame) × SpellsFrame bytes y) ⊎ ((f : FrameFault) × SpellingFault f bytes) → typed_of (spelled_of bytes) ≡ Ok x → Accepts bytes x
-  by_spelling h (inl (y, spells)) e = by_illness y spells (illness_in (carried y)) refl (sym (ap typed_of (spelled_is bytes y spells)) ∙ e)
+  by_spelling h (inl (y, spells)) e = by_illness y spells (illness_in (carried_chunk y)) refl (sym (ap typed_of (spelled_is bytes y spells)) ∙ e)
   by_spelling h (inr (f, first)) e = absurd (err_is_no_ok (sym (ap typed_of (fault_is bytes h f first)) ∙ e))
     where
       err_is_no_ok : {r : FrameFault} → Err r ≡ Ok x → ⊥

@@ -14,7 +14,7 @@ use Rattle.link_window.specs.declared.window.Version.TheVariants.{One, Two}
 use Rattle.packet_frame.specs.declared.fault.FrameFault.{FrameFault}
 use Rattle.packet_frame.specs.declared.frame.PlainFrame.{PlainFrame}
 use Rattle.packet_frame.specs.declared.frame.PlainStamped.{PlainStamped}
-use Rattle.packet_frame.specs.Frames.{begins, carried}
+use Rattle.packet_frame.specs.Frames.{begins, carried_chunk}
 use Rattle.packet_frame.specs.Versions.{stamped_at}
 use Rattle.packet_frame.specs.Stamped.{stamped_bytes, SpellsStamped, StampedFault, AcceptsBy, StampedFirst, spells_none, ill_typed, ill_handled}
 use Rattle.packet_frame.specs.Typed.{CarriesTyped, CarriesHandler, Accepts}
@@ -22,7 +22,7 @@ use Rattle.packet_frame.proofs.Carried.{plain_carries}
 use Rattle.packet_frame.proofs.WholeLaws.{Faulty, spelled_read, found_whole, trailing_fault, refused_fault, one_fault_is, never_both_is}
 use Rattle.packet_frame.proofs.WholeLaws as whole
 use Rattle.packet_frame.proofs.StampedLaws.{stamped_whole, is_spells, is_faulty, stamped_either}
-use Rattle.packet_frame.specs.Decoding.{frame_of, illness_in, unstamped, all_stamped, stamped_spelled, may_handle, carries_handler, stamped_or_ill, stamped_typed, stamped_of, read_by}
+use Rattle.packet_frame.specs.Decoding.{frame_of, illness_in, unstamped_frame, all_stamped, stamped_spelled, may_handle, carries_handler, stamped_or_ill, stamped_typed, stamped_of, read_by}
 use Rattle.packet_frame.proofs.OneAnswer.{accepts_is, found_is, carried_well, found_typed}
 
 by_one : (bytes : List ℕ) (y : PlainFrame) → Accepts bytes y → AcceptsBy One bytes (record { stamp = None; frame = y })
@@ -94,12 +94,12 @@ module _ (bytes : List ℕ) (x : PlainStamped) where
       subst (AcceptsBy Two bytes) same (record { short = h.short; fits = h.fits.0; read = h.fits.1; is = h.is; typed = t; handler = carried_found y.frame q })
   by_handler y h t false q e = absurd (cc)
 
-  by_illness : (y : PlainStamped) → SpellsStamped bytes y → (o : Option Ill) → illness_in (carried y.frame) ≡ o → stamped_or_ill y o ≡ Ok x → AcceptsBy Two bytes x
+  by_illness : (y : PlainStamped) → SpellsStamped bytes y → (o : Option Ill) → illness_in (carried_chunk y.frame) ≡ o → stamped_or_ill y o ≡ Ok x → AcceptsBy Two bytes x
   by_illness y spells None well e = by_handler y spells (found_typed y.frame spells.fits.0 well) (carries_handler y.frame) refl e
   by_illness y spells (Some i) well e = absurd (cc)
 
   by_spelling : IsBytes bytes → ((y : PlainStamped) × SpellsStamped bytes y) ⊎ ((f : FrameFault) × StampedFault f bytes) → stamped_typed (stamped_spelled bytes) ≡ Ok x → AcceptsBy Two bytes x
-  by_spelling h (inl (y, spells)) e = by_illness y spells (illness_in (carried y.frame)) refl (sym (ap stamped_typed (spelled_is bytes y spells)) ∙ e)
+  by_spelling h (inl (y, spells)) e = by_illness y spells (illness_in (carried_chunk y.frame)) refl (sym (ap stamped_typed (spelled_is bytes y spells)) ∙ e)
   by_spelling h (inr (f, first)) e = absurd (err_is_no_ok (sym (ap stamped_typed (fault_is bytes h f (is_faulty f bytes first))) ∙ e))
     where
       err_is_no_ok : {r : FrameFault} → ◌≡◌ {A = Result PlainStamped FrameFault} (Err r) (Ok x) → ⊥
@@ -128,7 +128,7 @@ refused_by_two bytes e h (ill_handled x spells c) =
 pub found_by : (v : Version) (bytes : List ℕ) (x : PlainStamped) → IsBytes bytes → read_by v bytes ≡ Ok x → AcceptsBy v bytes x
 found_by One bytes x h e = one (frame_of bytes) refl e
   where
-    one : (r : Result PlainFrame FrameFault) → frame_of bytes ≡ r → unstamped r ≡ Ok x → AcceptsBy One bytes x
+    one : (r : Result PlainFrame FrameFault) → frame_of bytes ≡ r → unstamped_frame r ≡ Ok x → AcceptsBy One bytes x
     one (Ok y) q e = let is : ◌≡◌ {A = PlainStamped} (record { stamp = None; frame = y }) x = cc in subst (AcceptsBy One bytes) is (by_one bytes y (found_is bytes y h q))
     one (Err f) q e = cc
 found_by Two bytes x h e = found_by_two bytes x h e
@@ -140,5 +140,5 @@ accepts_by_one bytes (Some s) y e a = cc
 
 -- what is accepted in a version is what a node of that version reads
 pub accepted_by : (v : Version) (bytes : List ℕ) (x : PlainStamped) → AcceptsBy v bytes x → read_by v bytes ≡ Ok x
-accepted_by One bytes x a = ap unstamped (accepts_is bytes x.frame (accepts_by_one bytes x.stamp x.frame a.read.0 a)) ∙ (λ i. Ok (record { stamp = sym a.read.0 i; frame = x.frame }))
+accepted_by One bytes x a = ap unstamped_frame (accepts_is bytes x.frame (accepts_by_one bytes x.stamp x.frame a.read.0 a)) ∙ (λ i. Ok (record { stamp = sym a.read.0 i; frame = x.frame }))
 accepted_by Two bytes x a = accepts_by_two bytes x a

@@ -85,18 +85,18 @@ module _ {A : Type 0} (form : Whole A) where
         let l = ap length t.0.parts in
         let m = length-append (form.bytes x) s.front.rest in
         let some : 0 < length s.front.rest = omega (arith, l, m, t.0.place, less) in
-        misspelled short (reached (form.read (begins bytes)) read (form.goes (begins bytes)) (here the_end [] s (left s.front.rest some)))
+        misspelled short (fault_is_reached (form.read (begins bytes)) read (form.goes (begins bytes)) (here the_end [] s (left_is_trailing s.front.rest some)))
       where
-        left : (r : List ℕ) → 0 < length r → nothing_left r [] s ≡ Err (FrameFault.Trailing s.front.at)
-        left [] k = absurd (omega (arith, k))
-        left (b ∷ r) k = refl
+        left_is_trailing : (r : List ℕ) → 0 < length r → nothing_left r [] s ≡ Err (FrameFault.Trailing s.front.at)
+        left_is_trailing [] k = absurd (omega (arith, k))
+        left_is_trailing (b ∷ r) k = refl
 
-        reached : (r : Result (A × Scan) FrameFault) → r ≡ Ok (x, s) → Goes frame_step form.items (begins bytes) (λ _. the_end ∷ []) r
+        fault_is_reached : (r : Result (A × Scan) FrameFault) → r ≡ Ok (x, s) → Goes frame_step form.items (begins bytes) (λ _. the_end ∷ []) r
             → FirstFault frame_step (FrameFault.Trailing s.front.at) (the_end ∷ []) s → FirstFault frame_step (FrameFault.Trailing s.front.at) form.items (begins bytes)
-        reached (Ok q) e g f =
+        fault_is_reached (Ok q) e g f =
             let P : Scan → Type 0 = λ t. FirstFault frame_step (FrameFault.Trailing s.front.at) (the_end ∷ []) t in
             (g (FrameFault.Trailing s.front.at)).0 (subst P (sym (ap (λ p. p.1) (ok_inj e))) f)
-        reached (Err d) e g f = cc
+        fault_is_reached (Err d) e g f = cc
 
   pub refused_fault : (bytes : List ℕ) (e : FrameFault) → length bytes ≤ 16512 → form.read (begins bytes) ≡ Err e → Faulty e bytes
   refused_fault bytes e short h = misspelled short (goes_err frame_step form.items (begins bytes) (λ _. the_end ∷ []) (form.read (begins bytes)) e h (form.goes (begins bytes)))

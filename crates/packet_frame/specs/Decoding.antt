@@ -13,7 +13,7 @@ use Rattle.packet_frame.specs.declared.frame.PlainFrame.{PlainFrame}
 use Rattle.packet_frame.specs.declared.frame.PlainStamped.{PlainStamped}
 use Rattle.packet_frame.specs.Versions.{stamped_at}
 use Rattle.packet_frame.specs.Forms.{frame_at}
-use Rattle.packet_frame.specs.Frames.{begins, carried}
+use Rattle.packet_frame.specs.Frames.{begins, carried_chunk}
 
 -- nothing may be left behind what was read
 abbrev pub all_read : ℕ → Result (PlainFrame × Scan) FrameFault → Result PlainFrame FrameFault
@@ -34,7 +34,7 @@ illness_in None = None
 illness_in (Some c) = illness c
 
 abbrev pub typed_of : Result PlainFrame FrameFault → Result PlainFrame FrameFault
-typed_of (Ok x) = or_ill x (illness_in (carried x))
+typed_of (Ok x) = or_ill x (illness_in (carried_chunk x))
 typed_of (Err f) = Err f
 
 -- the frame that the bytes spell, whose chunk is typed, or the first refusal
@@ -44,9 +44,9 @@ frame_of bytes = typed_of (spelled_of bytes)
 -- ---- by version
 
 -- a frame without stamp
-abbrev pub unstamped : Result PlainFrame FrameFault → Result PlainStamped FrameFault
-unstamped (Ok x) = Ok (record { stamp = None; frame = x })
-unstamped (Err e) = Err e
+abbrev pub unstamped_frame : Result PlainFrame FrameFault → Result PlainStamped FrameFault
+unstamped_frame (Ok x) = Ok (record { stamp = None; frame = x })
+unstamped_frame (Err e) = Err e
 
 -- nothing may be left behind what was read of version 2
 abbrev pub all_stamped : ℕ → Result (PlainStamped × Scan) FrameFault → Result PlainStamped FrameFault
@@ -72,7 +72,7 @@ stamped_or_ill x None = if carries_handler x.frame then Ok x else Err FrameFault
 stamped_or_ill x (Some i) = Err (FrameFault.IllTyped i)
 
 abbrev pub stamped_typed : Result PlainStamped FrameFault → Result PlainStamped FrameFault
-stamped_typed (Ok x) = stamped_or_ill x (illness_in (carried x.frame))
+stamped_typed (Ok x) = stamped_or_ill x (illness_in (carried_chunk x.frame))
 stamped_typed (Err f) = Err f
 
 -- what a node of version 2 reads
@@ -81,5 +81,5 @@ stamped_of bytes = stamped_typed (stamped_spelled bytes)
 
 -- what a node of a version reads: the frame that the bytes spell, or the first refusal
 abbrev pub read_by : Version → List ℕ → Result PlainStamped FrameFault
-read_by One bytes = unstamped (frame_of bytes)
+read_by One bytes = unstamped_frame (frame_of bytes)
 read_by Two bytes = stamped_of bytes

@@ -60,7 +60,7 @@ pub data SpellingFault (e : FrameFault) (bytes : List ℕ) : Type 0 where
   misspelled : length bytes ≤ 16512 → FirstFault frame_step e a_frame (begins bytes) → SpellingFault e bytes
 
 -- the chunk that a frame carries
-abbrev pub carried : PlainFrame → Option Chunk
-carried (PlainFrame.Packet p) = Some p.chunk
-carried (PlainFrame.Advert a) = None
-carried (PlainFrame.Ask bound c) = Some c
+abbrev pub carried_chunk : PlainFrame → Option Chunk
+carried_chunk (PlainFrame.Packet p) = Some p.chunk
+carried_chunk (PlainFrame.Advert a) = None
+carried_chunk (PlainFrame.Ask bound c) = Some c

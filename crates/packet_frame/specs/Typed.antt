@@ -8,7 +8,7 @@ use Rattle.typing_rules.specs.Handlers.{MayHandle}
 use Rattle.packet_frame.specs.declared.fault.FrameFault.{FrameFault}
 use Rattle.packet_frame.specs.declared.frame.PlainFrame.{PlainFrame}
 use Rattle.packet_frame.specs.declared.checked.Frame.{Frame}
-use Rattle.packet_frame.specs.Frames.{SpellsFrame, SpellingFault, carried}
+use Rattle.packet_frame.specs.Frames.{SpellsFrame, SpellingFault, carried_chunk}
 
 -- what a frame spells
 abbrev pub plain_of : Frame → PlainFrame
@@ -36,7 +36,7 @@ CarriesHandler _ = Unit {0}
 pub record CarriesIll (x : PlainFrame) (e : FrameFault) : Type 0 where
   pub chunk : Chunk
   pub ill : Ill
-  pub is_carried : carried x ≡ Some chunk
+  pub is_carried : carried_chunk x ≡ Some chunk
   pub first : illness chunk ≡ Some ill
   pub is : e ≡ FrameFault.IllTyped ill
 

@@ -62,7 +62,7 @@ fn typed_chunk(
 }
 
 /// A packet with the handler of this name, where that may handle.
-fn handled(packet: CheckedPacket, name: Name) -> Result<CheckedPacket, FrameFault>
+fn with_named_handler(packet: CheckedPacket, name: Name) -> Result<CheckedPacket, FrameFault>
     ensures found { IfOk result (λ k. (k ≡ record packet { handler = Some name }) × (handles_by packet.chunk.code name ≡ true)) }
     ensures only { handles_by packet.chunk.code name ≡ true → IfErr result (λ e. ⊥) }
     ensures fault { IfErr result (λ e. (handles_by packet.chunk.code name ≡ true → ⊥) × (e ≡ FrameFault.IllHandler)) }
@@ -82,7 +82,7 @@ fn with_handler(packet: CheckedPacket, handler: Option<Name>) -> Result<CheckedP
 {
     match handler {
         None => Ok(packet),
-        Some(name) => handled(packet, name),
+        Some(name) => with_named_handler(packet, name),
     }
 }
 
@@ -114,7 +114,11 @@ fn checked_packet(
 }
 
 /// A frame that was read, where its chunk is typed and its handler may handle.
-fn checked(alloc: Global, plain: PlainFrame, known: Option<&Checked>) -> Result<Frame, FrameFault>
+fn checked_frame(
+    alloc: Global,
+    plain: PlainFrame,
+    known: Option<&Checked>,
+) -> Result<Frame, FrameFault>
     requires { FrameFits plain }
     ensures found { IfOk result (λ x. (plain_of x ≡ plain) × (CarriesTyped plain × CarriesHandler plain)) }
     ensures only { CarriesTyped plain → CarriesHandler plain → MatchResult result (λ x. plain_of x ≡ plain) (λ e. e ≡ FrameFault.NoMemory) }
@@ -138,7 +142,7 @@ pub fn get_frame(alloc: Global, bytes: &[u8], known: Option<&Checked>) -> Result
     ensures fault { IfErr result (λ e. (e ≡ FrameFault.NoMemory) ⊎ FrameFirst e bytes.now) }
 {
     let plain = get_plain_frame(alloc, bytes)?;
-    checked(alloc, plain, known)
+    checked_frame(alloc, plain, known)
 }
 
 /// A frame of version 2 that was read, where its chunk is typed and its handler may handle.
@@ -153,7 +157,7 @@ fn checked_stamped(
     ensures fault { IfErr result (λ e. (e ≡ FrameFault.NoMemory) ⊎ (CarriesIll plain.frame e ⊎ CarriesNoHandler plain.frame e)) }
 {
     let PlainStamped { stamp, frame } = plain;
-    let frame = checked(alloc, frame, known)?;
+    let frame = checked_frame(alloc, frame, known)?;
     Ok(Stamped { stamp, frame })
 }
 

@@ -58,19 +58,19 @@ chunk_has_types_is c = refl
 
 -- ---- counts and forms
 
-abbrev pub paired : {X : Type 0} → (X → Bool) → X → (X × Bool)
-paired f x = (x, f x)
+abbrev pub paired_with_test : {X : Type 0} → (X → Bool) → X → (X × Bool)
+paired_with_test f x = (x, f x)
 
 formed_expr_step : (f : Expr → Bool) (g : Clause → Bool) (h : Clause → Bool) → ((c : Clause) → g c ≡ h c) → (x : Expr-F Expr Clause)
     → formed_expr_level (λ e. e.1) (λ c. is_some c.0.name) (λ c. c.1) (map-Expr Expr Clause (Expr × Bool) (Clause × Bool) (λ e. (e, f e)) (λ c. (c, g c)) x)
     ≡ formed_expr_level f (λ c. is_some c.name) h x
-formed_expr_step f g h e (Expr-F.Tuple es) = (λ i. (nat_le 2 (length-map es (paired f) i) && nat_le (length-map es (paired f) i) 8) && list_all-map (λ e. e.1) (paired f) es i)
-formed_expr_step f g h e (Expr-F.Call x es) = (λ i. nat_le (length-map es (paired f) i) 8 && list_all-map (λ e. e.1) (paired f) es i)
-formed_expr_step f g h e (Expr-F.ChunkOf x es) = (λ i. nat_le (length-map es (paired f) i) 8 && list_all-map (λ e. e.1) (paired f) es i)
+formed_expr_step f g h e (Expr-F.Tuple es) = (λ i. (nat_le 2 (length-map es (paired_with_test f) i) && nat_le (length-map es (paired_with_test f) i) 8) && list_all-map (λ e. e.1) (paired_with_test f) es i)
+formed_expr_step f g h e (Expr-F.Call x es) = (λ i. nat_le (length-map es (paired_with_test f) i) 8 && list_all-map (λ e. e.1) (paired_with_test f) es i)
+formed_expr_step f g h e (Expr-F.ChunkOf x es) = (λ i. nat_le (length-map es (paired_with_test f) i) 8 && list_all-map (λ e. e.1) (paired_with_test f) es i)
 formed_expr_step f g h e (Expr-F.Try a cs) =
-    (λ i. f a && (((nat_le 1 (length-map cs (paired g) i) && nat_le (length-map cs (paired g) i) 8) && list_all (λ c. is_some c.0.name) (take (length-map cs (paired g) i - 1) (map (paired g) cs))) && list_all-map (λ c. c.1) (paired g) cs i))
-    ∙ (λ i. f a && (((nat_le 1 (length cs) && nat_le (length cs) 8) && list_all (λ c. is_some c.0.name) (take-map (paired g) (length cs - 1) cs i)) && list_all (λ c. e c i) cs))
-    ∙ (λ i. f a && (((nat_le 1 (length cs) && nat_le (length cs) 8) && list_all-map (λ c. is_some c.0.name) (paired g) (take (length cs - 1) cs) i) && list_all h cs))
+    (λ i. f a && (((nat_le 1 (length-map cs (paired_with_test g) i) && nat_le (length-map cs (paired_with_test g) i) 8) && list_all (λ c. is_some c.0.name) (take (length-map cs (paired_with_test g) i - 1) (map (paired_with_test g) cs))) && list_all-map (λ c. c.1) (paired_with_test g) cs i))
+    ∙ (λ i. f a && (((nat_le 1 (length cs) && nat_le (length cs) 8) && list_all (λ c. is_some c.0.name) (take-map (paired_with_test g) (length cs - 1) cs i)) && list_all (λ c. e c i) cs))
+    ∙ (λ i. f a && (((nat_le 1 (length cs) && nat_le (length cs) 8) && list_all-map (λ c. is_some c.0.name) (paired_with_test g) (take (length cs - 1) cs) i) && list_all h cs))
 formed_expr_step f g h e _ = refl
 
 formed_clause_para : (c : Clause) → para-Clause Bool Bool (formed_expr_level (λ e. e.1) (λ c. is_some c.0.name) (λ c. c.1)) (λ c. c.body.1) c ≡ formed_expr c.body
@@ -89,8 +89,8 @@ formed_expr_out e =
 formed_value_step : (f : Value → Bool) (g h : Chunk → Bool) → ((c : Chunk) → g c ≡ h c) → (x : Value-F Value Chunk)
     → formed_value_level (λ v. v.1) (λ c. c.1) (map-Value Value Chunk (Value × Bool) (Chunk × Bool) (λ v. (v, f v)) (λ c. (c, g c)) x) ≡ formed_value_level f h x
 formed_value_step f g h e (Value-F.Chunk c) = e c
-formed_value_step f g h e (Value-F.List t vs) = ap (λ b. (formed_type t && nat_le (type_depth t) 7) && b) (λ i. nat_le (length-map vs (paired f) i) 65535 && list_all-map (λ v. v.1) (paired f) vs i)
-formed_value_step f g h e (Value-F.Tuple vs) = (λ i. (nat_le 2 (length-map vs (paired f) i) && nat_le (length-map vs (paired f) i) 8) && list_all-map (λ v. v.1) (paired f) vs i)
+formed_value_step f g h e (Value-F.List t vs) = ap (λ b. (formed_type t && nat_le (type_depth t) 7) && b) (λ i. nat_le (length-map vs (paired_with_test f) i) 65535 && list_all-map (λ v. v.1) (paired_with_test f) vs i)
+formed_value_step f g h e (Value-F.Tuple vs) = (λ i. (nat_le 2 (length-map vs (paired_with_test f) i) && nat_le (length-map vs (paired_with_test f) i) 8) && list_all-map (λ v. v.1) (paired_with_test f) vs i)
 formed_value_step f g h e _ = refl
 
 formed_chunk_para : (c : Chunk) → para-Chunk Bool Bool (formed_value_level (λ v. v.1) (λ c. c.1)) (formed_chunk_level (λ v. v.1 && nat_le (value_depth v.0) 8)) c ≡ formed_chunk c
@@ -98,7 +98,7 @@ unfolding formed_value formed_chunk
 formed_chunk_para c =
     ap (para-Chunk Bool Bool (formed_value_level (λ v. v.1) (λ c. c.1)) (formed_chunk_level (λ v. v.1 && nat_le (value_depth v.0) 8))) (sym (roll-out-Chunk c))
     ∙ para-roll-Chunk Bool Bool (formed_value_level (λ v. v.1) (λ c. c.1)) (formed_chunk_level (λ v. v.1 && nat_le (value_depth v.0) 8)) (out-Chunk c)
-    ∙ ap (λ b. well_formed_program c.code && b) (λ i. nat_le (length-map c.args (paired formed_value) i) 8 && list_all-map (λ v. v.1 && nat_le (value_depth v.0) 8) (paired formed_value) c.args i)
+    ∙ ap (λ b. well_formed_program c.code && b) (λ i. nat_le (length-map c.args (paired_with_test formed_value) i) 8 && list_all-map (λ v. v.1 && nat_le (value_depth v.0) 8) (paired_with_test formed_value) c.args i)
 
 pub formed_value_out : (v : Value) → formed_value v ≡ formed_value_level formed_value formed_chunk (out-Value v)
 unfolding formed_value

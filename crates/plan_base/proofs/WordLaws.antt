@@ -9,7 +9,7 @@ use Rattle.std.specs.List.{list_all, list_any}
 use Rattle.std.specs.Prelude.{codes, not, ◌==◌}
 use Rattle.std.specs.Str.{bytes_eq}
 use Rattle.plan_items.proofs.Bools.{and_left, and_right}
-use Rattle.plan_base.specs.Words.{is_word_byte, is_word, reserved, is_reserved, is_name, IsName}
+use Rattle.plan_base.specs.Words.{is_word_byte, is_word, reserved_words, is_reserved, is_name, IsName}
 
 pub is_word_none : (w : List ℕ) → length w < 1 → is_word w ≡ false
 unfolding is_word
@@ -84,11 +84,11 @@ among_others w (r ∷ rs) a =
 -- a length that no reserved word has
 pub reserved_other : (w : List ℕ) → length w ≢ 2 → length w ≢ 3 → length w ≢ 4 → length w ≢ 5 → length w ≢ 6 → length w ≢ 8 → length w ≢ 9 → length w ≢ 10 → is_reserved w ≡ false
 unfolding is_reserved
-reserved_other w two three four five six eight nine ten = among_others w reserved (grind (arith, nat_tests))
+reserved_other w two three four five six eight nine ten = among_others w reserved_words (grind (arith, nat_tests))
 
-pub reserved_at : (w : List ℕ) (n : ℕ) → length w ≡ n → is_reserved w ≡ list_any (λ r. bytes_eq r w) (of_length n reserved)
+pub reserved_at : (w : List ℕ) (n : ℕ) → length w ≡ n → is_reserved w ≡ list_any (λ r. bytes_eq r w) (of_length n reserved_words)
 unfolding is_reserved
-reserved_at w n l = among_length w n reserved l
+reserved_at w n l = among_length w n reserved_words l
 
 -- the names that the language itself needs
 pub is_name-Overflow : IsName (codes "Overflow")

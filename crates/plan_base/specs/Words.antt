@@ -14,8 +14,8 @@ is_word [] = false
 is_word (b ∷ bs) = is_ascii_alphabetic b && list_all is_word_byte bs
 
 -- the words that the language keeps for itself
-abbrev pub reserved : List (List ℕ)
-reserved =
+abbrev pub reserved_words : List (List ℕ)
+reserved_words =
     codes "and" ∷ codes "blob" ∷ codes "bool" ∷ codes "char" ∷ codes "chunk" ∷ codes "dev" ∷ codes "else" ∷ codes "end" ∷ codes "eval"
     ∷ codes "exception" ∷ codes "false" ∷ codes "foldl" ∷ codes "foldr" ∷ codes "fun" ∷ codes "handle" ∷ codes "host" ∷ codes "if"
     ∷ codes "in" ∷ codes "int" ∷ codes "let" ∷ codes "list" ∷ codes "mod" ∷ codes "not" ∷ codes "OnNeighbor" ∷ codes "OnRemote"
@@ -23,7 +23,7 @@ reserved =
     ∷ codes "val" ∷ []
 
 unfoldable pub is_reserved : List ℕ → Bool
-is_reserved w = list_any (λ r. bytes_eq r w) reserved
+is_reserved w = list_any (λ r. bytes_eq r w) reserved_words
 
 -- a name: a word of at most 32 bytes that isn't reserved
 unfoldable pub is_name : List ℕ → Bool

@@ -6,7 +6,7 @@ use Rattle.plan_base.specs.declared.tree.Op.TheVariants as op
 use Rattle.plan_base.specs.declared.tree.Value.{Value, Value-F, out-Value}
 use Rattle.plan_base.specs.declared.tree.Value as value
 use Rattle.plan_base.specs.Trees.{trees}
-use Rattle.value_rules.specs.Rules.{gives, unfit, binary, computed}
+use Rattle.value_rules.specs.Rules.{gives, unfit, binary, computed_number}
 
 out_int : (n : ℤ) → out-Value (value.Int n) ≡ Value-F.Int n
 out_int n = grind (arith, trees)
@@ -14,7 +14,7 @@ out_int n = grind (arith, trees)
 no_value : {v : Value} → unfit ≡ gives v → ⊥
 no_value h = cc
 
-by_numbers : (o : Op) (a b n : ℤ) → computed o a b ≡ gives (value.Int n) → binary o (value.Int a) (value.Int b) ≡ gives (value.Int n)
+by_numbers : (o : Op) (a b n : ℤ) → computed_number o a b ≡ gives (value.Int n) → binary o (value.Int a) (value.Int b) ≡ gives (value.Int n)
 unfolding binary
 by_numbers op.Add a b n h = rw (out_int a, out_int b) h
 by_numbers op.Sub a b n h = rw (out_int a, out_int b) h
@@ -23,10 +23,10 @@ by_numbers op.Div a b n h = rw (out_int a, out_int b) h
 by_numbers op.Mod a b n h = rw (out_int a, out_int b) h
 by_numbers _ a b n h = absurd (no_value h)
 
-number_is : (o : Op) (x y : Value) (a b n : ℤ) → x ≡ value.Int a → y ≡ value.Int b → computed o a b ≡ gives (value.Int n) → binary o x y ≡ gives (value.Int n)
+number_is : (o : Op) (x y : Value) (a b n : ℤ) → x ≡ value.Int a → y ≡ value.Int b → computed_number o a b ≡ gives (value.Int n) → binary o x y ≡ gives (value.Int n)
 number_is o x y a b n left right h = rw (left, right) (by_numbers o a b n h)
 
-pub number_all : (o : Op) (x y : Value) (a b : ℤ) (r : Option ℤ) → x ≡ value.Int a → y ≡ value.Int b → IfSome r (λ n. computed o a b ≡ gives (value.Int n)) → IfSome r (λ n. binary o x y ≡ gives (value.Int n))
+pub number_all : (o : Op) (x y : Value) (a b : ℤ) (r : Option ℤ) → x ≡ value.Int a → y ≡ value.Int b → IfSome r (λ n. computed_number o a b ≡ gives (value.Int n)) → IfSome r (λ n. binary o x y ≡ gives (value.Int n))
 number_all o x y a b (Some n) left right h = number_is o x y a b n left right h
 number_all o x y a b None left right h = tt
 

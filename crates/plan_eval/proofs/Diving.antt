@@ -14,7 +14,7 @@ use Rattle.plan_base.specs.declared.tree.Exn.{Exn}
 use Rattle.plan_meaning.specs.State.{VisitState}
 use Rattle.plan_meaning.specs.Run.{RunStep, gave, stopped, quiet}
 use Rattle.plan_meaning.specs.Safe.{IsSafe}
-use Rattle.plan_meaning.specs.Meaning.{Env, meaning, bound, entered}
+use Rattle.plan_meaning.specs.Meaning.{Env, meaning, bound, entered_function}
 use Rattle.eval_steps.specs.declared.stack_frame.StackFrame.{StackFrame}
 use Rattle.eval_steps.specs.declared.stack_frame.StackFrame.TheVariants as frame
 use Rattle.eval_steps.specs.declared.stack_frame.Activation.{Activation}
@@ -26,25 +26,25 @@ use Rattle.plan_eval.specs.Turns.{IsAt, IsPlaced, Stands, Turned, under}
 use Rattle.eval_steps.specs.declared.next.Next.TheVariants as next
 use Rattle.plan_eval.specs.declared.rest.Flow.{Flow}
 use Rattle.plan_eval.specs.declared.rest.Flow.TheVariants as flow
-use Rattle.eval_steps.specs.Stack.{Spot, spot_of, env_at, deeper, part_or_self, part_number, resume, spot_in, ended, all_ended, AreLinked, stands_for}
+use Rattle.eval_steps.specs.Stack.{Spot, spot_of, env_at, deeper, part_or_self, part_number, resume, spot_in, ended_frame, all_ended, AreLinked, stands_for}
 use Rattle.eval_steps.specs.Nexts.{next_step}
 use Rattle.eval_steps.specs.Leads.{Leads}
 use Rattle.plan_eval.specs.Direct.{bound_here, env_of, IsHere, is_let, Flows, Bodies, Grows}
 use Rattle.eval_steps.proofs.Leading.{itself}
-use Rattle.plan_eval.proofs.Applying.{grown, program_of, spot_in_grown, ended_grown, all_ended_grown}
+use Rattle.plan_eval.proofs.Applying.{grown_list_keeps, program_of, spot_in_grown, ended_grown, all_ended_grown}
 use Rattle.plan_eval.proofs.Beginning.{runs_on}
 use Rattle.eval_steps.proofs.Delivering.{entered_on}
 use Rattle.plan_eval.proofs.Entering.{last_one, linked_outer, linked_top, linked_grown}
 use Rattle.plan_eval.proofs.Naming.{binds_all, stands_at}
 use Rattle.plan_eval.proofs.Ending.{given_frame, raised_frame}
 use Rattle.plan_eval.proofs.Taking.{resume_asks, spot_there, stands_below}
-use Rattle.plan_eval.proofs.Waiting.{bound_env, paused, waits_inside}
+use Rattle.plan_eval.proofs.Waiting.{bound_env, nothing_begun_waits, waits_inside}
 use Rattle.plan_eval.proofs.Backs.{flows_from}
 
 -- ---- programs that come behind others
 
 pub grown_get : (old new : List Program) (i : ℕ) (code : Program) → Grows old new → slice_get old i ≡ Some code → slice_get new i ≡ Some code
-grown_get old new i code g is = rw g.grown (grown old g.more i code is)
+grown_get old new i code g is = rw g.grown (grown_list_keeps old g.more i code is)
 
 pub here_grown : (old new : List Program) (here : Here) → Grows old new → IsHere old here → IsHere new here
 here_grown old new here g h = record { program = grown_get old new here.number here.code.now g h.program; function = h.function; binds = h.binds }
@@ -69,7 +69,7 @@ module _ (code : Program) (seen : ℕ) (at : Spot) (f : StackFrame) (s : VisitSt
       → Flows codes code seen at (next_step code seen at (next.Open f) s) (Ok (flow.Wait (record { frames = f ∷ []; activations = [] }))) s
   opened_paused codes part is =
       let inside = spot_some at f part is in
-      waits_inside codes code seen at f inside.0 inside.1 (record { frames = []; activations = [] }) s _ (meaning code seen inside.0.env inside.0.expr s) (rw inside.1 (itself _)) (paused codes code seen inside.0 s)
+      waits_inside codes code seen at f inside.0 inside.1 (record { frames = []; activations = [] }) s _ (meaning code seen inside.0.env inside.0.expr s) (rw inside.1 (itself _)) (nothing_begun_waits codes code seen inside.0 s)
 
   module _ (part : Expr) (deep : deeper at f ≡ Some (record { expr = part; env = at.env })) (safe : IsSafe (next_step code seen at (next.Open f) s).asks) where
     pub opened_safe : IsSafe (resume code seen at f (meaning code seen at.env part s)).asks
@@ -91,7 +91,7 @@ no_names : (env : Env) (bs : List Binding) → bs ≡ [] → env ++ bound_here b
 no_names env bs bare = rw bare (append-nil env)
 
 module _ (code : Program) (fun : ℕ) (f : Fun) (args vs : List Value) (fs : List StackFrame) (bs : List Binding) (s : VisitState) (has : slice_get code.funs fun ≡ Some f) (many : length f.params ≡ length args) (same : vs ≡ args) (none : fs ≡ []) (bare : bs ≡ []) where
-  pub body_leads : Leads (entered meaning code fun args s) (meaning code fun (env_of f vs fs ++ bound_here bs) f.body s)
+  pub body_leads : Leads (entered_function meaning code fun args s) (meaning code fun (env_of f vs fs ++ bound_here bs) f.body s)
   body_leads = rw (no_names (env_of f vs fs) bs bare, same, none) (entered_on code fun args f (env_of f args []) s has (bound_env f args (binds_some f.params args many)))
 
   pub body_binds : IsSome (bound f.params vs)
@@ -104,7 +104,7 @@ module _ (code : Program) (fun : ℕ) (f : Fun) (args vs : List Value) (fs : Lis
   bodies codes number want (Err e) t is h = h
 
   pub bodies_from : (codes : List Program) (number : ℕ) (r : Result Flow EvalStop) (t : VisitState) → slice_get codes number ≡ Some code
-      → Flows codes code fun (record { expr = f.body; env = env_of f vs fs ++ bound_here bs }) (meaning code fun (env_of f vs fs ++ bound_here bs) f.body s) r t → Bodies codes code number fun f args (entered meaning code fun args s) r t
+      → Flows codes code fun (record { expr = f.body; env = env_of f vs fs ++ bound_here bs }) (meaning code fun (env_of f vs fs ++ bound_here bs) f.body s) r t → Bodies codes code number fun f args (entered_function meaning code fun args s) r t
   bodies_from codes number r t is h =
       bodies codes number _ r t is (rw (no_names (env_of f vs fs) bs bare, same, none) at (flows_from codes code fun (record { expr = f.body; env = env_of f vs fs ++ bound_here bs }) _ _ r t body_leads h))
 
@@ -136,19 +136,19 @@ module _ (codes new : List Program) (outer : List Activation) (a : Activation) (
   -- what it goes on with comes onto the stack, wherever it stands
   abbrev pub Lands : (Program → Spot → RunStep Value) → Type 0
   Lands want = (code : Program) (at : Spot) → slice_get codes a.code ≡ Some code → spot_in codes a ≡ Some at → Stands new outer a code at
-      → Turned (all_ended new outer (ended new a (want code at))) r new outer' t
+      → Turned (all_ended new outer (ended_frame new a (want code at))) r new outer' t
 
   module _ (linked : AreLinked codes outer) (stands : IsSome (spot_in codes a)) (want : Program → Spot → RunStep Value) (whole : RunStep Value)
-      (same : (code : Program) (at : Spot) → slice_get codes a.code ≡ Some code → spot_in codes a ≡ Some at → whole ≡ all_ended codes outer (ended codes a (want code at))) where
+      (same : (code : Program) (at : Spot) → slice_get codes a.code ≡ Some code → spot_in codes a ≡ Some at → whole ≡ all_ended codes outer (ended_frame codes a (want code at))) where
     alike : (code : Program) (at : Spot) → slice_get codes a.code ≡ Some code → spot_in codes a ≡ Some at
-        → whole ≡ all_ended (codes ++ grows.more) outer (ended (codes ++ grows.more) a (want code at))
+        → whole ≡ all_ended (codes ++ grows.more) outer (ended_frame (codes ++ grows.more) a (want code at))
     alike code at is there =
         same code at is there
         ∙ sym (all_ended_grown codes grows.more outer _ linked ∙ ap (all_ended codes outer) (ended_grown codes grows.more a _ stands))
 
     stands_grown : (code : Program) (at : Spot) → slice_get codes a.code ≡ Some code → spot_in codes a ≡ Some at → Stands (codes ++ grows.more) outer a code at
     stands_grown code at is there = record {
-      program = grown codes grows.more a.code code is;
+      program = grown_list_keeps codes grows.more a.code code is;
       spot = spot_in_grown codes grows.more a stands ∙ there;
       linked = linked_grown codes grows.more outer linked;
     }
@@ -158,7 +158,7 @@ module _ (codes new : List Program) (outer : List Activation) (a : Activation) (
         let code = program_of codes a stands in
         let at = spot_there (spot_in codes a) stands in
         rw (alike code.0 at.0 code.1 at.1)
-        (subst (λ (x : List Program). Turned (all_ended x outer (ended x a (want code.0 at.0))) r new outer' t) grows.grown
+        (subst (λ (x : List Program). Turned (all_ended x outer (ended_frame x a (want code.0 at.0))) r new outer' t) grows.grown
         (lands code.0 at.0 code.1 at.1 (subst (λ (x : List Program). Stands x outer a code.0 at.0) (sym grows.grown) (stands_grown code.0 at.0 code.1 at.1))))
 
   pub turn_begins : (s : VisitState) → AreLinked codes (outer ++ a ∷ []) → Lands (λ code at. meaning code a.fun at.env at.expr s)

@@ -9,13 +9,13 @@ use Rattle.plan_base.specs.Trees.{ExprLayer}
 use Rattle.plan_meaning.specs.declared.stop.EvalStop.{EvalStop}
 use Rattle.plan_meaning.specs.declared.stop.EvalStop.TheVariants.{Raised, WorkSpent, Wrong, NoMemory}
 use Rattle.plan_meaning.specs.State.{VisitState}
-use Rattle.plan_meaning.specs.Run.{Run, RunStep, gave, stopped, quiet, and_then, «next», rescued, otherwise, weighed}
-use Rattle.plan_meaning.specs.Meaning.{Env, meaning, handled}
+use Rattle.plan_meaning.specs.Run.{Run, RunStep, gave, stopped, quiet, and_then, «next», rescued_step, otherwise, weighed_value}
+use Rattle.plan_meaning.specs.Meaning.{Env, meaning, handled_exception}
 use Rattle.eval_steps.specs.declared.stack_frame.StackFrame.{StackFrame}
 use Rattle.eval_steps.specs.declared.stack_frame.StackFrame.TheVariants as frame
 use Rattle.eval_steps.specs.declared.stack_frame.Activation.{Activation}
 use Rattle.eval_steps.specs.declared.stack_frame.Mode.TheVariants as mode
-use Rattle.eval_steps.specs.Stack.{Spot, spot_of, deeper, part_or_self, part_number, expr_from, env_from, spot_from, resumed, resume, through, start_of, spot_in, ended_in, ended, all_ended, stands_for}
+use Rattle.eval_steps.specs.Stack.{Spot, spot_of, deeper, part_or_self, part_number, expr_from, env_from, spot_from, resumed_layer, resume, through, start_of, spot_in, ended_in, ended_frame, all_ended, stands_for}
 use Rattle.plan_eval.specs.Turns.{entry, under}
 use Rattle.eval_steps.proofs.Stacks.{ended_push}
 use Rattle.plan_eval.proofs.Applying.{given_to, raised_in}
@@ -51,12 +51,12 @@ spot_in_shorter codes a f h = spot_shorter (start_of codes a) a.frames f h
 -- what an innermost frame is given
 pub given_frame : (codes : List Program) (outer : List Activation) (code : Program) (a : Activation) (at : Spot) (f : StackFrame) (v : Value) (s : VisitState)
     → slice_get codes a.code ≡ Some code → spot_in codes a ≡ Some at
-    → stands_for codes (outer ++ under a f ∷ []) (mode.Give v) s ≡ all_ended codes outer (ended codes a (resume code a.fun at f (quiet (gave v s))))
+    → stands_for codes (outer ++ under a f ∷ []) (mode.Give v) s ≡ all_ended codes outer (ended_frame codes a (resume code a.fun at f (quiet (gave v s))))
 given_frame codes outer code a at f v s is there = given_to codes outer (under a f) v s ∙ ap (all_ended codes outer) (ended_push codes code a at f (quiet (gave v s)) is there)
 
 pub raised_frame : (codes : List Program) (outer : List Activation) (code : Program) (a : Activation) (at : Spot) (f : StackFrame) (x : Exn) (s : VisitState)
     → slice_get codes a.code ≡ Some code → spot_in codes a ≡ Some at
-    → stands_for codes (outer ++ under a f ∷ []) (mode.Raise x) s ≡ all_ended codes outer (ended codes a (resume code a.fun at f (quiet (stopped (Raised x) s))))
+    → stands_for codes (outer ++ under a f ∷ []) (mode.Raise x) s ≡ all_ended codes outer (ended_frame codes a (resume code a.fun at f (quiet (stopped (Raised x) s))))
 raised_frame codes outer code a at f x s is there = raised_in codes outer (under a f) x s ∙ ap (all_ended codes outer) (ended_push codes code a at f (quiet (stopped (Raised x) s)) is there)
 
 -- ---- activations that have ended
@@ -64,8 +64,8 @@ raised_frame codes outer code a at f x s is there = raised_in codes outer (under
 bare : (a : Activation) → a.frames ≡ [] → a ≡ entry a.code a.fun a.args
 bare a h = ap (λ fs. record a { frames = fs }) h
 
-pub ended_bare : (codes : List Program) (a : Activation) (r : RunStep Value) → a.frames ≡ [] → ended codes a r ≡ r
-ended_bare codes a r h = ap (λ b. ended codes b r) (bare a h) ∙ ended_entry codes a.code a.fun a.args r
+pub ended_bare : (codes : List Program) (a : Activation) (r : RunStep Value) → a.frames ≡ [] → ended_frame codes a r ≡ r
+ended_bare codes a r h = ap (λ b. ended_frame codes b r) (bare a h) ∙ ended_entry codes a.code a.fun a.args r
 
 pub given_bare : (codes : List Program) (outer : List Activation) (a : Activation) (v : Value) (s : VisitState) → a.frames ≡ []
     → stands_for codes (outer ++ a ∷ []) (mode.Give v) s ≡ stands_for codes outer (mode.Give v) s
@@ -93,10 +93,10 @@ uncaught Wrong s f h = refl
 uncaught NoMemory s f h = refl
 
 module _ (code : Program) (seen : ℕ) (e : EvalStop) (s : VisitState) (final : IsFinal e) where
-  resumed_stops : (l : ExprLayer) (env : Env) (n : ℕ) (held : List Value) (p : RunStep Value) → p.after ≡ stopped e s → (resumed code seen l env n held p).after ≡ stopped e s
+  resumed_stops : (l : ExprLayer) (env : Env) (n : ℕ) (held : List Value) (p : RunStep Value) → p.after ≡ stopped e s → (resumed_layer code seen l env n held p).after ≡ stopped e s
   resumed_stops (Expr-F.Try a ks) env n held p is =
-      next_stops (rescued p (handled meaning code seen env ks)) weighed e s
-      (ap (λ r. (otherwise r (handled meaning code seen env ks)).after) is ∙ uncaught e s (handled meaning code seen env ks) final)
+      next_stops (rescued_step p (handled_exception meaning code seen env ks)) weighed_value e s
+      (ap (λ r. (otherwise r (handled_exception meaning code seen env ks)).after) is ∙ uncaught e s (handled_exception meaning code seen env ks) final)
   resumed_stops l env n held p is = next_stops p _ e s is
 
   resume_stops : (at : Spot) (f : StackFrame) (p : RunStep Value) → p.after ≡ stopped e s → (resume code seen at f p).after ≡ stopped e s
@@ -117,8 +117,8 @@ module _ (codes : List Program) (e : EvalStop) (s : VisitState) (final : IsFinal
   ended_in_stops (Some code) start a p is = through_stops code a.fun e s final start a.frames p is
   ended_in_stops None start a p is = is
 
-  pub ended_stops : (a : Activation) (p : RunStep Value) → p.after ≡ stopped e s → (ended codes a p).after ≡ stopped e s
-  unfolding ended
+  pub ended_stops : (a : Activation) (p : RunStep Value) → p.after ≡ stopped e s → (ended_frame codes a p).after ≡ stopped e s
+  unfolding ended_frame
   ended_stops a p is = ended_in_stops (slice_get codes a.code) (start_of codes a) a p is
 
   pub all_stop : (outer : List Activation) (p : RunStep Value) → p.after ≡ stopped e s → (all_ended codes outer p).after ≡ stopped e s

@@ -6,7 +6,7 @@ use Rattle.plan_base.specs.declared.tree.Value.{Value}
 use Rattle.plan_meaning.specs.Run.{RunStep}
 use Rattle.plan_meaning.specs.Meaning.{Env, bound}
 use Rattle.eval_steps.specs.declared.stack_frame.Activation.{Activation}
-use Rattle.eval_steps.specs.Stack.{Spot, start_of, spot_in, ended_in, ended, AreLinked}
+use Rattle.eval_steps.specs.Stack.{Spot, start_of, spot_in, ended_in, ended_frame, AreLinked}
 use Rattle.plan_eval.specs.Turns.{entry}
 use Rattle.plan_eval.proofs.Applying.{spot_in_grown}
 
@@ -21,8 +21,8 @@ ended_in_entry : (o : Option Program) (start : Option Spot) (at fun : ℕ) (args
 ended_in_entry (Some code) start at fun args r = refl
 ended_in_entry None start at fun args r = refl
 
-pub ended_entry : (codes : List Program) (at fun : ℕ) (args : List Value) (r : RunStep Value) → ended codes (entry at fun args) r ≡ r
-unfolding ended
+pub ended_entry : (codes : List Program) (at fun : ℕ) (args : List Value) (r : RunStep Value) → ended_frame codes (entry at fun args) r ≡ r
+unfolding ended_frame
 ended_entry codes at fun args r = ended_in_entry (slice_get codes at) (start_of codes (entry at fun args)) at fun args r
 
 -- the program that comes last

@@ -17,14 +17,14 @@ use Rattle.plan_base.specs.Trees.{ExprLayer, trees}
 use Rattle.plan_meaning.specs.declared.stop.EvalStop.{EvalStop}
 use Rattle.plan_meaning.specs.declared.stop.EvalStop.TheVariants.{Wrong, WorkSpent}
 use Rattle.plan_meaning.specs.State.{VisitState}
-use Rattle.plan_meaning.specs.Run.{RunStep, ◌>>=◌, gave, stopped, pure, «next», spend, weighed, is_too_large}
+use Rattle.plan_meaning.specs.Run.{RunStep, ◌>>=◌, gave, stopped, pure, «next», spend, weighed_value, is_too_large}
 use Rattle.plan_meaning.specs.Safe.{IsSafe}
 use Rattle.plan_base.specs.declared.tree.Chunk.{Chunk}
-use Rattle.plan_meaning.specs.Meaning.{Env, binds, meaning, as_bool, as_chunk, value_of, called, tuple, call, packed, values, pay_eval}
+use Rattle.plan_meaning.specs.Meaning.{Env, binds, meaning, as_bool, as_chunk, value_of, called_name, tuple, call, packed_chunk, values, pay_eval}
 use Rattle.eval_steps.specs.declared.stack_frame.StackFrame.TheVariants as frame
 use Rattle.eval_steps.specs.declared.next.Next.TheVariants as next
 use Rattle.eval_steps.specs.Forms.{HasParts, IsRow}
-use Rattle.eval_steps.specs.Stack.{Spot, deeper, behind, parts_of, part_or_self, resumed, resume}
+use Rattle.eval_steps.specs.Stack.{Spot, deeper, behind, parts_of, part_or_self, resumed_layer, resume}
 use Rattle.eval_steps.specs.Nexts.{begins, next_step, part_gave, call_of}
 use Rattle.visit_state.specs.Meets.{Meets}
 use Rattle.eval_steps.specs.Leads.{Leads, Carries}
@@ -47,12 +47,12 @@ if_form t a b = grind (arith, trees)
 pub binary_form : (o : Op) (a b : Expr) → out-Expr (expr.Binary o a b) ≡ Expr-F.Binary o a b
 binary_form o a b = grind (arith, trees)
 
-pub number_gives : (code : Program) (seen : ℕ) (e : Expr) (n : ℤ) (env : Env) (s : VisitState) → out-Expr e ≡ Expr-F.Int n → Leads (begins code seen (record { expr = e; env = env }) s) (weighed (value.Int n) s)
+pub number_gives : (code : Program) (seen : ℕ) (e : Expr) (n : ℤ) (env : Env) (s : VisitState) → out-Expr e ≡ Expr-F.Int n → Leads (begins code seen (record { expr = e; env = env }) s) (weighed_value (value.Int n) s)
 number_gives code seen e n env s form = gives_literal code seen env s e (value.Int n) (rw form refl)
 
 -- what passes a part that gave no value
 resumed_stops : (code : Program) (seen : ℕ) (l : ExprLayer) (env : Env) (n : ℕ) (held : List Value) (c : RunStep Value) (x : EvalStop) (s : VisitState) → IsNoTry l → c.after ≡ stopped x s
-    → (resumed code seen l env n held c).after ≡ stopped x s
+    → (resumed_layer code seen l env n held c).after ≡ stopped x s
 resumed_stops code seen (Expr-F.Try a ks) env n held c x s other is = absurd other
 resumed_stops code seen l env n held c x s other is = rw is refl
 
@@ -217,11 +217,11 @@ module _ (code : Program) (seen : ℕ) (e : Expr) (env : Env) where
   row_here = record { expr = e; env = env }
 
   -- without parts
-  bare_row : (l : ExprLayer) → out-Expr e ≡ l → IsRow l → (s : VisitState) → parts_of l ≡ [] → Leads (begins code seen row_here s) ((made_of code seen l [] >>= weighed) s)
-  unfolding tuple call packed values
-  bare_row (Expr-F.Tuple []) form h s none = rw form (known_then [] s (λ vs. pure (value.Tuple vs)) weighed)
-  bare_row (Expr-F.Call f []) form h s none = rw form (known_then [] s (called meaning code seen f) weighed)
-  bare_row (Expr-F.ChunkOf f []) form h s none = rw form (known_then [] s (λ vs. pure (value.Chunk (record { code = code; entry = f; args = vs }))) weighed)
+  bare_row : (l : ExprLayer) → out-Expr e ≡ l → IsRow l → (s : VisitState) → parts_of l ≡ [] → Leads (begins code seen row_here s) ((made_of code seen l [] >>= weighed_value) s)
+  unfolding tuple call packed_chunk values
+  bare_row (Expr-F.Tuple []) form h s none = rw form (known_then [] s (λ vs. pure (value.Tuple vs)) weighed_value)
+  bare_row (Expr-F.Call f []) form h s none = rw form (known_then [] s (called_name meaning code seen f) weighed_value)
+  bare_row (Expr-F.ChunkOf f []) form h s none = rw form (known_then [] s (λ vs. pure (value.Chunk (record { code = code; entry = f; args = vs }))) weighed_value)
   bare_row (Expr-F.Tuple (x ∷ es)) form h s none = absurd (nil-cons (sym none))
   bare_row (Expr-F.Call f (x ∷ es)) form h s none = absurd (nil-cons (sym none))
   bare_row (Expr-F.ChunkOf f (x ∷ es)) form h s none = absurd (nil-cons (sym none))
@@ -229,10 +229,10 @@ module _ (code : Program) (seen : ℕ) (e : Expr) (env : Env) where
 
   -- the last part gave its value
   last_row : (l : ExprLayer) → out-Expr e ≡ l → IsRow l → (held : List Value) (v : Value) (n : ℕ) (s : VisitState) → drop (n + 1) (parts_of l) ≡ []
-      → Leads ((behind code seen l env n held v >>= weighed) s) ((made_of code seen l (held ++ v ∷ []) >>= weighed) s)
-  last_row (Expr-F.Tuple es) form h held v n s done = rw done (known_then (held ++ v ∷ []) s (λ vs. pure (value.Tuple vs)) weighed)
-  last_row (Expr-F.Call f es) form h held v n s done = rw done (known_then (held ++ v ∷ []) s (called meaning code seen f) weighed)
-  last_row (Expr-F.ChunkOf f es) form h held v n s done = rw done (known_then (held ++ v ∷ []) s (λ vs. pure (value.Chunk (record { code = code; entry = f; args = vs }))) weighed)
+      → Leads ((behind code seen l env n held v >>= weighed_value) s) ((made_of code seen l (held ++ v ∷ []) >>= weighed_value) s)
+  last_row (Expr-F.Tuple es) form h held v n s done = rw done (known_then (held ++ v ∷ []) s (λ vs. pure (value.Tuple vs)) weighed_value)
+  last_row (Expr-F.Call f es) form h held v n s done = rw done (known_then (held ++ v ∷ []) s (called_name meaning code seen f) weighed_value)
+  last_row (Expr-F.ChunkOf f es) form h held v n s done = rw done (known_then (held ++ v ∷ []) s (λ vs. pure (value.Chunk (record { code = code; entry = f; args = vs }))) weighed_value)
   last_row _ form h held v n s done = absurd h
 
   -- the next part
@@ -302,12 +302,12 @@ module _ (code : Program) (seen : ℕ) (e : Expr) (env : Env) where
 
 -- what each row gives
 module _ (code : Program) (seen : ℕ) (e : Expr) (env : Env) (vs : List Value) (s : VisitState) where
-  pub tuple_gave : (es : List Expr) → out-Expr e ≡ Expr-F.Tuple es → Leads (row_gave code seen (record { expr = e; env = env }) vs s) (weighed (value.Tuple vs) s)
-  tuple_gave es form = rw form (given_on _ s weighed)
+  pub tuple_gave : (es : List Expr) → out-Expr e ≡ Expr-F.Tuple es → Leads (row_gave code seen (record { expr = e; env = env }) vs s) (weighed_value (value.Tuple vs) s)
+  tuple_gave es form = rw form (given_on _ s weighed_value)
 
   pub chunk_gave : (f : Name) (es : List Expr) → out-Expr e ≡ Expr-F.ChunkOf f es
-      → Leads (row_gave code seen (record { expr = e; env = env }) vs s) (weighed (value.Chunk (record { code = code; entry = f; args = vs })) s)
-  chunk_gave f es form = rw form (given_on _ s weighed)
+      → Leads (row_gave code seen (record { expr = e; env = env }) vs s) (weighed_value (value.Chunk (record { code = code; entry = f; args = vs })) s)
+  chunk_gave f es form = rw form (given_on _ s weighed_value)
 
   pub call_gave : (f : Name) (es : List Expr) → out-Expr e ≡ Expr-F.Call f es → Leads (row_gave code seen (record { expr = e; env = env }) vs s) (call_of code seen f vs s)
   call_gave f es form = rw form (itself _)
@@ -336,21 +336,21 @@ module _ (code : Program) (seen : ℕ) (e a : Expr) (env : Env) (form : out-Expr
   eval_no_try = rw form tt
 
   module _ (k : Chunk) (s : VisitState) where
-    pub packed_unweighed : (x : EvalStop) (t : VisitState) → (weighed (value.Chunk k) s).after ≡ stopped x t → (resume code seen eval_here (frame.Part 0 []) (weighed (value.Chunk k) s)).after ≡ stopped x t
-    packed_unweighed x t h = part_stops_so code seen eval_here 0 [] (weighed (value.Chunk k) s) x t eval_no_try h
+    pub packed_unweighed : (x : EvalStop) (t : VisitState) → (weighed_value (value.Chunk k) s).after ≡ stopped x t → (resume code seen eval_here (frame.Part 0 []) (weighed_value (value.Chunk k) s)).after ≡ stopped x t
+    packed_unweighed x t h = part_stops_so code seen eval_here 0 [] (weighed_value (value.Chunk k) s) x t eval_no_try h
 
-    module _ (s1 : VisitState) (weighs : (weighed (value.Chunk k) s).after ≡ gave (value.Chunk k) s1) where
-      packed_came : Leads (resume code seen eval_here (frame.Part 0 []) (weighed (value.Chunk k) s)) (part_gave code seen eval_here 0 [] (value.Chunk k) s1)
-      packed_came = part_came code seen eval_here 0 [] (weighed (value.Chunk k) s) (value.Chunk k) s1 weighs
+    module _ (s1 : VisitState) (weighs : (weighed_value (value.Chunk k) s).after ≡ gave (value.Chunk k) s1) where
+      packed_came : Leads (resume code seen eval_here (frame.Part 0 []) (weighed_value (value.Chunk k) s)) (part_gave code seen eval_here 0 [] (value.Chunk k) s1)
+      packed_came = part_came code seen eval_here 0 [] (weighed_value (value.Chunk k) s) (value.Chunk k) s1 weighs
 
-      pub packed_paid : (t : VisitState) → (pay_eval s1).after ≡ gave tt t → Leads (resume code seen eval_here (frame.Part 0 []) (weighed (value.Chunk k) s)) (next_step code seen eval_here (next.Visit k) t)
+      pub packed_paid : (t : VisitState) → (pay_eval s1).after ≡ gave tt t → Leads (resume code seen eval_here (frame.Part 0 []) (weighed_value (value.Chunk k) s)) (next_step code seen eval_here (next.Visit k) t)
       packed_paid t paid = onward _ _ _ packed_came (chunk_paid code seen e env s1 a 0 [] (value.Chunk k) k t form (is_chunk k) paid)
 
-      pub packed_unpaid : (x : EvalStop) (t : VisitState) → (pay_eval s1).after ≡ stopped x t → (resume code seen eval_here (frame.Part 0 []) (weighed (value.Chunk k) s)).after ≡ stopped x t
+      pub packed_unpaid : (x : EvalStop) (t : VisitState) → (pay_eval s1).after ≡ stopped x t → (resume code seen eval_here (frame.Part 0 []) (weighed_value (value.Chunk k) s)).after ≡ stopped x t
       packed_unpaid x t unpaid = packed_came.same ∙ chunk_unpaid code seen e env s1 a 0 [] (value.Chunk k) k x t form (is_chunk k) unpaid
 
       pub packed_carries : (r : Result (Unit {0}) EvalStop) (t : VisitState) → Meets (pay_eval s1) r t
-          → Carries (resume code seen eval_here (frame.Part 0 []) (weighed (value.Chunk k) s)) (λ _. next_step code seen eval_here (next.Visit k) t) r t
+          → Carries (resume code seen eval_here (frame.Part 0 []) (weighed_value (value.Chunk k) s)) (λ _. next_step code seen eval_here (next.Visit k) t) r t
       packed_carries (Ok u) t h = packed_paid t h
       packed_carries (Err x) t h = λ other. packed_unpaid x t (h other)
 
@@ -373,21 +373,21 @@ nesting_bool : (b : Bool) → nesting (value.Bool b) ≡ 0
 nesting_bool b = grind (arith, nesting_out, trees)
 
 module _ (b : Bool) (s s1 : VisitState) where
-  pub weighs_two : (spend 2 s).after ≡ gave tt s1 → (weighed (value.Bool b) s).after ≡ gave (value.Bool b) s1
-  unfolding weighed is_too_large
+  pub weighs_two : (spend 2 s).after ≡ gave tt s1 → (weighed_value (value.Bool b) s).after ≡ gave (value.Bool b) s1
+  unfolding weighed_value is_too_large
   weighs_two h = rw (weight_bool b, nesting_bool b) (ap (λ r. («next» r (λ _. pure (value.Bool b))).after) h)
 
-  pub stops_two : (x : EvalStop) → (spend 2 s).after ≡ stopped x s1 → (weighed (value.Bool b) s).after ≡ stopped x s1
-  unfolding weighed is_too_large
+  pub stops_two : (x : EvalStop) → (spend 2 s).after ≡ stopped x s1 → (weighed_value (value.Bool b) s).after ≡ stopped x s1
+  unfolding weighed_value is_too_large
   stops_two x h = rw (weight_bool b, nesting_bool b) (ap (λ r. («next» r (λ _. pure (value.Bool b))).after) h)
 
 module _ (n : ℤ) (s s1 : VisitState) where
-  pub weighs_nine : (spend 9 s).after ≡ gave tt s1 → (weighed (value.Int n) s).after ≡ gave (value.Int n) s1
-  unfolding weighed is_too_large
+  pub weighs_nine : (spend 9 s).after ≡ gave tt s1 → (weighed_value (value.Int n) s).after ≡ gave (value.Int n) s1
+  unfolding weighed_value is_too_large
   weighs_nine h = rw (weight_int n, nesting_int n) (ap (λ r. («next» r (λ _. pure (value.Int n))).after) h)
 
-  pub stops_nine : (x : EvalStop) → (spend 9 s).after ≡ stopped x s1 → (weighed (value.Int n) s).after ≡ stopped x s1
-  unfolding weighed is_too_large
+  pub stops_nine : (x : EvalStop) → (spend 9 s).after ≡ stopped x s1 → (weighed_value (value.Int n) s).after ≡ stopped x s1
+  unfolding weighed_value is_too_large
   stops_nine x h = rw (weight_int n, nesting_int n) (ap (λ r. («next» r (λ _. pure (value.Int n))).after) h)
 
 module _ (code : Program) (seen : ℕ) (at : Spot) (n : ℤ) (is : IsNumber code seen at n) (s s1 : VisitState) where

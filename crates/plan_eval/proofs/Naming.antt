@@ -14,7 +14,7 @@ use Rattle.plan_base.specs.Trees.{ExprLayer}
 use Rattle.plan_meaning.specs.declared.stop.EvalStop.TheVariants.{Wrong}
 use Rattle.plan_meaning.specs.State.{VisitState}
 use Rattle.plan_meaning.specs.Run.{RunStep, stopped}
-use Rattle.plan_meaning.specs.Meaning.{meaning, entered, Env, binds, value_if, value_of, bound, bound_behind}
+use Rattle.plan_meaning.specs.Meaning.{meaning, entered_function, Env, binds, value_if, value_of, bound, bound_behind}
 use Rattle.eval_steps.specs.declared.stack_frame.StackFrame.{StackFrame}
 use Rattle.eval_steps.specs.declared.stack_frame.StackFrame.TheVariants as frame
 use Rattle.eval_steps.specs.declared.stack_frame.Activation.{Activation}
@@ -135,13 +135,13 @@ no_expression codes a code f h k none = rw (h, k) (no_env f (bound f.params a.ar
 pub enters_by : (code : Program) (fun : ℕ) (args : List Value) (g : Fun) → slice_get code.funs fun ≡ Some g → length g.params ≡ length args → Enters code fun args
 enters_by code fun args g has same = let env = binds_all g.params args same in record { function = g; env = env.0; has = has; binds = env.1 }
 
-pub enters_none : (code : Program) (fun : ℕ) (args : List Value) (s : VisitState) → slice_get code.funs fun ≡ None → (entered meaning code fun args s).after ≡ stopped Wrong s
-unfolding entered
+pub enters_none : (code : Program) (fun : ℕ) (args : List Value) (s : VisitState) → slice_get code.funs fun ≡ None → (entered_function meaning code fun args s).after ≡ stopped Wrong s
+unfolding entered_function
 enters_none code fun args s none = rw none refl
 
 pub enters_other : (code : Program) (fun : ℕ) (args : List Value) (g : Fun) (s : VisitState) → slice_get code.funs fun ≡ Some g → (length g.params ≡ length args → ⊥)
-    → (entered meaning code fun args s).after ≡ stopped Wrong s
-unfolding entered
+    → (entered_function meaning code fun args s).after ≡ stopped Wrong s
+unfolding entered_function
 enters_other code fun args g s has other = rw (has, binds_no_other g.params args other) refl
 
 module _ (code : Program) (seen : ℕ) (at : Spot) (want : RunStep Value) (s : VisitState) where

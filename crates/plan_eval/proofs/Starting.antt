@@ -8,7 +8,7 @@ use Rattle.plan_base.specs.declared.tree.Program.{Program}
 use Rattle.plan_meaning.specs.declared.stop.EvalStop.TheVariants.{Raised, Wrong}
 use Rattle.plan_meaning.specs.State.{VisitState}
 use Rattle.plan_meaning.specs.Run.{RunStep, gave, stopped}
-use Rattle.plan_meaning.specs.Meaning.{meaning, visited}
+use Rattle.plan_meaning.specs.Meaning.{meaning, visited_chunk}
 use Rattle.eval_steps.specs.declared.stack_frame.Activation.{Activation}
 use Rattle.eval_steps.specs.declared.stack_frame.Mode.{Mode}
 use Rattle.eval_steps.specs.declared.stack_frame.Mode.TheVariants as mode
@@ -25,7 +25,7 @@ use Rattle.plan_eval.proofs.Beginning.{runs_on}
 
 -- a visit begins at its entry
 pub starts : (k : Chunk) (fun : ℕ) (s : VisitState) → place_of k.entry k.code.funs ≡ Some fun → Enters k.code fun k.args
-    → Leads (visited meaning k s) (stands_for (k.code ∷ []) (entry 0 fun k.args ∷ []) mode.Run s)
+    → Leads (visited_chunk meaning k s) (stands_for (k.code ∷ []) (entry 0 fun k.args ∷ []) mode.Run s)
 starts k fun s place enters =
     rw (
       runs_on (k.code ∷ []) [] k.code (entry 0 fun k.args) _ s refl (spot_in_entry (k.code ∷ []) 0 fun k.args k.code enters.function enters.env refl enters.has enters.binds),

@@ -16,7 +16,7 @@ use Rattle.eval_steps.specs.declared.stack_frame.StackFrame.TheVariants as frame
 use Rattle.eval_steps.specs.declared.stack_frame.Activation.{Activation}
 use Rattle.eval_steps.specs.declared.stack_frame.Mode.TheVariants as mode
 use Rattle.eval_steps.specs.Leads.{Leads}
-use Rattle.eval_steps.specs.Stack.{Spot, deeper, resumed, resume, through, start_of, spot_in, ended_in, ended, all_ended, AreLinked, stands_for}
+use Rattle.eval_steps.specs.Stack.{Spot, deeper, resumed_layer, resume, through, start_of, spot_in, ended_in, ended_frame, all_ended, AreLinked, stands_for}
 use Rattle.plan_eval.specs.Turns.{under}
 use Rattle.eval_steps.proofs.Leading.{itself}
 use Rattle.plan_eval.proofs.Entering.{linked_outer, linked_top}
@@ -26,7 +26,7 @@ use Rattle.plan_eval.proofs.Beginning.{runs_on}
 -- ---- what a stack asks is asked inside
 
 module _ (code : Program) (seen : ℕ) where
-  resumed_asks : (l : ExprLayer) (env : Env) (n : ℕ) (held : List Value) (p : RunStep Value) → IsSafe (resumed code seen l env n held p).asks → IsSafe p.asks
+  resumed_asks : (l : ExprLayer) (env : Env) (n : ℕ) (held : List Value) (p : RunStep Value) → IsSafe (resumed_layer code seen l env n held p).asks → IsSafe p.asks
   resumed_asks (Expr-F.Try a ks) env n held p h = h.0.0
   resumed_asks l env n held p h = h.0
 
@@ -47,8 +47,8 @@ ended_in_asks : (o : Option Program) (start : Option Spot) (a : Activation) (p :
 ended_in_asks (Some code) start a p h = through_asks code a.fun start a.frames p h
 ended_in_asks None start a p h = h
 
-ended_asks : (codes : List Program) (a : Activation) (p : RunStep Value) → IsSafe (ended codes a p).asks → IsSafe p.asks
-unfolding ended
+ended_asks : (codes : List Program) (a : Activation) (p : RunStep Value) → IsSafe (ended_frame codes a p).asks → IsSafe p.asks
+unfolding ended_frame
 ended_asks codes a p h = ended_in_asks (slice_get codes a.code) (start_of codes a) a p h
 
 all_asks : (codes : List Program) (outer : List Activation) (p : RunStep Value) → IsSafe (all_ended codes outer p).asks → IsSafe p.asks

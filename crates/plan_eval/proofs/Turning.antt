@@ -9,10 +9,10 @@ use Rattle.plan_meaning.specs.declared.stop.EvalStop.{EvalStop}
 use Rattle.plan_meaning.specs.declared.stop.EvalStop.TheVariants.{Raised, Wrong, NoMemory}
 use Rattle.plan_meaning.specs.State.{VisitState}
 use Rattle.plan_meaning.specs.Run.{RunStep, gave, stopped, quiet}
-use Rattle.plan_meaning.specs.Meaning.{meaning, visited}
+use Rattle.plan_meaning.specs.Meaning.{meaning, visited_chunk}
 use Rattle.eval_steps.specs.declared.stack_frame.Activation.{Activation}
 use Rattle.eval_steps.specs.declared.stack_frame.Mode.TheVariants as mode
-use Rattle.eval_steps.specs.Stack.{Spot, ended, all_ended, AreLinked, stands_for}
+use Rattle.eval_steps.specs.Stack.{Spot, ended_frame, all_ended, AreLinked, stands_for}
 use Rattle.eval_steps.specs.Leads.{Leads}
 use Rattle.plan_eval.specs.Turns.{Stands}
 use Rattle.eval_steps.proofs.Leading.{onward}
@@ -32,16 +32,16 @@ at_once_raised p e s is = record { same = is; safe = λ k. tt }
 is_some : {A : Type 0} {o : Option A} {x : A} → o ≡ Some x → IsSome o
 is_some h = rw h refl
 
-pub visited_nowhere : (k : Chunk) (s : VisitState) → place_of k.entry k.code.funs ≡ None → (visited meaning k s).after ≡ stopped Wrong s
-unfolding visited
+pub visited_nowhere : (k : Chunk) (s : VisitState) → place_of k.entry k.code.funs ≡ None → (visited_chunk meaning k s).after ≡ stopped Wrong s
+unfolding visited_chunk
 visited_nowhere k s none = rw none refl
 
 module _ (codes : List Program) (outer : List Activation) (code : Program) (a : Activation) (at : Spot) (want : RunStep Value) (here : Stands codes outer a code at) where
   -- the expression as a whole
   abbrev pub whole_of : RunStep Value
-  whole_of = all_ended codes outer (ended codes a want)
+  whole_of = all_ended codes outer (ended_frame codes a want)
 
-  inside : (q : RunStep Value) → Leads want q → Leads whole_of (all_ended codes outer (ended codes a q))
+  inside : (q : RunStep Value) → Leads want q → Leads whole_of (all_ended codes outer (ended_frame codes a q))
   inside q h = all_ended_leads codes outer _ _ (ended_leads codes a _ _ h)
 
   same_links : AreLinked codes (outer ++ a ∷ [])

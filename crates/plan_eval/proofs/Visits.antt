@@ -20,11 +20,11 @@ use Rattle.plan_meaning.specs.declared.stop.EvalStop.{EvalStop}
 use Rattle.plan_meaning.specs.declared.stop.EvalStop.TheVariants.{Raised, WorkSpent, Wrong, NoMemory}
 use Rattle.plan_meaning.specs.declared.outcome.Outcome.TheVariants as outcome
 use Rattle.plan_meaning.specs.declared.outcome.Visit.{Visit}
-use Rattle.plan_meaning.specs.State.{VisitState, Own, joined}
+use Rattle.plan_meaning.specs.State.{VisitState, Own, joined_state}
 use Rattle.plan_meaning.specs.Run.{After, gave, stopped}
-use Rattle.plan_meaning.specs.Meaning.{meaning, visited}
+use Rattle.plan_meaning.specs.Meaning.{meaning, visited_chunk}
 use Rattle.plan_meaning.specs.Safe.{IsSafe, AreGoodNotes, AreGoodPackets, IsGoodState, Holds, IsRight}
-use Rattle.plan_meaning.specs.Visit.{IsVisit, Ends, IsGoodEnd, NoteHasTypes, allowance, begun, ended, spent, bounds}
+use Rattle.plan_meaning.specs.Visit.{IsVisit, Ends, IsGoodEnd, NoteHasTypes, allowance, begun_state, ended_visit, spent_visit, bounds}
 use Rattle.meaning_laws.specs.Laws.{left_by, total}
 use Rattle.meaning_laws.proofs.Even.{visit_balance}
 use Rattle.meaning_laws.proofs.Full.{full_value}
@@ -72,19 +72,19 @@ good_chunk k h = record { typed = h.typed; formed = h.formed }
 
 module _ (k : Chunk) (ctx : Ctx) (family : Family) (old : ServiceState) where
   abbrev pub start : VisitState
-  start = begun allowance ctx family old
+  start = begun_state allowance ctx family old
 
-  visit_gave : (v : Value) (s : VisitState) → (visited meaning k start).after ≡ gave v s → IsVisit allowance k ctx family old (ended allowance (outcome.Value v) s) s.services
+  visit_gave : (v : Value) (s : VisitState) → (visited_chunk meaning k start).after ≡ gave v s → IsVisit allowance k ctx family old (ended_visit allowance (outcome.Value v) s) s.services
   unfolding IsVisit
-  visit_gave v s e = subst (λ a. Ends allowance ctx.purse a (ended allowance (outcome.Value v) s) s.services) (sym e) (refl, refl)
+  visit_gave v s e = subst (λ a. Ends allowance ctx.purse a (ended_visit allowance (outcome.Value v) s) s.services) (sym e) (refl, refl)
 
-  visit_raised : (x : Exn) (s : VisitState) → (visited meaning k start).after ≡ stopped (Raised x) s → IsVisit allowance k ctx family old (ended allowance (outcome.Raised x) s) s.services
+  visit_raised : (x : Exn) (s : VisitState) → (visited_chunk meaning k start).after ≡ stopped (Raised x) s → IsVisit allowance k ctx family old (ended_visit allowance (outcome.Raised x) s) s.services
   unfolding IsVisit
-  visit_raised x s e = subst (λ a. Ends allowance ctx.purse a (ended allowance (outcome.Raised x) s) s.services) (sym e) (refl, refl)
+  visit_raised x s e = subst (λ a. Ends allowance ctx.purse a (ended_visit allowance (outcome.Raised x) s) s.services) (sym e) (refl, refl)
 
-  visit_spent : (s : VisitState) → (visited meaning k start).after ≡ stopped WorkSpent s → IsVisit allowance k ctx family old (spent allowance ctx.purse) s.services
+  visit_spent : (s : VisitState) → (visited_chunk meaning k start).after ≡ stopped WorkSpent s → IsVisit allowance k ctx family old (spent_visit allowance ctx.purse) s.services
   unfolding IsVisit
-  visit_spent s e = subst (λ a. Ends allowance ctx.purse a (spent allowance ctx.purse) s.services) (sym e) (refl, refl)
+  visit_spent s e = subst (λ a. Ends allowance ctx.purse a (spent_visit allowance ctx.purse) s.services) (sym e) (refl, refl)
 
   pub good_start : IsGood old → length ctx.neighbours ≤ 8 → IsGoodState start
   good_start g n = record { services = g; notes = λ i d h. absurd (not-suc-le-zero h); outbox = λ i d h. absurd (not-suc-le-zero h); near = n }
@@ -99,17 +99,17 @@ module _ (k : Chunk) (ctx : Ctx) (family : Family) (old : ServiceState) where
   entry_of : IsTypedChunk k → Entry
   entry_of (within at d t p g h n w) = record { at = at; fun = d; place = p; got = g }
 
-  right_at : (e : Entry) → IsGoodChunk k → IsGood old → length ctx.neighbours ≤ 8 → IsRight (IsGoodValue e.fun.result) (visited meaning k start)
+  right_at : (e : Entry) → IsGoodChunk k → IsGood old → length ctx.neighbours ≤ 8 → IsRight (IsGoodValue e.fun.result) (visited_chunk meaning k start)
   right_at e t g n = visit_soundness k e.at e.fun t e.place e.got start (good_start g n)
 
-  visit_safe : IsGoodChunk k → IsGood old → length ctx.neighbours ≤ 8 → IsSafe (visited meaning k start).asks
+  visit_safe : IsGoodChunk k → IsGood old → length ctx.neighbours ≤ 8 → IsSafe (visited_chunk meaning k start).asks
   visit_safe t g n = (right_at (entry_of t.typed) t g n).safe
 
   never : (P : Value → Type 0) (a : After Value) (s : VisitState) → a ≡ stopped Wrong s → Holds P a → ⊥
   never P a s e h = (subst (λ b. Holds P b) e h).0 refl
 
-  visit_never : IsGoodChunk k → IsGood old → length ctx.neighbours ≤ 8 → (s : VisitState) → (visited meaning k start).after ≡ stopped Wrong s → ⊥
-  visit_never t g n s e = never _ (visited meaning k start).after s e (right_at (entry_of t.typed) t g n).holds
+  visit_never : IsGoodChunk k → IsGood old → length ctx.neighbours ≤ 8 → (s : VisitState) → (visited_chunk meaning k start).after ≡ stopped Wrong s → ⊥
+  visit_never t g n s e = never _ (visited_chunk meaning k start).after s e (right_at (entry_of t.typed) t g n).holds
 
   ends_kept : (a : After Value) (r : Visit) (new : ServiceState) → total (left_by a) ≡ total start → Ends allowance ctx.purse a r new → r.evals + r.left + bounds r.outbox ≡ ctx.purse
   ends_kept (gave v s) r new b e = ap (λ (x : Visit). x.evals + x.left + bounds x.outbox) e.0 ∙ balance_of s ctx.purse b
@@ -120,11 +120,11 @@ module _ (k : Chunk) (ctx : Ctx) (family : Family) (old : ServiceState) where
 
   pub visit_keeps : (r : Visit) (new : ServiceState) → IsVisit allowance k ctx family old r new → r.evals + r.left + bounds r.outbox ≡ ctx.purse
   unfolding IsVisit
-  visit_keeps r new e = ends_kept (visited meaning k start).after r new (visit_balance k start) e
+  visit_keeps r new e = ends_kept (visited_chunk meaning k start).after r new (visit_balance k start) e
 
   ends_fit : (t : Ty) (a : After Value) (r : Visit) (new : ServiceState) → Holds (IsGoodValue t) a → Ends allowance ctx.purse a r new → Fit t r new
-  ends_fit t (gave v s) r new h e = fit_at t r new (ended allowance (outcome.Value v) s) s e.0 e.1 (h.0, full_value h.0.typed) h.1
-  ends_fit t (stopped (Raised x) s) r new h e = fit_at t r new (ended allowance (outcome.Raised x) s) s e.0 e.1 tt h.1
+  ends_fit t (gave v s) r new h e = fit_at t r new (ended_visit allowance (outcome.Value v) s) s e.0 e.1 (h.0, full_value h.0.typed) h.1
+  ends_fit t (stopped (Raised x) s) r new h e = fit_at t r new (ended_visit allowance (outcome.Raised x) s) s e.0 e.1 tt h.1
   ends_fit t (stopped WorkSpent s) r new h e = subst (λ (x : Visit). Fit t x new) (sym e.0) (tt, no_notes, no_types, no_packets, subst (λ (n : ServiceState). AreGoodRows n.rows) (sym e.1) h.1.services.rows)
   ends_fit t (stopped Wrong s) r new h e = absurd e
   ends_fit t (stopped NoMemory s) r new h e = absurd e
@@ -134,7 +134,7 @@ module _ (k : Chunk) (ctx : Ctx) (family : Family) (old : ServiceState) where
   unfolding IsVisit
   visit_fits_at e d f t g n r new i =
       let same : e.fun ≡ d = some-same (sym (ap (option_and_then (slice_get k.code.funs)) e.place ∙ e.got) ∙ f) in
-      subst (λ (x : Fun). Fit x.result r new) same (ends_fit e.fun.result (visited meaning k start).after r new (right_at e t g n).holds i)
+      subst (λ (x : Fun). Fit x.result r new) same (ends_fit e.fun.result (visited_chunk meaning k start).after r new (right_at e t g n).holds i)
 
   pub visit_fits : (d : Fun) → fun_of k.code k.entry ≡ Some d → IsGoodChunk k → IsGood old → length ctx.neighbours ≤ 8
       → (r : Visit) (new : ServiceState) → IsVisit allowance k ctx family old r new → Fit d.result r new
@@ -146,7 +146,7 @@ module _ (k : Chunk) (ctx : Ctx) (family : Family) (old : ServiceState) where
   unfolding IsVisit
   visit_leaves t g n r new i =
       let e = entry_of t.typed in
-      let f = ends_fit e.fun.result (visited meaning k start).after r new (right_at e t g n).holds i in
+      let f = ends_fit e.fun.result (visited_chunk meaning k start).after r new (right_at e t g n).holds i in
       (f.1, f.2, f.3, f.4)
 
 module _ (k : Chunk) (ctx around : Ctx) (family : Family) (old : ServiceState) (o : Own) where
@@ -154,38 +154,38 @@ module _ (k : Chunk) (ctx around : Ctx) (family : Family) (old : ServiceState) (
   abbrev pub Begins : Type 0
   Begins = (o ≡ record { ctx = around; family = family; work = 4000000; evals = 0; outbox = []; notes = [] }) × (around ≡ ctx)
 
-  begins : Begins → joined o old ≡ start k ctx family old
-  begins h = ap (λ (x : Own). joined x old) h.0 ∙ ap (λ (x : Ctx). begun allowance x family old) h.1
+  begins : Begins → joined_state o old ≡ start k ctx family old
+  begins h = ap (λ (x : Own). joined_state x old) h.0 ∙ ap (λ (x : Ctx). begun_state allowance x family old) h.1
 
-  pub safe_from : Begins → IsGoodChunk k → IsGood old → length ctx.neighbours ≤ 8 → IsSafe (visited meaning k (joined o old)).asks
-  safe_from h t g n = subst (λ (s : VisitState). IsSafe (visited meaning k s).asks) (sym (begins h)) (visit_safe k ctx family old t g n)
+  pub safe_from : Begins → IsGoodChunk k → IsGood old → length ctx.neighbours ≤ 8 → IsSafe (visited_chunk meaning k (joined_state o old)).asks
+  safe_from h t g n = subst (λ (s : VisitState). IsSafe (visited_chunk meaning k s).asks) (sym (begins h)) (visit_safe k ctx family old t g n)
 
-  from_start : (a : After Value) → Begins → (visited meaning k (joined o old)).after ≡ a → (visited meaning k (start k ctx family old)).after ≡ a
-  from_start a h e = subst (λ (s : VisitState). (visited meaning k s).after ≡ a) (begins h) e
+  from_start : (a : After Value) → Begins → (visited_chunk meaning k (joined_state o old)).after ≡ a → (visited_chunk meaning k (start k ctx family old)).after ≡ a
+  from_start a h e = subst (λ (s : VisitState). (visited_chunk meaning k s).after ≡ a) (begins h) e
 
   pub never_from : Begins → IsGoodChunk k → IsGood old → length ctx.neighbours ≤ 8 → (e : EvalStop) (s : VisitState) → e ≡ Wrong
-      → (e ≢ NoMemory → (visited meaning k (joined o old)).after ≡ stopped e s) → ⊥
+      → (e ≢ NoMemory → (visited_chunk meaning k (joined_state o old)).after ≡ stopped e s) → ⊥
   never_from h t g n e s w m =
-      let f = subst (λ (x : EvalStop). x ≢ NoMemory → (visited meaning k (joined o old)).after ≡ stopped x s) w m in
+      let f = subst (λ (x : EvalStop). x ≢ NoMemory → (visited_chunk meaning k (joined_state o old)).after ≡ stopped x s) w m in
       visit_never k ctx family old t g n s (from_start (stopped Wrong s) h (f (λ (x : Wrong ≡ NoMemory). cc)))
 
-  pub gave_from : Begins → (v : Value) (s : VisitState) (r : Visit) → (visited meaning k (joined o old)).after ≡ gave v s
-      → r ≡ ended allowance (outcome.Value v) s → IsVisit allowance k ctx family old r s.services
+  pub gave_from : Begins → (v : Value) (s : VisitState) (r : Visit) → (visited_chunk meaning k (joined_state o old)).after ≡ gave v s
+      → r ≡ ended_visit allowance (outcome.Value v) s → IsVisit allowance k ctx family old r s.services
   gave_from h v s r m q =
       subst (λ (x : Visit). IsVisit allowance k ctx family old x s.services) (sym q) (visit_gave k ctx family old v s (from_start (gave v s) h m))
 
   pub raised_from : Begins → (x : Exn) (e : EvalStop) (s : VisitState) (r : Visit) → e ≡ Raised x
-      → (e ≢ NoMemory → (visited meaning k (joined o old)).after ≡ stopped e s)
-      → r ≡ ended allowance (outcome.Raised x) s → IsVisit allowance k ctx family old r s.services
+      → (e ≢ NoMemory → (visited_chunk meaning k (joined_state o old)).after ≡ stopped e s)
+      → r ≡ ended_visit allowance (outcome.Raised x) s → IsVisit allowance k ctx family old r s.services
   raised_from h x e s r w m q =
-      let f = subst (λ (y : EvalStop). y ≢ NoMemory → (visited meaning k (joined o old)).after ≡ stopped y s) w m in
+      let f = subst (λ (y : EvalStop). y ≢ NoMemory → (visited_chunk meaning k (joined_state o old)).after ≡ stopped y s) w m in
       let e = from_start (stopped (Raised x) s) h (f (λ (y : Raised x ≡ NoMemory). cc)) in
       subst (λ (y : Visit). IsVisit allowance k ctx family old y s.services) (sym q) (visit_raised k ctx family old x s e)
 
   pub spent_from : Begins → (b : ℕ) (e : EvalStop) (s : VisitState) (r : Visit) → ctx.purse ≡ b → e ≡ WorkSpent
-      → (e ≢ NoMemory → (visited meaning k (joined o old)).after ≡ stopped e s)
-      → r ≡ spent allowance b → IsVisit allowance k ctx family old r s.services
+      → (e ≢ NoMemory → (visited_chunk meaning k (joined_state o old)).after ≡ stopped e s)
+      → r ≡ spent_visit allowance b → IsVisit allowance k ctx family old r s.services
   spent_from h b e s r p w m q =
-      let f = subst (λ (y : EvalStop). y ≢ NoMemory → (visited meaning k (joined o old)).after ≡ stopped y s) w m in
+      let f = subst (λ (y : EvalStop). y ≢ NoMemory → (visited_chunk meaning k (joined_state o old)).after ≡ stopped y s) w m in
       let e = from_start (stopped WorkSpent s) h (f (λ (y : WorkSpent ≡ NoMemory). cc)) in
-      subst (λ (y : Visit). IsVisit allowance k ctx family old y s.services) (sym (q ∙ ap (spent allowance) (sym p))) (visit_spent k ctx family old s e)
+      subst (λ (y : Visit). IsVisit allowance k ctx family old y s.services) (sym (q ∙ ap (spent_visit allowance) (sym p))) (visit_spent k ctx family old s e)

@@ -14,7 +14,7 @@ use Rattle.eval_steps.specs.declared.stack_frame.StackFrame.{StackFrame}
 use Rattle.eval_steps.specs.declared.stack_frame.Activation.{Activation}
 use Rattle.eval_steps.specs.declared.stack_frame.Mode.TheVariants as mode
 use Rattle.plan_eval.specs.declared.rest.Rest.{Rest}
-use Rattle.eval_steps.specs.Stack.{Spot, spot_of, deeper, part_or_self, part_number, env_at, expr_from, env_from, spot_from, resume, through, spot_in, ended, all_ended, AreLinked, innermost, innermost_run, stands_for}
+use Rattle.eval_steps.specs.Stack.{Spot, spot_of, deeper, part_or_self, part_number, env_at, expr_from, env_from, spot_from, resume, through, spot_in, ended_frame, all_ended, AreLinked, innermost, innermost_run, stands_for}
 use Rattle.eval_steps.specs.Nexts.{run_at}
 use Rattle.eval_steps.specs.Leads.{Leads}
 use Rattle.plan_eval.specs.Turns.{Stands, entry, under}
@@ -47,9 +47,9 @@ deep_some at f fs h = some_inside fs (part_or_self at.expr (part_number f)) (env
 
 module _ (codes : List Program) (code : Program) (seen : ℕ) (at : Spot) where
   -- where nothing has begun
-  pub paused : (s : VisitState) → Waits codes code seen at (meaning code seen at.env at.expr s) (record { frames = []; activations = [] }) s
+  pub nothing_begun_waits : (s : VisitState) → Waits codes code seen at (meaning code seen at.env at.expr s) (record { frames = []; activations = [] }) s
   unfolding waits
-  paused s = record { leads = itself _; stands = refl; linked = tt }
+  nothing_begun_waits s = record { leads = itself _; stands = refl; linked = tt }
 
   module _ (f : StackFrame) (inside : Spot) (deep : deeper at f ≡ Some inside) (r : Rest) (s : VisitState) where
     waits_in : waits codes code seen at (record { frames = r.frames ++ f ∷ []; activations = r.activations }) s ≡ resume code seen at f (waits codes code seen inside r s)
@@ -82,14 +82,14 @@ module _ (codes : List Program) (code : Program) (seen : ℕ) (at : Spot) where
 
 module _ (codes : List Program) (code : Program) where
   pub ended_all : (fs : List StackFrame) (a : Activation) (at : Spot) (r : RunStep Value) → slice_get codes a.code ≡ Some code → spot_in codes a ≡ Some at → IsSome (spot_from (Some at) fs)
-      → ended codes (record a { frames = a.frames ++ fs }) r ≡ ended codes a (through code a.fun (Some at) fs r)
-  ended_all [] a at r is there h = ap (λ (fs : List StackFrame). ended codes (record a { frames = fs }) r) (append-nil a.frames)
+      → ended_frame codes (record a { frames = a.frames ++ fs }) r ≡ ended_frame codes a (through code a.fun (Some at) fs r)
+  ended_all [] a at r is there h = ap (λ (fs : List StackFrame). ended_frame codes (record a { frames = fs }) r) (append-nil a.frames)
   ended_all (f ∷ fs) a at r is there h =
       let inside = deep_some at f fs h in
-      ap (λ (gs : List StackFrame). ended codes (record a { frames = gs }) r) (sym (append_assoc a.frames (f ∷ []) fs))
+      ap (λ (gs : List StackFrame). ended_frame codes (record a { frames = gs }) r) (sym (append_assoc a.frames (f ∷ []) fs))
       ∙ ended_all fs (under a f) inside.0 r is (spot_in_push codes a at f there ∙ inside.1) (rw (deeper_from at f inside.0 fs inside.1) at h)
       ∙ ended_push codes code a at f (through code a.fun (Some inside.0) fs r) is there
-      ∙ ap (λ (o : Option Spot). ended codes a (resume code a.fun at f (through code a.fun o fs r))) (sym inside.1)
+      ∙ ap (λ (o : Option Spot). ended_frame codes a (resume code a.fun at f (through code a.fun o fs r))) (sym inside.1)
 
   pub spot_all : (fs : List StackFrame) (a : Activation) (at : Spot) → spot_in codes a ≡ Some at → IsSome (spot_from (Some at) fs) → spot_in codes (record a { frames = a.frames ++ fs }) ≡ spot_from (Some at) fs
   spot_all [] a at there h = ap (λ (fs : List StackFrame). spot_in codes (record a { frames = fs })) (append-nil a.frames) ∙ there
@@ -101,7 +101,7 @@ module _ (codes : List Program) (code : Program) where
 
 all_ended_append : (codes : List Program) (xs ys : List Activation) (r : RunStep Value) → all_ended codes (xs ++ ys) r ≡ all_ended codes xs (all_ended codes ys r)
 all_ended_append codes [] ys r = refl
-all_ended_append codes (x ∷ xs) ys r = ap (ended codes x) (all_ended_append codes xs ys r)
+all_ended_append codes (x ∷ xs) ys r = ap (ended_frame codes x) (all_ended_append codes xs ys r)
 
 innermost_append : (codes : List Program) (xs : List Activation) (b : Activation) (more : List Activation) → innermost codes (xs ++ b ∷ more) ≡ innermost codes (b ∷ more)
 innermost_append codes [] b more = refl
@@ -112,11 +112,11 @@ innermost_append codes (x ∷ y ∷ xs) b more = innermost_append codes (y ∷ x
 module _ (codes : List Program) (outer : List Activation) (code : Program) (a : Activation) (at : Spot) (is : slice_get codes a.code ≡ Some code) (there : spot_in codes a ≡ Some at) (fs : List StackFrame) (h : IsSome (spot_from (Some at) fs)) where
   pub shows : (acts : List Activation) (s : VisitState)
       → stands_for codes (outer ++ (record a { frames = a.frames ++ fs }) ∷ acts) mode.Run s
-      ≡ all_ended codes outer (ended codes a (through code a.fun (Some at) fs (innermost_of codes code a.fun (spot_from (Some at) fs) acts s)))
+      ≡ all_ended codes outer (ended_frame codes a (through code a.fun (Some at) fs (innermost_of codes code a.fun (spot_from (Some at) fs) acts s)))
   unfolding stands_for
   shows [] s =
       all_ended_push codes outer (record a { frames = a.frames ++ fs }) (innermost codes (outer ++ (record a { frames = a.frames ++ fs }) ∷ []) s)
-      ∙ ap (λ (r : RunStep Value). all_ended codes outer (ended codes (record a { frames = a.frames ++ fs }) r))
+      ∙ ap (λ (r : RunStep Value). all_ended codes outer (ended_frame codes (record a { frames = a.frames ++ fs }) r))
       (ap (λ p. p s) (innermost_top codes outer (record a { frames = a.frames ++ fs }))
       ∙ ap (λ (o : Option Program). innermost_run o a.fun (spot_in codes (record a { frames = a.frames ++ fs })) s) is
       ∙ ap (λ p. p s) (runs_there code a.fun (spot_in codes (record a { frames = a.frames ++ fs })))
@@ -124,7 +124,7 @@ module _ (codes : List Program) (outer : List Activation) (code : Program) (a : 
       ∙ ap (all_ended codes outer) (ended_all codes code fs a at (run_at code a.fun (spot_from (Some at) fs) s) is there h)
   shows (b ∷ more) s =
       all_ended_append codes outer ((record a { frames = a.frames ++ fs }) ∷ b ∷ more) (innermost codes (outer ++ (record a { frames = a.frames ++ fs }) ∷ b ∷ more) s)
-      ∙ ap (λ (p : VisitState → RunStep Value). all_ended codes outer (ended codes (record a { frames = a.frames ++ fs }) (all_ended codes (b ∷ more) (p s))))
+      ∙ ap (λ (p : VisitState → RunStep Value). all_ended codes outer (ended_frame codes (record a { frames = a.frames ++ fs }) (all_ended codes (b ∷ more) (p s))))
       (ap (λ (xs : List Activation). innermost codes xs) (sym (append_assoc outer ((record a { frames = a.frames ++ fs }) ∷ []) (b ∷ more))) ∙ innermost_append codes (outer ++ (record a { frames = a.frames ++ fs }) ∷ []) b more)
       ∙ ap (all_ended codes outer) (ended_all codes code fs a at (stands_for codes (b ∷ more) mode.Run s) is there h)
 
@@ -172,7 +172,7 @@ module _ (codes : List Program) (outer : List Activation) (code : Program) (a : 
   abbrev whole : Activation
   whole = record a { frames = a.frames ++ reverse r.frames }
 
-  pub turn_waits : Leads (all_ended codes outer (ended codes a want)) (stands_for codes ((outer ++ whole ∷ []) ++ reverse r.activations) mode.Run s)
+  pub turn_waits : Leads (all_ended codes outer (ended_frame codes a want)) (stands_for codes ((outer ++ whole ∷ []) ++ reverse r.activations) mode.Run s)
       × AreLinked codes ((outer ++ whole ∷ []) ++ reverse r.activations)
   unfolding waits
   turn_waits = (

@@ -8,8 +8,8 @@ use Rattle.plan_base.specs.declared.tree.Value as value
 use Rattle.plan_meaning.specs.declared.stop.EvalStop.{EvalStop}
 use Rattle.plan_meaning.specs.declared.stop.EvalStop.TheVariants.{Raised, NoMemory}
 use Rattle.plan_meaning.specs.State.{VisitState}
-use Rattle.plan_meaning.specs.Run.{Run, RunStep, ◌>>=◌, gave, stopped, quiet, pure, wrong, weighed}
-use Rattle.plan_meaning.specs.Meaning.{Env, binds, bound, called, meaning}
+use Rattle.plan_meaning.specs.Run.{Run, RunStep, ◌>>=◌, gave, stopped, quiet, pure, wrong, weighed_value}
+use Rattle.plan_meaning.specs.Meaning.{Env, binds, bound, called_name, meaning}
 use Rattle.eval_steps.specs.declared.stack_frame.StackFrame.{StackFrame}
 use Rattle.eval_steps.specs.declared.stack_frame.StackFrame.TheVariants as frame
 use Rattle.eval_steps.specs.declared.stack_frame.Activation.{Activation}
@@ -141,20 +141,20 @@ pub record Grows (old new : List Program) : Type 0 where
 
 -- an expression that gives a number at once, whatever the state
 abbrev pub IsNumber : Program → ℕ → Spot → ℤ → Type 0
-IsNumber code seen at n = (s : VisitState) → Leads (begins code seen at s) (weighed (value.Int n) s)
+IsNumber code seen at n = (s : VisitState) → Leads (begins code seen at s) (weighed_value (value.Int n) s)
 
 -- ---- parts in a row
 
 -- what a tuple, a call or a chunk makes of the values of its parts
 abbrev pub made_of : Program → ℕ → ExprLayer → List Value → Run Value
 made_of code seen (Expr-F.Tuple es) vs = pure (value.Tuple vs)
-made_of code seen (Expr-F.Call f es) vs = called meaning code seen f vs
+made_of code seen (Expr-F.Call f es) vs = called_name meaning code seen f vs
 made_of code seen (Expr-F.ChunkOf f es) vs = pure (value.Chunk (record { code = code; entry = f; args = vs }))
 made_of code seen _ vs = wrong
 
 -- the same, weighed
 abbrev pub row_gave : Program → ℕ → Spot → List Value → VisitState → RunStep Value
-row_gave code seen at vs s = (made_of code seen (out-Expr at.expr) vs >>= weighed) s
+row_gave code seen at vs s = (made_of code seen (out-Expr at.expr) vs >>= weighed_value) s
 
 -- with these values so far, and these parts to be evaluated
 abbrev pub pending : Program → ℕ → Spot → List Value → List Expr → VisitState → RunStep Value

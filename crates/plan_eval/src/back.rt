@@ -4,8 +4,8 @@ ghost use Rattle.plan_base.specs.declared.tree.Fun.{Fun as AFun};
 ghost use Rattle.plan_base.specs.declared.tree.Program.{Program as Code};
 ghost use Rattle.plan_base.specs.declared.tree.Value.{Value as AValue};
 ghost use Rattle.service_api.specs.Services.{ServiceState};
-ghost use Rattle.plan_meaning.specs.State.{VisitState, joined};
-ghost use Rattle.plan_meaning.specs.Run.{RunStep, gave, stopped, quiet, weighed};
+ghost use Rattle.plan_meaning.specs.State.{VisitState, joined_state};
+ghost use Rattle.plan_meaning.specs.Run.{RunStep, gave, stopped, quiet, weighed_value};
 ghost use Rattle.plan_meaning.specs.Meaning.{Env};
 ghost use Rattle.plan_meaning.specs.Safe.{IsSafe};
 ghost use Rattle.eval_steps.specs.Stack.{Spot, deeper, resume};
@@ -38,19 +38,21 @@ pub fn is_bound(frame: &StackFrame) -> bool
 /// Ends with a value, which is weighed first.
 pub fn give(alloc: Global, v: Value, state: &mut State) -> Result<Turn, EvalStop>
     ensures advances { (codes : List Code) (code : Code) (seen : ℕ) (at : Spot) (n : ServiceState)
-        → Advances codes code seen at (weighed v (joined state.old n)) result (joined state.new n) }
+        → Advances codes code seen at (weighed_value v (joined_state state.old n))
+        result (joined_state state.new n) }
     ensures turns { Turns state.old.work result state.new.work }
 {
-    match state.weighed(alloc, v) {
+    match state.weigh_value(alloc, v) {
         Ok(value) => Ok(Turn::End(Flow::Done(value))),
         Err(stop) => Err(stop),
     }
 }
 
 /// The value of the whole, which is weighed first.
-pub fn ended(alloc: Global, v: Value, state: &mut State) -> Result<Flow, EvalStop>
+pub fn ended_by_value(alloc: Global, v: Value, state: &mut State) -> Result<Flow, EvalStop>
     ensures flows { (codes : List Code) (code : Code) (seen : ℕ) (at : Spot) (n : ServiceState)
-        → Flows codes code seen at (weighed v (joined state.old n)) result (joined state.new n) }
+        → Flows codes code seen at (weighed_value v (joined_state state.old n))
+        result (joined_state state.new n) }
     ensures lasts { Lasts 3 state.old.work result state.new.work }
 {
     match state.weighs(&v) {
@@ -68,12 +70,12 @@ pub fn last_back(
     state: &mut State,
 ) -> Result<Flow, EvalStop>
     ensures flows { (codes : List Code) (code : Code) (seen : ℕ) (at inner : Spot) (c : RunStep AValue) (m : ServiceState) → deeper at (frame.Last n) ≡ Some inner
-        → Flows codes code seen inner c flow (joined state.old m)
-        → Flows codes code seen at (resume code seen at (frame.Last n) c) result (joined state.new m) }
+        → Flows codes code seen inner c flow (joined_state state.old m)
+        → Flows codes code seen at (resume code seen at (frame.Last n) c) result (joined_state state.new m) }
     ensures lasts { (depth old : ℕ) → Spends depth old flow state.old.work → Lasts 3 old result state.new.work }
 {
     match flow {
-        Ok(Flow::Done(v)) => ended(alloc, v, state),
+        Ok(Flow::Done(v)) => ended_by_value(alloc, v, state),
         Ok(Flow::Wait(rest)) => Ok(inside(alloc, rest, StackFrame::Last(n))?),
         Err(stop) => Err(stop),
     }
@@ -87,12 +89,12 @@ pub fn bound_back(
     state: &mut State,
 ) -> Result<Flow, EvalStop>
     ensures flows { (codes : List Code) (code : Code) (seen : ℕ) (at inner : Spot) (c : RunStep AValue) (m : ServiceState) → deeper at (frame.Bound v) ≡ Some inner
-        → Flows codes code seen inner c flow (joined state.old m)
-        → Flows codes code seen at (resume code seen at (frame.Bound v) c) result (joined state.new m) }
+        → Flows codes code seen inner c flow (joined_state state.old m)
+        → Flows codes code seen at (resume code seen at (frame.Bound v) c) result (joined_state state.new m) }
     ensures lasts { (depth old : ℕ) → Spends depth old flow state.old.work → Lasts 3 old result state.new.work }
 {
     match flow {
-        Ok(Flow::Done(value)) => ended(alloc, value, state),
+        Ok(Flow::Done(value)) => ended_by_value(alloc, value, state),
         Ok(Flow::Wait(rest)) => Ok(inside(alloc, rest, StackFrame::Bound(v))?),
         Err(stop) => Err(stop),
     }
@@ -117,12 +119,13 @@ pub fn body_back(
     flow: Result<Flow, EvalStop>,
     state: &mut State,
 ) -> Result<Flow, EvalStop>
-    ensures flows { (codes : List Code) (code : Code) (seen : ℕ) (at : Spot) (c : RunStep AValue) (m : ServiceState) → Enters codes c flow (joined state.old m)
-        → Flows codes code seen at (resume code seen at frame.Body c) result (joined state.new m) }
+    ensures flows { (codes : List Code) (code : Code) (seen : ℕ) (at : Spot) (c : RunStep AValue) (m : ServiceState) → Enters codes c flow (joined_state state.old m)
+        → Flows codes code seen at (resume code seen at frame.Body c)
+        result (joined_state state.new m) }
     ensures lasts { (old : ℕ) → Goes old flow state.old.work → Lasts 3 old result state.new.work }
 {
     match flow {
-        Ok(Flow::Done(v)) => ended(alloc, v, state),
+        Ok(Flow::Done(v)) => ended_by_value(alloc, v, state),
         Ok(Flow::Wait(rest)) => Ok(inside(alloc, rest, StackFrame::Body)?),
         Err(stop) => Err(stop),
     }
@@ -134,12 +137,13 @@ pub fn chunk_back(
     flow: Result<Flow, EvalStop>,
     state: &mut State,
 ) -> Result<Flow, EvalStop>
-    ensures flows { (codes : List Code) (code : Code) (seen : ℕ) (at : Spot) (c : RunStep AValue) (m : ServiceState) → Enters codes c flow (joined state.old m)
-        → Flows codes code seen at (resume code seen at frame.Chunk c) result (joined state.new m) }
+    ensures flows { (codes : List Code) (code : Code) (seen : ℕ) (at : Spot) (c : RunStep AValue) (m : ServiceState) → Enters codes c flow (joined_state state.old m)
+        → Flows codes code seen at (resume code seen at frame.Chunk c)
+        result (joined_state state.new m) }
     ensures lasts { (old : ℕ) → Goes old flow state.old.work → Lasts 3 old result state.new.work }
 {
     match flow {
-        Ok(Flow::Done(_given)) => ended(alloc, Value::Unit, state),
+        Ok(Flow::Done(_given)) => ended_by_value(alloc, Value::Unit, state),
         Ok(Flow::Wait(rest)) => Ok(inside(alloc, rest, StackFrame::Chunk)?),
         Err(stop) => Err(stop),
     }
@@ -208,10 +212,10 @@ fn value_back<S: Services>(
     svc: &mut S,
 ) -> Result<Turn, EvalStop>
     requires open { IsSome (S.stands svc.old).begun }
-    requires safe { IsSafe (resume here.now.code.now here.now.fun (spot here.now e.now) frame (quiet (gave v (joined state.old (S.stands svc.old))))).asks }
+    requires safe { IsSafe (resume here.now.code.now here.now.fun (spot here.now e.now) frame (quiet (gave v (joined_state state.old (S.stands svc.old))))).asks }
     ensures advances { (codes : List Code) → Advances codes here.now.code.now here.now.fun (spot here.now e.now)
-        (resume here.now.code.now here.now.fun (spot here.now e.now) frame (quiet (gave v (joined state.old (S.stands svc.old)))))
-        result (joined state.new (S.stands svc.new)) }
+        (resume here.now.code.now here.now.fun (spot here.now e.now) frame (quiet (gave v (joined_state state.old (S.stands svc.old)))))
+        result (joined_state state.new (S.stands svc.new)) }
     ensures more { IfOk result IsMore }
     ensures falls { state.new.work ≤ state.old.work }
     ensures offer { (S.stands svc.new).offer ≡ (S.stands svc.old).offer }
@@ -266,12 +270,12 @@ pub fn part_back<S: Services>(
 ) -> Result<Turn, EvalStop>
     requires open { IsSome (S.stands svc.old).begun }
     requires safe { (codes : List Code) × (inner : Spot) × (c : RunStep AValue)
-        × Flows codes here.now.code.now here.now.fun inner c flow (joined state.old (S.stands svc.old))
+        × Flows codes here.now.code.now here.now.fun inner c flow (joined_state state.old (S.stands svc.old))
         × IsSafe (resume here.now.code.now here.now.fun (spot here.now e.now) frame c).asks }
     ensures advances { (codes : List Code) (inner : Spot) (c : RunStep AValue) → deeper (spot here.now e.now) frame ≡ Some inner
-        → Flows codes here.now.code.now here.now.fun inner c flow (joined state.old (S.stands svc.old))
+        → Flows codes here.now.code.now here.now.fun inner c flow (joined_state state.old (S.stands svc.old))
         → Advances codes here.now.code.now here.now.fun (spot here.now e.now)
-        (resume here.now.code.now here.now.fun (spot here.now e.now) frame c) result (joined state.new (S.stands svc.new)) }
+        (resume here.now.code.now here.now.fun (spot here.now e.now) frame c) result (joined_state state.new (S.stands svc.new)) }
     ensures turns { (depth old : ℕ) → Spends depth old flow state.old.work → Turns old result state.new.work }
     ensures offer { (S.stands svc.new).offer ≡ (S.stands svc.old).offer }
     ensures begun { (S.stands svc.new).begun ≡ (S.stands svc.old).begun }

@@ -1,22 +1,22 @@
 //! How an expression begins.
 ghost use Rattle.std.specs.Prelude.{◌≡◌, ◌≤◌, [], ℕ, List, IfSome, IsSome, option_copied};
 ghost use Rattle.plan_base.specs.declared.tree.Expr.{Expr-F, out-Expr};
-ghost use Rattle.plan_meaning.specs.State.{VisitState, joined};
+ghost use Rattle.plan_meaning.specs.State.{VisitState, joined_state};
 ghost use Rattle.plan_meaning.specs.Meaning.{bound, value_of};
 ghost use Rattle.plan_meaning.specs.Safe.{IsSafe};
 ghost use Rattle.plan_base.specs.declared.tree.Program.{Program as AProgram};
 ghost use Rattle.service_api.specs.Services.{ServiceState};
 ghost use Rattle.plan_base.specs.declared.tree.Value as value;
-ghost use Rattle.plan_meaning.specs.Run.{weighed};
+ghost use Rattle.plan_meaning.specs.Run.{weighed_value};
 ghost use Rattle.eval_steps.specs.Stack.{Spot};
 ghost use Rattle.plan_eval.specs.Direct.{spot, env_at_here, Flows, IsNumber, Lasts};
 ghost use Rattle.eval_steps.specs.Nexts.{Decides, Starts, begins};
 
-use crate::back::ended;
+use crate::back::ended_by_value;
 use crate::here::{Here, bound_value};
 use crate::place::argument_of;
 use crate::rest::Flow;
-use eval_steps::{Kind, Next, StackFrame, called, kind_of, value_from};
+use eval_steps::{Kind, Next, StackFrame, begin_call, kind_of, value_from};
 use plan_base::{Chunk, Exn, Expr, Name, Program, Value, Values};
 use plan_copies::Copied;
 use plan_items::{Boxed, Items, Shared};
@@ -38,7 +38,7 @@ fn named_value<'a>(here: &Here<'a>, name: &Name) -> Option<&'a Value>
 
 /// What a name stands for where an activation stands.
 #[tactic(auto, using(crate::proofs::Beginning::gives_name, crate::proofs::Beginning::no_name))]
-fn named(alloc: Global, here: &Here<'_>, e: &Expr, name: &Name) -> Result<Next, EvalStop>
+fn give_named_value(alloc: Global, here: &Here<'_>, e: &Expr, name: &Name) -> Result<Next, EvalStop>
     requires form { out-Expr e.now ≡ Expr-F.Var name.now }
     requires binds { IsSome (bound here.now.function.now.params here.now.args.now) }
     ensures { (s : VisitState) → Decides here.now.code.now here.now.fun (spot here.now e.now) (begins here.now.code.now here.now.fun (spot here.now e.now) s) result s }
@@ -61,11 +61,11 @@ pub fn variable(
     requires form { out-Expr e.now ≡ Expr-F.Var name.now }
     requires binds { IsSome (bound here.now.function.now.params here.now.args.now) }
     ensures flows { (codes : List AProgram) (n : ServiceState) → Flows codes here.now.code.now here.now.fun (spot here.now e.now)
-        (begins here.now.code.now here.now.fun (spot here.now e.now) (joined state.old n)) result (joined state.new n) }
+        (begins here.now.code.now here.now.fun (spot here.now e.now) (joined_state state.old n)) result (joined_state state.new n) }
     ensures lasts { Lasts 3 state.old.work result state.new.work }
 {
     match named_value(here, name) {
-        Some(value) => ended(alloc, value.copy(alloc)?, state),
+        Some(value) => ended_by_value(alloc, value.copy(alloc)?, state),
         None => Err(EvalStop::Wrong),
     }
 }
@@ -80,10 +80,10 @@ pub fn number(
 ) -> Result<Flow, EvalStop>
     requires form { out-Expr e.now ≡ Expr-F.Int n }
     ensures flows { (codes : List AProgram) (m : ServiceState) → Flows codes here.now.code.now here.now.fun (spot here.now e.now)
-        (begins here.now.code.now here.now.fun (spot here.now e.now) (joined state.old m)) result (joined state.new m) }
+        (begins here.now.code.now here.now.fun (spot here.now e.now) (joined_state state.old m)) result (joined_state state.new m) }
     ensures lasts { Lasts 3 state.old.work result state.new.work }
 {
-    ended(alloc, Value::Int(n), state)
+    ended_by_value(alloc, Value::Int(n), state)
 }
 
 /// The number that a name stands for.
@@ -113,7 +113,7 @@ pub fn leaf_number(here: &Here<'_>, e: &Expr) -> Option<i64>
 }
 
 /// A chunk of this program.
-pub fn packed(
+pub fn pack_chunk(
     alloc: Global,
     code: &Shared<Program>,
     entry: &Name,
@@ -121,7 +121,7 @@ pub fn packed(
     state: &mut State,
 ) -> Result<Flow, EvalStop>
     ensures flows { (codes : List AProgram) (seen : ℕ) (at : Spot) (m : ServiceState)
-        → Flows codes code.now seen at (weighed (value.Chunk (record { code = code.now; entry = entry.now; args = args })) (joined state.old m)) result (joined state.new m) }
+        → Flows codes code.now seen at (weighed_value (value.Chunk (record { code = code.now; entry = entry.now; args = args })) (joined_state state.old m)) result (joined_state state.new m) }
     ensures lasts { Lasts 3 state.old.work result state.new.work }
 {
     let chunk = Chunk {
@@ -129,7 +129,7 @@ pub fn packed(
         entry: entry.copy(alloc)?,
         args,
     };
-    ended(alloc, Value::Chunk(Boxed::new(alloc, chunk)?), state)
+    ended_by_value(alloc, Value::Chunk(Boxed::new(alloc, chunk)?), state)
 }
 
 /// A chunk without arguments.
@@ -156,19 +156,19 @@ pub fn begin<S: Services>(
 ) -> Result<Next, EvalStop>
     requires open { IsSome (S.stands svc.old).begun }
     requires binds { IsSome (bound here.now.function.now.params here.now.args.now) }
-    requires safe { IsSafe (begins here.now.code.now here.now.fun (spot here.now e.now) (joined state.old (S.stands svc.old))).asks }
+    requires safe { IsSafe (begins here.now.code.now here.now.fun (spot here.now e.now) (joined_state state.old (S.stands svc.old))).asks }
     ensures decides { Decides here.now.code.now here.now.fun (spot here.now e.now)
-        (begins here.now.code.now here.now.fun (spot here.now e.now) (joined state.old (S.stands svc.old)))
-        result (joined state.new (S.stands svc.new)) }
+        (begins here.now.code.now here.now.fun (spot here.now e.now) (joined_state state.old (S.stands svc.old)))
+        result (joined_state state.new (S.stands svc.new)) }
     ensures falls { state.new.work ≤ state.old.work }
     ensures offer { (S.stands svc.new).offer ≡ (S.stands svc.old).offer }
     ensures begun { (S.stands svc.new).begun ≡ (S.stands svc.old).begun }
 {
     match kind_of(alloc, e)? {
         Kind::Gives(value) => Ok(Next::Give(value)),
-        Kind::Named(name) => named(alloc, here, e, name),
+        Kind::Named(name) => give_named_value(alloc, here, e, name),
         Kind::Raises(name) => Err(EvalStop::Raised(Exn(name.copy(alloc)?))),
-        Kind::Calls(name) => called(
+        Kind::Calls(name) => begin_call(
             alloc,
             here.code,
             here.fun,

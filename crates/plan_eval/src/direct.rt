@@ -4,21 +4,21 @@ ghost use Rattle.plan_base.specs.declared.tree.Expr.{Expr, Expr-F, out-Expr};
 ghost use Rattle.plan_base.specs.declared.tree.Ty.{Ty};
 ghost use Rattle.eval_steps.specs.declared.stack_frame.StackFrame.TheVariants as frame;
 ghost use Rattle.plan_base.specs.declared.tree.Value as value;
-ghost use Rattle.plan_meaning.specs.Run.{weighed};
+ghost use Rattle.plan_meaning.specs.Run.{weighed_value};
 ghost use Rattle.eval_steps.specs.Forms.{IsRow};
 ghost use Rattle.eval_steps.specs.Stack.{part_or_self, parts_of, resume};
-ghost use Rattle.plan_meaning.specs.State.{joined};
-ghost use Rattle.plan_meaning.specs.Meaning.{entered, meaning, visited};
+ghost use Rattle.plan_meaning.specs.State.{joined_state};
+ghost use Rattle.plan_meaning.specs.Meaning.{entered_function, meaning, visited_chunk};
 ghost use Rattle.plan_meaning.specs.Safe.{IsSafe};
 ghost use Rattle.eval_steps.specs.declared.next.Next.TheVariants as next;
 ghost use Rattle.eval_steps.specs.Nexts.{begins, call_of, next_step};
 ghost use Rattle.plan_eval.specs.Direct.{spot, IsHere, Flows, Bodies, Enters, Advances, Grows, Goes, Lasts, RowLasts, Rows, Spends, Turns, named_spot, row_gave};
 
 use crate::back::{
-    args_back, body_back, bound_back, called_back, chunk_back, ended, give, is_bound, last_back,
-    part_back, stepped_back, visited_back,
+    args_back, body_back, bound_back, called_back, chunk_back, ended_by_value, give, is_bound,
+    last_back, part_back, stepped_back, visited_back,
 };
-use crate::begin::{begin, leaf_number, number, packed, variable};
+use crate::begin::{begin, leaf_number, number, pack_chunk, variable};
 use crate::here::{Binding, Here};
 use crate::operators::{numbers, operands_back};
 use crate::packed::pay_packed;
@@ -26,7 +26,7 @@ use crate::place::open_code;
 use crate::rest::{Flow, inside, pause, pause_in, stopped_in};
 use crate::row::Row;
 use crate::turn::Turn;
-use eval_steps::{Codes, Next, StackFrame, called, part_at, part_or_self};
+use eval_steps::{Codes, Next, StackFrame, begin_call, part_at, part_or_self};
 use plan_base::{Chunk, Expr, Exprs, Fun, Name, NoMemory, Op, Program, Value, Values};
 use plan_items::{Items, Shared};
 use plan_meaning::EvalStop;
@@ -49,10 +49,10 @@ pub fn evaluate<S: Services>(
 ) -> Result<Flow, EvalStop>
     requires open { IsSome (S.stands svc.old).begun }
     requires here { IsHere codes.old here.now }
-    requires safe { IsSafe (meaning here.now.code.now here.now.fun (spot here.now e.now).env e.now (joined state.old (S.stands svc.old))).asks }
+    requires safe { IsSafe (meaning here.now.code.now here.now.fun (spot here.now e.now).env e.now (joined_state state.old (S.stands svc.old))).asks }
     ensures flows { Flows codes.new here.now.code.now here.now.fun (spot here.now e.now)
-        (meaning here.now.code.now here.now.fun (spot here.now e.now).env e.now (joined state.old (S.stands svc.old)))
-        result (joined state.new (S.stands svc.new)) }
+        (meaning here.now.code.now here.now.fun (spot here.now e.now).env e.now (joined_state state.old (S.stands svc.old)))
+        result (joined_state state.new (S.stands svc.new)) }
     ensures spends { Spends depth state.old.work result state.new.work }
     ensures grown { Grows codes.old codes.new }
     ensures offer { (S.stands svc.new).offer ≡ (S.stands svc.old).offer }
@@ -102,10 +102,10 @@ fn general<S: Services>(
 ) -> Result<Flow, EvalStop>
     requires open { IsSome (S.stands svc.old).begun }
     requires here { IsHere codes.old here.now }
-    requires safe { IsSafe (begins here.now.code.now here.now.fun (spot here.now e.now) (joined state.old (S.stands svc.old))).asks }
+    requires safe { IsSafe (begins here.now.code.now here.now.fun (spot here.now e.now) (joined_state state.old (S.stands svc.old))).asks }
     ensures flows { Flows codes.new here.now.code.now here.now.fun (spot here.now e.now)
-        (begins here.now.code.now here.now.fun (spot here.now e.now) (joined state.old (S.stands svc.old)))
-        result (joined state.new (S.stands svc.new)) }
+        (begins here.now.code.now here.now.fun (spot here.now e.now) (joined_state state.old (S.stands svc.old)))
+        result (joined_state state.new (S.stands svc.new)) }
     ensures lasts { Lasts 3 state.old.work result state.new.work }
     ensures grown { Grows codes.old codes.new }
     ensures offer { (S.stands svc.new).offer ≡ (S.stands svc.old).offer }
@@ -134,10 +134,10 @@ fn choice<S: Services>(
     requires form { out-Expr e.now ≡ Expr-F.If t.now a.now b.now }
     requires open { IsSome (S.stands svc.old).begun }
     requires here { IsHere codes.old here.now }
-    requires safe { IsSafe (begins here.now.code.now here.now.fun (spot here.now e.now) (joined state.old (S.stands svc.old))).asks }
+    requires safe { IsSafe (begins here.now.code.now here.now.fun (spot here.now e.now) (joined_state state.old (S.stands svc.old))).asks }
     ensures flows { Flows codes.new here.now.code.now here.now.fun (spot here.now e.now)
-        (begins here.now.code.now here.now.fun (spot here.now e.now) (joined state.old (S.stands svc.old)))
-        result (joined state.new (S.stands svc.new)) }
+        (begins here.now.code.now here.now.fun (spot here.now e.now) (joined_state state.old (S.stands svc.old)))
+        result (joined_state state.new (S.stands svc.new)) }
     ensures lasts { Lasts 3 state.old.work result state.new.work }
     ensures grown { Grows codes.old codes.new }
     ensures offer { (S.stands svc.new).offer ≡ (S.stands svc.old).offer }
@@ -170,10 +170,10 @@ fn last_part<S: Services>(
     requires open { IsSome (S.stands svc.old).begun }
     requires here { IsHere codes.old here.now }
     requires part { part_or_self e.now (Some n) ≡ Some part.now }
-    requires safe { IsSafe (next_step here.now.code.now here.now.fun (spot here.now e.now) (next.Open (frame.Last n)) (joined state.old (S.stands svc.old))).asks }
+    requires safe { IsSafe (next_step here.now.code.now here.now.fun (spot here.now e.now) (next.Open (frame.Last n)) (joined_state state.old (S.stands svc.old))).asks }
     ensures flows { Flows codes.new here.now.code.now here.now.fun (spot here.now e.now)
-        (next_step here.now.code.now here.now.fun (spot here.now e.now) (next.Open (frame.Last n)) (joined state.old (S.stands svc.old)))
-        result (joined state.new (S.stands svc.new)) }
+        (next_step here.now.code.now here.now.fun (spot here.now e.now) (next.Open (frame.Last n)) (joined_state state.old (S.stands svc.old)))
+        result (joined_state state.new (S.stands svc.new)) }
     ensures lasts { Lasts 3 state.old.work result state.new.work }
     ensures grown { Grows codes.old codes.new }
     ensures offer { (S.stands svc.new).offer ≡ (S.stands svc.old).offer }
@@ -200,10 +200,10 @@ fn operation<S: Services>(
     requires form { out-Expr e.now ≡ Expr-F.Binary op a.now b.now }
     requires open { IsSome (S.stands svc.old).begun }
     requires here { IsHere codes.old here.now }
-    requires safe { IsSafe (begins here.now.code.now here.now.fun (spot here.now e.now) (joined state.old (S.stands svc.old))).asks }
+    requires safe { IsSafe (begins here.now.code.now here.now.fun (spot here.now e.now) (joined_state state.old (S.stands svc.old))).asks }
     ensures flows { Flows codes.new here.now.code.now here.now.fun (spot here.now e.now)
-        (begins here.now.code.now here.now.fun (spot here.now e.now) (joined state.old (S.stands svc.old)))
-        result (joined state.new (S.stands svc.new)) }
+        (begins here.now.code.now here.now.fun (spot here.now e.now) (joined_state state.old (S.stands svc.old)))
+        result (joined_state state.new (S.stands svc.new)) }
     ensures lasts { Lasts 3 state.old.work result state.new.work }
     ensures grown { Grows codes.old codes.new }
     ensures offer { (S.stands svc.new).offer ≡ (S.stands svc.old).offer }
@@ -241,10 +241,10 @@ fn all_parts<S: Services>(
     requires parts { parts_of (out-Expr e.now) ≡ es.now }
     requires open { IsSome (S.stands svc.old).begun }
     requires here { IsHere codes.old here.now }
-    requires safe { IsSafe (begins here.now.code.now here.now.fun (spot here.now e.now) (joined state.old (S.stands svc.old))).asks }
+    requires safe { IsSafe (begins here.now.code.now here.now.fun (spot here.now e.now) (joined_state state.old (S.stands svc.old))).asks }
     ensures rows { Rows codes.new here.now.code.now here.now.fun (spot here.now e.now)
-        (begins here.now.code.now here.now.fun (spot here.now e.now) (joined state.old (S.stands svc.old)))
-        result (joined state.new (S.stands svc.new)) }
+        (begins here.now.code.now here.now.fun (spot here.now e.now) (joined_state state.old (S.stands svc.old)))
+        result (joined_state state.new (S.stands svc.new)) }
     ensures lasts { RowLasts state.old.work result state.new.work }
     ensures grown { Grows codes.old codes.new }
     ensures offer { (S.stands svc.new).offer ≡ (S.stands svc.old).offer }
@@ -281,17 +281,17 @@ fn row<S: Services>(
     requires parts { parts_of (out-Expr e.now) ≡ es.now }
     requires open { IsSome (S.stands svc.old).begun }
     requires here { IsHere codes.old here.now }
-    requires safe { IsSafe (begins here.now.code.now here.now.fun (spot here.now e.now) (joined state.old (S.stands svc.old))).asks }
+    requires safe { IsSafe (begins here.now.code.now here.now.fun (spot here.now e.now) (joined_state state.old (S.stands svc.old))).asks }
     ensures flows { Flows codes.new here.now.code.now here.now.fun (spot here.now e.now)
-        (begins here.now.code.now here.now.fun (spot here.now e.now) (joined state.old (S.stands svc.old)))
-        result (joined state.new (S.stands svc.new)) }
+        (begins here.now.code.now here.now.fun (spot here.now e.now) (joined_state state.old (S.stands svc.old)))
+        result (joined_state state.new (S.stands svc.new)) }
     ensures lasts { Lasts 3 state.old.work result state.new.work }
     ensures grown { Grows codes.old codes.new }
     ensures offer { (S.stands svc.new).offer ≡ (S.stands svc.old).offer }
     ensures begun { (S.stands svc.new).begun ≡ (S.stands svc.old).begun }
 {
     match all_parts(alloc, codes, here, e, es.as_slice(), depth, state, svc) {
-        Ok(Row::All(values)) => made(alloc, codes, here, e, values, depth, state, svc),
+        Ok(Row::All(values)) => finish_row(alloc, codes, here, e, values, depth, state, svc),
         Ok(Row::Wait(rest)) => Ok(Flow::Wait(rest)),
         Err(stop) => Err(stop),
     }
@@ -300,7 +300,7 @@ fn row<S: Services>(
 /// What a tuple, a call or a chunk makes of the values of its parts.
 #[cycle(evaluate)]
 #[tactic(auto, using(plan_base::specs::Trees::trees))]
-fn made<S: Services>(
+fn finish_row<S: Services>(
     alloc: Global,
     codes: &mut Codes,
     here: &Here<'_>,
@@ -312,10 +312,10 @@ fn made<S: Services>(
 ) -> Result<Flow, EvalStop>
     requires open { IsSome (S.stands svc.old).begun }
     requires here { IsHere codes.old here.now }
-    requires safe { IsSafe (row_gave here.now.code.now here.now.fun (spot here.now e.now) values (joined state.old (S.stands svc.old))).asks }
+    requires safe { IsSafe (row_gave here.now.code.now here.now.fun (spot here.now e.now) values (joined_state state.old (S.stands svc.old))).asks }
     ensures flows { Flows codes.new here.now.code.now here.now.fun (spot here.now e.now)
-        (row_gave here.now.code.now here.now.fun (spot here.now e.now) values (joined state.old (S.stands svc.old)))
-        result (joined state.new (S.stands svc.new)) }
+        (row_gave here.now.code.now here.now.fun (spot here.now e.now) values (joined_state state.old (S.stands svc.old)))
+        result (joined_state state.new (S.stands svc.new)) }
     ensures lasts { Lasts 3 state.old.work result state.new.work }
     ensures grown { Grows codes.old codes.new }
     ensures offer { (S.stands svc.new).offer ≡ (S.stands svc.old).offer }
@@ -323,8 +323,8 @@ fn made<S: Services>(
 {
     match e {
         Expr::Call(f, _) => invoke(alloc, codes, here, e, f, values, depth, state, svc),
-        Expr::ChunkOf(f, _) => packed(alloc, here.code, f, values, state),
-        Expr::Tuple(_) => ended(alloc, Value::Tuple(values), state),
+        Expr::ChunkOf(f, _) => pack_chunk(alloc, here.code, f, values, state),
+        Expr::Tuple(_) => ended_by_value(alloc, Value::Tuple(values), state),
         _ => Err(EvalStop::Wrong),
     }
 }
@@ -344,18 +344,19 @@ fn invoke<S: Services>(
 ) -> Result<Flow, EvalStop>
     requires open { IsSome (S.stands svc.old).begun }
     requires here { IsHere codes.old here.now }
-    requires safe { IsSafe (call_of here.now.code.now here.now.fun f.now args (joined state.old (S.stands svc.old))).asks }
+    requires safe { IsSafe (call_of here.now.code.now here.now.fun f.now args (joined_state state.old (S.stands svc.old))).asks }
     ensures flows { Flows codes.new here.now.code.now here.now.fun (spot here.now e.now)
-        (call_of here.now.code.now here.now.fun f.now args (joined state.old (S.stands svc.old)))
-        result (joined state.new (S.stands svc.new)) }
+        (call_of here.now.code.now here.now.fun f.now args
+        (joined_state state.old (S.stands svc.old)))
+        result (joined_state state.new (S.stands svc.new)) }
     ensures lasts { Lasts 3 state.old.work result state.new.work }
     ensures grown { Grows codes.old codes.new }
     ensures offer { (S.stands svc.new).offer ≡ (S.stands svc.old).offer }
     ensures begun { (S.stands svc.new).begun ≡ (S.stands svc.old).begun }
 {
     let (code, number) = (here.code, here.number);
-    match called(alloc, code, here.fun, f, args, state, svc) {
-        Ok(Next::Give(v)) => ended(alloc, v, state),
+    match begin_call(alloc, code, here.fun, f, args, state, svc) {
+        Ok(Next::Give(v)) => ended_by_value(alloc, v, state),
         Ok(Next::Call(fun, passed)) => {
             let flow = enter(alloc, codes, code, number, fun, passed, depth, state, svc);
             body_back(alloc, flow, state)
@@ -380,10 +381,10 @@ fn eval<S: Services>(
     requires form { out-Expr e.now ≡ Expr-F.Eval a.now }
     requires open { IsSome (S.stands svc.old).begun }
     requires here { IsHere codes.old here.now }
-    requires safe { IsSafe (begins here.now.code.now here.now.fun (spot here.now e.now) (joined state.old (S.stands svc.old))).asks }
+    requires safe { IsSafe (begins here.now.code.now here.now.fun (spot here.now e.now) (joined_state state.old (S.stands svc.old))).asks }
     ensures flows { Flows codes.new here.now.code.now here.now.fun (spot here.now e.now)
-        (begins here.now.code.now here.now.fun (spot here.now e.now) (joined state.old (S.stands svc.old)))
-        result (joined state.new (S.stands svc.new)) }
+        (begins here.now.code.now here.now.fun (spot here.now e.now) (joined_state state.old (S.stands svc.old)))
+        result (joined_state state.new (S.stands svc.new)) }
     ensures lasts { Lasts 3 state.old.work result state.new.work }
     ensures grown { Grows codes.old codes.new }
     ensures offer { (S.stands svc.new).offer ≡ (S.stands svc.old).offer }
@@ -415,10 +416,10 @@ fn eval_packing<S: Services>(
     requires packs { out-Expr a.now ≡ Expr-F.ChunkOf f.now es.now }
     requires open { IsSome (S.stands svc.old).begun }
     requires here { IsHere codes.old here.now }
-    requires safe { IsSafe (begins here.now.code.now here.now.fun (spot here.now e.now) (joined state.old (S.stands svc.old))).asks }
+    requires safe { IsSafe (begins here.now.code.now here.now.fun (spot here.now e.now) (joined_state state.old (S.stands svc.old))).asks }
     ensures flows { Flows codes.new here.now.code.now here.now.fun (spot here.now e.now)
-        (begins here.now.code.now here.now.fun (spot here.now e.now) (joined state.old (S.stands svc.old)))
-        result (joined state.new (S.stands svc.new)) }
+        (begins here.now.code.now here.now.fun (spot here.now e.now) (joined_state state.old (S.stands svc.old)))
+        result (joined_state state.new (S.stands svc.new)) }
     ensures lasts { Lasts 3 state.old.work result state.new.work }
     ensures grown { Grows codes.old codes.new }
     ensures offer { (S.stands svc.new).offer ≡ (S.stands svc.old).offer }
@@ -450,10 +451,10 @@ fn eval_packed<S: Services>(
     requires form { (a : Expr) × (out-Expr e.now ≡ Expr-F.Eval a) }
     requires open { IsSome (S.stands svc.old).begun }
     requires here { IsHere codes.old here.now }
-    requires safe { IsSafe (resume here.now.code.now here.now.fun (spot here.now e.now) (frame.Part 0 []) (weighed (value.Chunk (record { code = here.now.code.now; entry = f.now; args = args })) (joined state.old (S.stands svc.old)))).asks }
+    requires safe { IsSafe (resume here.now.code.now here.now.fun (spot here.now e.now) (frame.Part 0 []) (weighed_value (value.Chunk (record { code = here.now.code.now; entry = f.now; args = args })) (joined_state state.old (S.stands svc.old)))).asks }
     ensures flows { Flows codes.new here.now.code.now here.now.fun (spot here.now e.now)
-        (resume here.now.code.now here.now.fun (spot here.now e.now) (frame.Part 0 []) (weighed (value.Chunk (record { code = here.now.code.now; entry = f.now; args = args })) (joined state.old (S.stands svc.old))))
-        result (joined state.new (S.stands svc.new)) }
+        (resume here.now.code.now here.now.fun (spot here.now e.now) (frame.Part 0 []) (weighed_value (value.Chunk (record { code = here.now.code.now; entry = f.now; args = args })) (joined_state state.old (S.stands svc.old))))
+        result (joined_state state.new (S.stands svc.new)) }
     ensures lasts { Lasts 3 state.old.work result state.new.work }
     ensures grown { Grows codes.old codes.new }
     ensures offer { (S.stands svc.new).offer ≡ (S.stands svc.old).offer }
@@ -480,10 +481,10 @@ fn visit_here<S: Services>(
 ) -> Result<Flow, EvalStop>
     requires open { IsSome (S.stands svc.old).begun }
     requires here { IsHere codes.old here.now }
-    requires safe { IsSafe (next_step here.now.code.now here.now.fun (spot here.now e.now) (next.Visit (record { code = here.now.code.now; entry = f.now; args = args })) (joined state.old (S.stands svc.old))).asks }
+    requires safe { IsSafe (next_step here.now.code.now here.now.fun (spot here.now e.now) (next.Visit (record { code = here.now.code.now; entry = f.now; args = args })) (joined_state state.old (S.stands svc.old))).asks }
     ensures flows { Flows codes.new here.now.code.now here.now.fun (spot here.now e.now)
-        (next_step here.now.code.now here.now.fun (spot here.now e.now) (next.Visit (record { code = here.now.code.now; entry = f.now; args = args })) (joined state.old (S.stands svc.old)))
-        result (joined state.new (S.stands svc.new)) }
+        (next_step here.now.code.now here.now.fun (spot here.now e.now) (next.Visit (record { code = here.now.code.now; entry = f.now; args = args })) (joined_state state.old (S.stands svc.old)))
+        result (joined_state state.new (S.stands svc.new)) }
     ensures lasts { Lasts 3 state.old.work result state.new.work }
     ensures grown { Grows codes.old codes.new }
     ensures offer { (S.stands svc.new).offer ≡ (S.stands svc.old).offer }
@@ -514,10 +515,10 @@ fn binding<S: Services>(
     requires form { (t : Ty) × (out-Expr e.now ≡ Expr-F.Let x.now t a.now b.now) }
     requires open { IsSome (S.stands svc.old).begun }
     requires here { IsHere codes.old here.now }
-    requires safe { IsSafe (begins here.now.code.now here.now.fun (spot here.now e.now) (joined state.old (S.stands svc.old))).asks }
+    requires safe { IsSafe (begins here.now.code.now here.now.fun (spot here.now e.now) (joined_state state.old (S.stands svc.old))).asks }
     ensures flows { Flows codes.new here.now.code.now here.now.fun (spot here.now e.now)
-        (begins here.now.code.now here.now.fun (spot here.now e.now) (joined state.old (S.stands svc.old)))
-        result (joined state.new (S.stands svc.new)) }
+        (begins here.now.code.now here.now.fun (spot here.now e.now) (joined_state state.old (S.stands svc.old)))
+        result (joined_state state.new (S.stands svc.new)) }
     ensures lasts { Lasts 3 state.old.work result state.new.work }
     ensures grown { Grows codes.old codes.new }
     ensures offer { (S.stands svc.new).offer ≡ (S.stands svc.old).offer }
@@ -548,10 +549,10 @@ fn under_name<S: Services>(
 ) -> Result<Flow, EvalStop>
     requires open { IsSome (S.stands svc.old).begun }
     requires here { IsHere codes.old here.now }
-    requires safe { IsSafe (meaning here.now.code.now here.now.fun (named_spot here.now x.now v.now b.now).env b.now (joined state.old (S.stands svc.old))).asks }
+    requires safe { IsSafe (meaning here.now.code.now here.now.fun (named_spot here.now x.now v.now b.now).env b.now (joined_state state.old (S.stands svc.old))).asks }
     ensures flows { Flows codes.new here.now.code.now here.now.fun (named_spot here.now x.now v.now b.now)
-        (meaning here.now.code.now here.now.fun (named_spot here.now x.now v.now b.now).env b.now (joined state.old (S.stands svc.old)))
-        result (joined state.new (S.stands svc.new)) }
+        (meaning here.now.code.now here.now.fun (named_spot here.now x.now v.now b.now).env b.now (joined_state state.old (S.stands svc.old)))
+        result (joined_state state.new (S.stands svc.new)) }
     ensures spends { Spends depth state.old.work result state.new.work }
     ensures grown { Grows codes.old codes.new }
     ensures offer { (S.stands svc.new).offer ≡ (S.stands svc.old).offer }
@@ -581,10 +582,10 @@ pub fn proceed<S: Services>(
 ) -> Result<Flow, EvalStop>
     requires open { IsSome (S.stands svc.old).begun }
     requires here { IsHere codes.old here.now }
-    requires safe { IsSafe (next_step here.now.code.now here.now.fun (spot here.now e.now) first (joined state.old (S.stands svc.old))).asks }
+    requires safe { IsSafe (next_step here.now.code.now here.now.fun (spot here.now e.now) first (joined_state state.old (S.stands svc.old))).asks }
     ensures flows { Flows codes.new here.now.code.now here.now.fun (spot here.now e.now)
-        (next_step here.now.code.now here.now.fun (spot here.now e.now) first (joined state.old (S.stands svc.old)))
-        result (joined state.new (S.stands svc.new)) }
+        (next_step here.now.code.now here.now.fun (spot here.now e.now) first (joined_state state.old (S.stands svc.old)))
+        result (joined_state state.new (S.stands svc.new)) }
     ensures lasts { Lasts 3 state.old.work result state.new.work }
     ensures grown { Grows codes.old codes.new }
     ensures offer { (S.stands svc.new).offer ≡ (S.stands svc.old).offer }
@@ -614,10 +615,10 @@ fn advance<S: Services>(
 ) -> Result<Turn, EvalStop>
     requires open { IsSome (S.stands svc.old).begun }
     requires here { IsHere codes.old here.now }
-    requires safe { IsSafe (next_step here.now.code.now here.now.fun (spot here.now e.now) now (joined state.old (S.stands svc.old))).asks }
+    requires safe { IsSafe (next_step here.now.code.now here.now.fun (spot here.now e.now) now (joined_state state.old (S.stands svc.old))).asks }
     ensures advances { Advances codes.new here.now.code.now here.now.fun (spot here.now e.now)
-        (next_step here.now.code.now here.now.fun (spot here.now e.now) now (joined state.old (S.stands svc.old)))
-        result (joined state.new (S.stands svc.new)) }
+        (next_step here.now.code.now here.now.fun (spot here.now e.now) now (joined_state state.old (S.stands svc.old)))
+        result (joined_state state.new (S.stands svc.new)) }
     ensures turns { Turns state.old.work result state.new.work }
     ensures grown { Grows codes.old codes.new }
     ensures offer { (S.stands svc.new).offer ≡ (S.stands svc.old).offer }
@@ -626,7 +627,7 @@ fn advance<S: Services>(
     let (code, number) = (here.code, here.number);
     match now {
         Next::Give(v) => give(alloc, v, state),
-        Next::Open(frame) => opened(alloc, codes, here, e, frame, depth, state, svc),
+        Next::Open(frame) => evaluate_part(alloc, codes, here, e, frame, depth, state, svc),
         Next::Call(fun, args) => {
             let flow = enter(alloc, codes, code, number, fun, args, depth, state, svc);
             called_back(alloc, flow)
@@ -644,7 +645,7 @@ fn advance<S: Services>(
 
 /// Evaluates a part that is opened.
 #[cycle(evaluate)]
-fn opened<S: Services>(
+fn evaluate_part<S: Services>(
     alloc: Global,
     codes: &mut Codes,
     here: &Here<'_>,
@@ -656,10 +657,10 @@ fn opened<S: Services>(
 ) -> Result<Turn, EvalStop>
     requires open { IsSome (S.stands svc.old).begun }
     requires here { IsHere codes.old here.now }
-    requires safe { IsSafe (next_step here.now.code.now here.now.fun (spot here.now e.now) (next.Open frame) (joined state.old (S.stands svc.old))).asks }
+    requires safe { IsSafe (next_step here.now.code.now here.now.fun (spot here.now e.now) (next.Open frame) (joined_state state.old (S.stands svc.old))).asks }
     ensures advances { Advances codes.new here.now.code.now here.now.fun (spot here.now e.now)
-        (next_step here.now.code.now here.now.fun (spot here.now e.now) (next.Open frame) (joined state.old (S.stands svc.old)))
-        result (joined state.new (S.stands svc.new)) }
+        (next_step here.now.code.now here.now.fun (spot here.now e.now) (next.Open frame) (joined_state state.old (S.stands svc.old)))
+        result (joined_state state.new (S.stands svc.new)) }
     ensures turns { Turns state.old.work result state.new.work }
     ensures grown { Grows codes.old codes.new }
     ensures offer { (S.stands svc.new).offer ≡ (S.stands svc.old).offer }
@@ -690,8 +691,8 @@ fn enter<S: Services>(
 ) -> Result<Flow, EvalStop>
     requires open { IsSome (S.stands svc.old).begun }
     requires program { slice_get codes.old number ≡ Some code.now }
-    requires safe { IsSafe (entered meaning code.now fun args (joined state.old (S.stands svc.old))).asks }
-    ensures enters { Enters codes.new (entered meaning code.now fun args (joined state.old (S.stands svc.old))) result (joined state.new (S.stands svc.new)) }
+    requires safe { IsSafe (entered_function meaning code.now fun args (joined_state state.old (S.stands svc.old))).asks }
+    ensures enters { Enters codes.new (entered_function meaning code.now fun args (joined_state state.old (S.stands svc.old))) result (joined_state state.new (S.stands svc.new)) }
     ensures spends { Goes state.old.work result state.new.work }
     ensures grown { Grows codes.old codes.new }
     ensures offer { (S.stands svc.new).offer ≡ (S.stands svc.old).offer }
@@ -727,8 +728,8 @@ fn body_flow<S: Services>(
     requires program { slice_get codes.old number ≡ Some code.now }
     requires function { slice_get code.now.funs fun ≡ Some function.now }
     requires many { length function.now.params ≡ length args.now }
-    requires safe { IsSafe (entered meaning code.now fun args.now (joined state.old (S.stands svc.old))).asks }
-    ensures flows { Bodies codes.new code.now number fun function.now args.now (entered meaning code.now fun args.now (joined state.old (S.stands svc.old))) result (joined state.new (S.stands svc.new)) }
+    requires safe { IsSafe (entered_function meaning code.now fun args.now (joined_state state.old (S.stands svc.old))).asks }
+    ensures flows { Bodies codes.new code.now number fun function.now args.now (entered_function meaning code.now fun args.now (joined_state state.old (S.stands svc.old))) result (joined_state state.new (S.stands svc.new)) }
     ensures spends { Spends depth state.old.work result state.new.work }
     ensures grown { Grows codes.old codes.new }
     ensures offer { (S.stands svc.new).offer ≡ (S.stands svc.old).offer }
@@ -760,8 +761,9 @@ fn visit<S: Services>(
     svc: &mut S,
 ) -> Result<Flow, EvalStop>
     requires open { IsSome (S.stands svc.old).begun }
-    requires safe { IsSafe (visited meaning chunk (joined state.old (S.stands svc.old))).asks }
-    ensures enters { Enters codes.new (visited meaning chunk (joined state.old (S.stands svc.old))) result (joined state.new (S.stands svc.new)) }
+    requires safe { IsSafe (visited_chunk meaning chunk
+        (joined_state state.old (S.stands svc.old))).asks }
+    ensures enters { Enters codes.new (visited_chunk meaning chunk (joined_state state.old (S.stands svc.old))) result (joined_state state.new (S.stands svc.new)) }
     ensures spends { Goes state.old.work result state.new.work }
     ensures grown { Grows codes.old codes.new }
     ensures offer { (S.stands svc.new).offer ≡ (S.stands svc.old).offer }

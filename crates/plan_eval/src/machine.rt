@@ -1,6 +1,6 @@
 //! The turns of a visit.
 ghost use Rattle.std.specs.Prelude.{◌≡◌, ◌+◌, ◌<◌, ◌≤◌, ◌∷◌, ◌++◌, [], ℕ, List, IfOk, IsSome, Some, slice_get};
-ghost use Rattle.plan_meaning.specs.State.{joined};
+ghost use Rattle.plan_meaning.specs.State.{joined_state};
 ghost use Rattle.plan_meaning.specs.Safe.{IsSafe};
 ghost use Rattle.visit_state.specs.Meets.{Meets};
 ghost use Rattle.eval_steps.specs.declared.stack_frame.Mode.TheVariants as mode;
@@ -9,11 +9,11 @@ ghost use Rattle.plan_base.specs.declared.tree.Value.{Value as AValue};
 ghost use Rattle.plan_meaning.specs.State.{VisitState};
 ghost use Rattle.plan_meaning.specs.Run.{RunStep};
 ghost use Rattle.plan_eval.specs.Direct.{Flows, Grows, Lasts, Performs, Spends, task_step};
-ghost use Rattle.eval_steps.specs.Stack.{Spot, spot_in, ended, all_ended, AreLinked, stands_for};
+ghost use Rattle.eval_steps.specs.Stack.{Spot, spot_in, ended_frame, all_ended, AreLinked, stands_for};
 ghost use Rattle.plan_eval.specs.Turns.{Stands, Turned, load};
 
 use crate::here::Here;
-use crate::rest::{Flow, stacked};
+use crate::rest::{Flow, stack_rest};
 use crate::task::{Task, perform};
 use eval_steps::{Activation, Activations, Codes, Mode, expr_from};
 use plan_base::{Exn, Value};
@@ -24,13 +24,13 @@ use std::alloc::Global;
 use visit_state::State;
 
 /// What came of the innermost expression, on the stack.
-fn landed(
+fn land_flow(
     outer: &mut Activations,
     top: Activation,
     flow: Result<Flow, EvalStop>,
 ) -> Result<Mode, EvalStop>
     ensures turned { (codes : List Code) (code : Code) (at : Spot) (want : RunStep AValue) (s : VisitState) → Stands codes outer.old top code at
-        → Flows codes code top.fun at want flow s → Turned (all_ended codes outer.old (ended codes top want)) result codes outer.new s }
+        → Flows codes code top.fun at want flow s → Turned (all_ended codes outer.old (ended_frame codes top want)) result codes outer.new s }
     ensures shrinks { (depth old new : ℕ) → 0 < depth → Spends depth old flow new
         → IfOk result (λ how. load how outer.new new < load mode.Run (outer.old ++ top ∷ []) old) }
     ensures bounded { (old new : ℕ) → Lasts 3 old flow new
@@ -45,7 +45,7 @@ fn landed(
             Ok(Mode::Give(v))
         }
         Ok(Flow::Wait(rest)) => {
-            stacked(outer, top, rest)?;
+            stack_rest(outer, top, rest)?;
             Ok(Mode::Run)
         }
         Err(EvalStop::Raised(x)) => {
@@ -71,9 +71,10 @@ fn run_top<S: Services>(
     requires open { IsSome (S.stands svc.old).begun }
     requires linked { IsSome (spot_in codes.old top.now) }
     requires safe { (code : Code) (at : Spot) → slice_get codes.old top.now.code ≡ Some code → spot_in codes.old top.now ≡ Some at
-        → IsSafe (task_step code top.now.fun at task (joined state.old (S.stands svc.old))).asks }
+        → IsSafe (task_step code top.now.fun at task
+        (joined_state state.old (S.stands svc.old))).asks }
     ensures flows { (code : Code) (at : Spot) → slice_get codes.old top.now.code ≡ Some code → spot_in codes.old top.now ≡ Some at
-        → Flows codes.new code top.now.fun at (task_step code top.now.fun at task (joined state.old (S.stands svc.old))) result (joined state.new (S.stands svc.new)) }
+        → Flows codes.new code top.now.fun at (task_step code top.now.fun at task (joined_state state.old (S.stands svc.old))) result (joined_state state.new (S.stands svc.new)) }
     ensures performs { Performs task state.old.work result state.new.work }
     ensures grown { Grows codes.old codes.new }
     ensures offer { (S.stands svc.new).offer ≡ (S.stands svc.old).offer }
@@ -113,14 +114,14 @@ fn begin<S: Services>(
 ) -> Result<Mode, EvalStop>
     requires open { IsSome (S.stands svc.old).begun }
     requires linked { AreLinked codes.old (outer.old ++ top ∷ []) }
-    requires safe { IsSafe (stands_for codes.old (outer.old ++ top ∷ []) mode.Run (joined state.old (S.stands svc.old))).asks }
-    ensures turned { Turned (stands_for codes.old (outer.old ++ top ∷ []) mode.Run (joined state.old (S.stands svc.old))) result codes.new outer.new (joined state.new (S.stands svc.new)) }
+    requires safe { IsSafe (stands_for codes.old (outer.old ++ top ∷ []) mode.Run (joined_state state.old (S.stands svc.old))).asks }
+    ensures turned { Turned (stands_for codes.old (outer.old ++ top ∷ []) mode.Run (joined_state state.old (S.stands svc.old))) result codes.new outer.new (joined_state state.new (S.stands svc.new)) }
     ensures shrinks { IfOk result (λ how. load how outer.new state.new.work < load mode.Run (outer.old ++ top ∷ []) state.old.work) }
     ensures offer { (S.stands svc.new).offer ≡ (S.stands svc.old).offer }
     ensures begun { (S.stands svc.new).begun ≡ (S.stands svc.old).begun }
 {
     let flow = run_top(alloc, codes, &top, Task::Begin, state, svc);
-    landed(outer, top, flow)
+    land_flow(outer, top, flow)
 }
 
 /// Gives a value to the innermost activation, which is off the stack.
@@ -135,8 +136,8 @@ fn give<S: Services>(
 ) -> Result<Mode, EvalStop>
     requires open { IsSome (S.stands svc.old).begun }
     requires linked { AreLinked codes.old (outer.old ++ top ∷ []) }
-    requires safe { IsSafe (stands_for codes.old (outer.old ++ top ∷ []) (mode.Give v) (joined state.old (S.stands svc.old))).asks }
-    ensures turned { Turned (stands_for codes.old (outer.old ++ top ∷ []) (mode.Give v) (joined state.old (S.stands svc.old))) result codes.new outer.new (joined state.new (S.stands svc.new)) }
+    requires safe { IsSafe (stands_for codes.old (outer.old ++ top ∷ []) (mode.Give v) (joined_state state.old (S.stands svc.old))).asks }
+    ensures turned { Turned (stands_for codes.old (outer.old ++ top ∷ []) (mode.Give v) (joined_state state.old (S.stands svc.old))) result codes.new outer.new (joined_state state.new (S.stands svc.new)) }
     ensures shrinks { IfOk result (λ how. load how outer.new state.new.work < load (mode.Give v) (outer.old ++ top ∷ []) state.old.work) }
     ensures offer { (S.stands svc.new).offer ≡ (S.stands svc.old).offer }
     ensures begun { (S.stands svc.new).begun ≡ (S.stands svc.old).begun }
@@ -146,7 +147,7 @@ fn give<S: Services>(
         return Ok(Mode::Give(v));
     };
     let flow = run_top(alloc, codes, &below, Task::Give(frame, v), state, svc);
-    landed(outer, below, flow)
+    land_flow(outer, below, flow)
 }
 
 /// Raises an exception in the innermost activation, which is off the stack.
@@ -161,8 +162,8 @@ fn raise<S: Services>(
 ) -> Result<Mode, EvalStop>
     requires open { IsSome (S.stands svc.old).begun }
     requires linked { AreLinked codes.old (outer.old ++ top ∷ []) }
-    requires safe { IsSafe (stands_for codes.old (outer.old ++ top ∷ []) (mode.Raise x) (joined state.old (S.stands svc.old))).asks }
-    ensures turned { Turned (stands_for codes.old (outer.old ++ top ∷ []) (mode.Raise x) (joined state.old (S.stands svc.old))) result codes.new outer.new (joined state.new (S.stands svc.new)) }
+    requires safe { IsSafe (stands_for codes.old (outer.old ++ top ∷ []) (mode.Raise x) (joined_state state.old (S.stands svc.old))).asks }
+    ensures turned { Turned (stands_for codes.old (outer.old ++ top ∷ []) (mode.Raise x) (joined_state state.old (S.stands svc.old))) result codes.new outer.new (joined_state state.new (S.stands svc.new)) }
     ensures shrinks { IfOk result (λ how. load how outer.new state.new.work < load (mode.Raise x) (outer.old ++ top ∷ []) state.old.work) }
     ensures offer { (S.stands svc.new).offer ≡ (S.stands svc.old).offer }
     ensures begun { (S.stands svc.new).begun ≡ (S.stands svc.old).begun }
@@ -172,7 +173,7 @@ fn raise<S: Services>(
         return Ok(Mode::Raise(x));
     };
     let flow = run_top(alloc, codes, &below, Task::Raise(frame, x), state, svc);
-    landed(outer, below, flow)
+    land_flow(outer, below, flow)
 }
 
 /// One turn of a visit, with its innermost activation off the stack.
@@ -187,8 +188,8 @@ fn turn<S: Services>(
 ) -> Result<Mode, EvalStop>
     requires open { IsSome (S.stands svc.old).begun }
     requires linked { AreLinked codes.old (outer.old ++ top ∷ []) }
-    requires safe { IsSafe (stands_for codes.old (outer.old ++ top ∷ []) how (joined state.old (S.stands svc.old))).asks }
-    ensures turned { Turned (stands_for codes.old (outer.old ++ top ∷ []) how (joined state.old (S.stands svc.old))) result codes.new outer.new (joined state.new (S.stands svc.new)) }
+    requires safe { IsSafe (stands_for codes.old (outer.old ++ top ∷ []) how (joined_state state.old (S.stands svc.old))).asks }
+    ensures turned { Turned (stands_for codes.old (outer.old ++ top ∷ []) how (joined_state state.old (S.stands svc.old))) result codes.new outer.new (joined_state state.new (S.stands svc.new)) }
     ensures shrinks { IfOk result (λ next. load next outer.new state.new.work < load how (outer.old ++ top ∷ []) state.old.work) }
     ensures offer { (S.stands svc.new).offer ≡ (S.stands svc.old).offer }
     ensures begun { (S.stands svc.new).begun ≡ (S.stands svc.old).begun }
@@ -210,8 +211,8 @@ pub fn run<S: Services>(
 ) -> Result<Value, EvalStop>
     requires open { IsSome (S.stands svc.old).begun }
     requires linked { AreLinked codes activations }
-    requires safe { IsSafe (stands_for codes activations mode.Run (joined state.old (S.stands svc.old))).asks }
-    ensures meets { Meets (stands_for codes activations mode.Run (joined state.old (S.stands svc.old))) result (joined state.new (S.stands svc.new)) }
+    requires safe { IsSafe (stands_for codes activations mode.Run (joined_state state.old (S.stands svc.old))).asks }
+    ensures meets { Meets (stands_for codes activations mode.Run (joined_state state.old (S.stands svc.old))) result (joined_state state.new (S.stands svc.new)) }
     ensures offer { (S.stands svc.new).offer ≡ (S.stands svc.old).offer }
     ensures begun { (S.stands svc.new).begun ≡ (S.stands svc.old).begun }
 {

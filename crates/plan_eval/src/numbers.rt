@@ -4,8 +4,8 @@ ghost use Rattle.plan_base.specs.declared.tree.Program.{Program as Code};
 ghost use Rattle.plan_base.specs.declared.tree.Value as value;
 ghost use Rattle.value_rules.specs.Rules as rules;
 ghost use Rattle.service_api.specs.Services.{ServiceState};
-ghost use Rattle.plan_meaning.specs.State.{joined};
-ghost use Rattle.plan_meaning.specs.Run.{weighed};
+ghost use Rattle.plan_meaning.specs.State.{joined_state};
+ghost use Rattle.plan_meaning.specs.Run.{weighed_value};
 ghost use Rattle.eval_steps.specs.Stack.{Spot};
 ghost use Rattle.plan_eval.specs.Direct.{Flows, Lasts};
 
@@ -17,7 +17,7 @@ use visit_state::State;
 /// The number that an operator gives of two numbers, where it gives one.
 #[tactic(auto, using(plan_values::proofs::NumberLaws::bounded_in, plan_values::proofs::NumberLaws::quotients, plan_values::proofs::NumberLaws::remainders))]
 fn number_of(op: Op, x: i64, y: i64) -> Option<i64>
-    ensures { IfSome result (λ n. rules.computed op x y ≡ rules.gives (value.Int n)) }
+    ensures { IfSome result (λ n. rules.computed_number op x y ≡ rules.gives (value.Int n)) }
 {
     match op {
         Op::Add => x.checked_add(y),
@@ -83,7 +83,7 @@ pub fn order_given(op: Op, x: &Value, y: &Value) -> Option<bool>
 #[tactic(auto, using(crate::proofs::Hot::weighs_nine, crate::proofs::Hot::stops_nine))]
 pub fn ended_by_number(n: i64, state: &mut State) -> Result<Flow, EvalStop>
     ensures flows { (codes : List Code) (code : Code) (seen : ℕ) (at : Spot) (m : ServiceState)
-        → Flows codes code seen at (weighed (value.Int n) (joined state.old m)) result (joined state.new m) }
+        → Flows codes code seen at (weighed_value (value.Int n) (joined_state state.old m)) result (joined_state state.new m) }
     ensures lasts { Lasts 3 state.old.work result state.new.work }
 {
     if !state.pays(9) {
@@ -96,7 +96,7 @@ pub fn ended_by_number(n: i64, state: &mut State) -> Result<Flow, EvalStop>
 #[tactic(auto, using(crate::proofs::Hot::weighs_two, crate::proofs::Hot::stops_two))]
 pub fn ended_by_test(b: bool, state: &mut State) -> Result<Flow, EvalStop>
     ensures flows { (codes : List Code) (code : Code) (seen : ℕ) (at : Spot) (m : ServiceState)
-        → Flows codes code seen at (weighed (value.Bool b) (joined state.old m)) result (joined state.new m) }
+        → Flows codes code seen at (weighed_value (value.Bool b) (joined_state state.old m)) result (joined_state state.new m) }
     ensures lasts { Lasts 3 state.old.work result state.new.work }
 {
     if !state.pays(2) {

@@ -6,8 +6,8 @@ ghost use Rattle.plan_base.specs.declared.tree.Value.{Value};
 ghost use Rattle.plan_base.specs.declared.tree.Value as value;
 ghost use Rattle.service_api.specs.Services.{ServiceState};
 ghost use Rattle.plan_meaning.specs.declared.stop.EvalStop.TheVariants as stops;
-ghost use Rattle.plan_meaning.specs.State.{VisitState, joined};
-ghost use Rattle.plan_meaning.specs.Run.{RunStep, gave, stopped, weighed};
+ghost use Rattle.plan_meaning.specs.State.{VisitState, joined_state};
+ghost use Rattle.plan_meaning.specs.Run.{RunStep, gave, stopped, weighed_value};
 ghost use Rattle.plan_meaning.specs.Meaning.{Env, meaning};
 ghost use Rattle.eval_steps.specs.declared.stack_frame.StackFrame.TheVariants as frame;
 ghost use Rattle.eval_steps.specs.Stack.{Spot, deeper, resume};
@@ -15,7 +15,7 @@ ghost use Rattle.eval_steps.specs.Leads.{Carries};
 ghost use Rattle.eval_steps.specs.Nexts.{begins, part_gave};
 ghost use Rattle.plan_eval.specs.Direct.{Flows, IsNumber, Lasts, Spends};
 
-use crate::back::ended;
+use crate::back::ended_by_value;
 use crate::numbers::{ended_by_number, ended_by_test, number_given, order_given};
 use crate::rest::{Flow, inside};
 use eval_steps::behind_one;
@@ -26,9 +26,9 @@ use visit_state::{State, binary, cons};
 
 /// What an operator gives of two values, which isn't weighed yet.
 #[tactic(auto, using(eval_steps::proofs::Gathering::list_gives, eval_steps::proofs::Gathering::list_stops, eval_steps::proofs::Gathering::operator_gives, eval_steps::proofs::Gathering::operator_stops))]
-fn computed(alloc: Global, op: Op, x: Value, v: Value) -> Result<Value, EvalStop>
+fn compute_value(alloc: Global, op: Op, x: Value, v: Value) -> Result<Value, EvalStop>
     ensures { (code : Program) (seen : ℕ) (e a b : Expr) (env : Env) (s : VisitState) → out-Expr e ≡ Expr-F.Binary op a b
-        → Carries (part_gave code seen (record { expr = e; env = env }) 1 (x ∷ []) v s) (λ w. weighed w s) result s }
+        → Carries (part_gave code seen (record { expr = e; env = env }) 1 (x ∷ []) v s) (λ w. weighed_value w s) result s }
 {
     match op {
         Op::Cons => cons(x, v),
@@ -47,11 +47,11 @@ fn operate_values(
 ) -> Result<Flow, EvalStop>
     ensures flows { (codes : List Program) (code : Program) (seen : ℕ) (e a b : Expr) (env : Env) (m : ServiceState) → out-Expr e ≡ Expr-F.Binary op a b
         → Flows codes code seen (record { expr = e; env = env })
-        (part_gave code seen (record { expr = e; env = env }) 1 (x ∷ []) v (joined state.old m)) result (joined state.new m) }
+        (part_gave code seen (record { expr = e; env = env }) 1 (x ∷ []) v (joined_state state.old m)) result (joined_state state.new m) }
     ensures lasts { Lasts 3 state.old.work result state.new.work }
 {
-    match computed(alloc, op, x, v) {
-        Ok(value) => ended(alloc, value, state),
+    match compute_value(alloc, op, x, v) {
+        Ok(value) => ended_by_value(alloc, value, state),
         Err(stop) => Err(stop),
     }
 }
@@ -60,7 +60,7 @@ fn operate_values(
 fn operate(alloc: Global, op: Op, x: Value, v: Value, state: &mut State) -> Result<Flow, EvalStop>
     ensures flows { (codes : List Program) (code : Program) (seen : ℕ) (e a b : Expr) (env : Env) (m : ServiceState) → out-Expr e ≡ Expr-F.Binary op a b
         → Flows codes code seen (record { expr = e; env = env })
-        (part_gave code seen (record { expr = e; env = env }) 1 (x ∷ []) v (joined state.old m)) result (joined state.new m) }
+        (part_gave code seen (record { expr = e; env = env }) 1 (x ∷ []) v (joined_state state.old m)) result (joined_state state.new m) }
     ensures lasts { Lasts 3 state.old.work result state.new.work }
 {
     if let Some(n) = number_given(op, &x, &v) {
@@ -76,9 +76,9 @@ fn operate(alloc: Global, op: Op, x: Value, v: Value, state: &mut State) -> Resu
 #[tactic(auto, using(crate::proofs::Hot::number_comes))]
 fn number_paid(state: &mut State) -> bool
     ensures paid { IsTrue result → (code : Program) (seen : ℕ) (at : Spot) (n : ℤ) (m : ServiceState) → IsNumber code seen at n
-        → (meaning code seen at.env at.expr (joined state.old m)).after ≡ gave (value.Int n) (joined state.new m) }
+        → (meaning code seen at.env at.expr (joined_state state.old m)).after ≡ gave (value.Int n) (joined_state state.new m) }
     ensures unpaid { IsFalse result → (code : Program) (seen : ℕ) (at : Spot) (n : ℤ) (m : ServiceState) → IsNumber code seen at n
-        → (meaning code seen at.env at.expr (joined state.old m)).after ≡ stopped stops.WorkSpent (joined state.new m) }
+        → (meaning code seen at.env at.expr (joined_state state.old m)).after ≡ stopped stops.WorkSpent (joined_state state.new m) }
     ensures falls { state.new.work ≤ state.old.work }
 {
     if !state.pays(1) {
@@ -94,7 +94,7 @@ fn number_paid(state: &mut State) -> bool
 pub fn numbers(alloc: Global, op: Op, x: i64, y: i64, state: &mut State) -> Result<Flow, EvalStop>
     ensures flows { (codes : List Program) (code : Program) (seen : ℕ) (e a b : Expr) (env : Env) (m : ServiceState) → out-Expr e ≡ Expr-F.Binary op a b
         → IsNumber code seen (record { expr = a; env = env }) x → IsNumber code seen (record { expr = b; env = env }) y
-        → Flows codes code seen (record { expr = e; env = env }) (begins code seen (record { expr = e; env = env }) (joined state.old m)) result (joined state.new m) }
+        → Flows codes code seen (record { expr = e; env = env }) (begins code seen (record { expr = e; env = env }) (joined_state state.old m)) result (joined_state state.new m) }
     ensures lasts { Lasts 3 state.old.work result state.new.work }
 {
     if !number_paid(state) {
@@ -116,8 +116,8 @@ pub fn operands_back(
 ) -> Result<Flow, EvalStop>
     ensures flows { (codes : List Program) (code : Program) (seen : ℕ) (e a b : Expr) (env : Env) (inner : Spot) (c : RunStep Value) (m : ServiceState) → out-Expr e ≡ Expr-F.Binary op a b
         → deeper (record { expr = e; env = env }) (frame.Part 1 (x ∷ [])) ≡ Some inner
-        → Flows codes code seen inner c flow (joined state.old m)
-        → Flows codes code seen (record { expr = e; env = env }) (resume code seen (record { expr = e; env = env }) (frame.Part 1 (x ∷ [])) c) result (joined state.new m) }
+        → Flows codes code seen inner c flow (joined_state state.old m)
+        → Flows codes code seen (record { expr = e; env = env }) (resume code seen (record { expr = e; env = env }) (frame.Part 1 (x ∷ [])) c) result (joined_state state.new m) }
     ensures lasts { (depth old : ℕ) → Spends depth old flow state.old.work → Lasts 3 old result state.new.work }
 {
     match flow {

@@ -4,8 +4,8 @@ ghost use Rattle.plan_base.specs.Sizes.{weight, nesting};
 ghost use Rattle.plan_base.specs.declared.tree.Expr.{Expr, Expr-F, out-Expr};
 ghost use Rattle.plan_base.specs.declared.tree.Value as value;
 ghost use Rattle.service_api.specs.Services.{ServiceState};
-ghost use Rattle.plan_meaning.specs.State.{joined};
-ghost use Rattle.plan_meaning.specs.Run.{weighed};
+ghost use Rattle.plan_meaning.specs.State.{joined_state};
+ghost use Rattle.plan_meaning.specs.Run.{weighed_value};
 ghost use Rattle.plan_meaning.specs.Meaning.{Env};
 ghost use Rattle.eval_steps.specs.declared.stack_frame.StackFrame.TheVariants as frame;
 ghost use Rattle.eval_steps.specs.declared.next.Next.TheVariants as next;
@@ -50,9 +50,9 @@ pub fn pay_packed(
 ) -> Result<(), EvalStop>
     ensures pays { (seen : ℕ) (e a : Expr) (env : Env) (n : ServiceState) → out-Expr e ≡ Expr-F.Eval a
         → Carries (resume code.now seen (record { expr = e; env = env }) (frame.Part 0 [])
-        (weighed (value.Chunk (record { code = code.now; entry = entry.now; args = args.now })) (joined state.old n)))
-        (λ _. next_step code.now seen (record { expr = e; env = env }) (next.Visit (record { code = code.now; entry = entry.now; args = args.now })) (joined state.new n))
-        result (joined state.new n) }
+        (weighed_value (value.Chunk (record { code = code.now; entry = entry.now; args = args.now })) (joined_state state.old n)))
+        (λ _. next_step code.now seen (record { expr = e; env = env }) (next.Visit (record { code = code.now; entry = entry.now; args = args.now })) (joined_state state.new n))
+        result (joined_state state.new n) }
     ensures falls { state.new.work ≤ state.old.work }
 {
     let size = packed_weight(code.get(), entry, args);

@@ -49,7 +49,7 @@ fn alone(alloc: Global, frame: StackFrame) -> Result<StackFrames, NoMemory>
 }
 
 /// One more frame.
-fn framed(alloc: Global, frames: StackFrames, frame: StackFrame) -> Result<StackFrames, NoMemory>
+fn add_frame(alloc: Global, frames: StackFrames, frame: StackFrame) -> Result<StackFrames, NoMemory>
     ensures { IfOk result (λ all. all ≡ frames ++ frame ∷ []) }
 {
     if frames.is_empty() {
@@ -83,7 +83,7 @@ pub fn inside(alloc: Global, rest: Rest, frame: StackFrame) -> Result<Flow, NoMe
         activations,
     } = rest;
     Ok(Flow::Wait(Rest {
-        frames: framed(alloc, frames, frame)?,
+        frames: add_frame(alloc, frames, frame)?,
         activations,
     }))
 }
@@ -99,7 +99,7 @@ pub fn stopped_in(alloc: Global, rest: Rest, frame: StackFrame) -> Result<Row, N
         activations,
     } = rest;
     Ok(Row::Wait(Rest {
-        frames: framed(alloc, frames, frame)?,
+        frames: add_frame(alloc, frames, frame)?,
         activations,
     }))
 }
@@ -153,7 +153,7 @@ pub fn above(
 /// An activation with what is left inside it, on top of those outside it.
 #[cold]
 #[inline(never)]
-pub fn stacked(outer: &mut Activations, top: Activation, rest: Rest) -> Result<(), NoMemory>
+pub fn stack_rest(outer: &mut Activations, top: Activation, rest: Rest) -> Result<(), NoMemory>
     ensures { IfOk result (λ _. outer.new ≡ (outer.old ++ record top { frames = top.frames ++ reverse rest.frames } ∷ []) ++ reverse rest.activations) }
 {
     let Rest {

@@ -1,6 +1,6 @@
 //! What the innermost activation does in a turn of a visit.
 ghost use Rattle.std.specs.Prelude.{◌≡◌, IsSome};
-ghost use Rattle.plan_meaning.specs.State.{joined};
+ghost use Rattle.plan_meaning.specs.State.{joined_state};
 ghost use Rattle.plan_meaning.specs.Run.{gave, quiet, stopped};
 ghost use Rattle.plan_meaning.specs.Safe.{IsSafe};
 ghost use Rattle.plan_meaning.specs.declared.stop.EvalStop.TheVariants.{Raised};
@@ -44,10 +44,10 @@ fn give<S: Services>(
 ) -> Result<Flow, EvalStop>
     requires open { IsSome (S.stands svc.old).begun }
     requires here { IsHere codes.old here.now }
-    requires safe { IsSafe (resume here.now.code.now here.now.fun (spot here.now e.now) frame (quiet (gave v (joined state.old (S.stands svc.old))))).asks }
+    requires safe { IsSafe (resume here.now.code.now here.now.fun (spot here.now e.now) frame (quiet (gave v (joined_state state.old (S.stands svc.old))))).asks }
     ensures flows { Flows codes.new here.now.code.now here.now.fun (spot here.now e.now)
-        (resume here.now.code.now here.now.fun (spot here.now e.now) frame (quiet (gave v (joined state.old (S.stands svc.old)))))
-        result (joined state.new (S.stands svc.new)) }
+        (resume here.now.code.now here.now.fun (spot here.now e.now) frame (quiet (gave v (joined_state state.old (S.stands svc.old)))))
+        result (joined_state state.new (S.stands svc.new)) }
     ensures lasts { Lasts 3 state.old.work result state.new.work }
     ensures grown { Grows codes.old codes.new }
     ensures offer { (S.stands svc.new).offer ≡ (S.stands svc.old).offer }
@@ -72,10 +72,10 @@ fn raise<S: Services>(
 ) -> Result<Flow, EvalStop>
     requires open { IsSome (S.stands svc.old).begun }
     requires here { IsHere codes.old here.now }
-    requires safe { IsSafe (resume here.now.code.now here.now.fun (spot here.now e.now) frame.now (quiet (stopped (Raised x) (joined state.old (S.stands svc.old))))).asks }
+    requires safe { IsSafe (resume here.now.code.now here.now.fun (spot here.now e.now) frame.now (quiet (stopped (Raised x) (joined_state state.old (S.stands svc.old))))).asks }
     ensures flows { Flows codes.new here.now.code.now here.now.fun (spot here.now e.now)
-        (resume here.now.code.now here.now.fun (spot here.now e.now) frame.now (quiet (stopped (Raised x) (joined state.old (S.stands svc.old)))))
-        result (joined state.new (S.stands svc.new)) }
+        (resume here.now.code.now here.now.fun (spot here.now e.now) frame.now (quiet (stopped (Raised x) (joined_state state.old (S.stands svc.old)))))
+        result (joined_state state.new (S.stands svc.new)) }
     ensures lasts { Lasts 3 state.old.work result state.new.work }
     ensures grown { Grows codes.old codes.new }
     ensures offer { (S.stands svc.new).offer ≡ (S.stands svc.old).offer }
@@ -99,10 +99,10 @@ pub fn perform<S: Services>(
 ) -> Result<Flow, EvalStop>
     requires open { IsSome (S.stands svc.old).begun }
     requires here { IsHere codes.old here.now }
-    requires safe { IsSafe (task_step here.now.code.now here.now.fun (spot here.now e.now) task (joined state.old (S.stands svc.old))).asks }
+    requires safe { IsSafe (task_step here.now.code.now here.now.fun (spot here.now e.now) task (joined_state state.old (S.stands svc.old))).asks }
     ensures flows { Flows codes.new here.now.code.now here.now.fun (spot here.now e.now)
-        (task_step here.now.code.now here.now.fun (spot here.now e.now) task (joined state.old (S.stands svc.old)))
-        result (joined state.new (S.stands svc.new)) }
+        (task_step here.now.code.now here.now.fun (spot here.now e.now) task (joined_state state.old (S.stands svc.old)))
+        result (joined_state state.new (S.stands svc.new)) }
     ensures performs { Performs task state.old.work result state.new.work }
     ensures grown { Grows codes.old codes.new }
     ensures offer { (S.stands svc.new).offer ≡ (S.stands svc.old).offer }

@@ -3,10 +3,10 @@ ghost use Rattle.std.specs.Prelude.{◌≡◌, ◌↔◌, ◌+◌, ◌≤◌, �
 ghost use Rattle.plan_base.specs.declared.tree.Fun.{Fun as AFun};
 ghost use Rattle.typing_rules.specs.TypingOrder.{fun_of};
 ghost use Rattle.service_api.specs.Services.{AreGoodRows, IsGoodChunk};
-ghost use Rattle.plan_meaning.specs.Visit.{IsVisit, IsGoodEnd, NoteHasTypes, allowance, bounds, spent};
+ghost use Rattle.plan_meaning.specs.Visit.{IsVisit, IsGoodEnd, NoteHasTypes, allowance, bounds, spent_visit};
 ghost use Rattle.plan_meaning.specs.declared.outcome.Outcome.TheVariants as outcome;
-ghost use Rattle.plan_meaning.specs.State.{joined};
-ghost use Rattle.plan_meaning.specs.Meaning.{meaning, visited};
+ghost use Rattle.plan_meaning.specs.State.{joined_state};
+ghost use Rattle.plan_meaning.specs.Meaning.{meaning, visited_chunk};
 ghost use Rattle.plan_meaning.specs.Safe.{IsSafe, AreGoodNotes, AreGoodPackets};
 ghost use Rattle.meaning_laws.specs.Laws.{VisitEnds, VisitsAlike, NoneSuffices};
 ghost use Rattle.visit_state.specs.Meets.{Meets};
@@ -26,8 +26,8 @@ use typing_rules::place_of;
 use visit_state::{ALLOWANCE, State};
 
 /// A visit that has no effect at all.
-fn spent(alloc: Global, bound: u32) -> Visit
-    ensures { result ≡ spent allowance bound }
+fn visit_without_effect(alloc: Global, bound: u32) -> Visit
+    ensures { result ≡ spent_visit allowance bound }
 {
     Visit {
         outcome: Outcome::WorkSpent,
@@ -63,15 +63,16 @@ fn first_activation(alloc: Global, chunk: &Chunk, fun: usize) -> Result<Activati
 }
 
 /// Runs a chunk from its entry to its end.
-fn visited<S: Services>(
+fn run_chunk<S: Services>(
     alloc: Global,
     chunk: &Chunk,
     state: &mut State,
     svc: &mut S,
 ) -> Result<Value, EvalStop>
     requires open { IsSome (S.stands svc.old).begun }
-    requires safe { IsSafe (visited meaning chunk.now (joined state.old (S.stands svc.old))).asks }
-    ensures meets { Meets (visited meaning chunk.now (joined state.old (S.stands svc.old))) result (joined state.new (S.stands svc.new)) }
+    requires safe { IsSafe (visited_chunk meaning chunk.now
+        (joined_state state.old (S.stands svc.old))).asks }
+    ensures meets { Meets (visited_chunk meaning chunk.now (joined_state state.old (S.stands svc.old))) result (joined_state state.new (S.stands svc.new)) }
     ensures offer { (S.stands svc.new).offer ≡ (S.stands svc.old).offer }
     ensures begun { (S.stands svc.new).begun ≡ (S.stands svc.old).begun }
 {
@@ -107,10 +108,10 @@ fn visit_chunk<S: Services>(
 {
     let around = ctx.copy(alloc)?;
     let mut state = State::new(alloc, around, family, ALLOWANCE);
-    match visited(alloc, chunk, &mut state, svc) {
-        Ok(v) => Ok(state.ended(Outcome::Value(v))),
-        Err(EvalStop::Raised(x)) => Ok(state.ended(Outcome::Raised(x))),
-        Err(EvalStop::WorkSpent) => Ok(spent(alloc, bound)),
+    match run_chunk(alloc, chunk, &mut state, svc) {
+        Ok(v) => Ok(state.into_visit(Outcome::Value(v))),
+        Err(EvalStop::Raised(x)) => Ok(state.into_visit(Outcome::Raised(x))),
+        Err(EvalStop::WorkSpent) => Ok(visit_without_effect(alloc, bound)),
         Err(EvalStop::NoMemory) => Err(NoMemory),
         Err(EvalStop::Wrong) => unreachable!(),
     }

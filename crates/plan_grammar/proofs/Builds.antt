@@ -8,11 +8,11 @@ use Rattle.plan_base.specs.Sizes.{largest_by}
 use Rattle.plan_grammar.specs.declared.node.Node.{Node}
 use Rattle.plan_grammar.specs.declared.node.Bound.{Bound}
 use Rattle.plan_grammar.specs.declared.node.Caught.{Caught}
-use Rattle.plan_grammar.specs.Nodes.{all_at, trees, consed, bracketed, bound, let_of, clauses_of, bodies}
+use Rattle.plan_grammar.specs.Nodes.{all_at, trees, consed_nodes, bracketed_nodes, bound, let_of, clauses_of, bodies}
 
-pub bracketed_last : (ns : List Node) (n end : Node) → bracketed (ns ++ n ∷ []) end ≡ bracketed ns (consed n end)
+pub bracketed_last : (ns : List Node) (n end : Node) → bracketed_nodes (ns ++ n ∷ []) end ≡ bracketed_nodes ns (consed_nodes n end)
 bracketed_last [] n end = refl
-bracketed_last (m ∷ ns) n end = ap (consed m) (bracketed_last ns n end)
+bracketed_last (m ∷ ns) n end = ap (consed_nodes m) (bracketed_last ns n end)
 
 pub let_of_last : (bs : List Bound) (b : Bound) (body : Node) → let_of (bs ++ b ∷ []) body ≡ let_of bs (bound b body)
 let_of_last [] b body = refl

@@ -30,7 +30,7 @@ use Rattle.plan_grammar.specs.Ahead.{Front, Reader, ◌>>=◌, place, behind, ne
 use Rattle.plan_grammar.specs.Begins.{begins_operand, begins_expr}
 use Rattle.plan_grammar.specs.Types.{opens, past, more, type_to}
 use Rattle.plan_grammar.specs.Joints.{joint_of}
-use Rattle.plan_grammar.specs.Nodes.{trees, leaf, over_one, over_two, over_three, over_four, over_list, joined_nodes, consed, bracketed, let_of, try_of}
+use Rattle.plan_grammar.specs.Nodes.{trees, leaf, over_one, over_two, over_three, over_four, over_list, joined_nodes, consed_nodes, bracketed_nodes, let_of, try_of}
 
 -- the expression that one token is
 abbrev pub literal_key : Key → Option Expr
@@ -138,8 +138,8 @@ module _ (inner : Level → Reader Node) (room : ℕ) where
     Ok (first, shut.1)
 
   -- an expression in brackets, or a tuple
-  unfoldable pub grouped : ℕ → Reader Node
-  grouped at f = do
+  unfoldable pub grouped_expression : ℕ → Reader Node
+  grouped_expression at f = do
     first ← inner levels.Whole f
     if is_symbol symbols.Comma first.1 then tuple at first.0 first.1 else single first.0 first.1
 
@@ -147,7 +147,7 @@ module _ (inner : Level → Reader Node) (room : ℕ) where
   unfoldable pub parens_behind : ℕ → Reader Node
   parens_behind at f =
       if is_symbol symbols.ParenClose f then Ok (leaf x.Unit at, behind f)
-      else if begins_expr f then grouped at f
+      else if begins_expr f then grouped_expression at f
       else Err (Expected (wanted.Symbol symbols.ParenClose) (place f))
 
   unfoldable pub parens : Reader Node
@@ -168,7 +168,7 @@ module _ (inner : Level → Reader Node) (room : ℕ) where
     first ← inner levels.Whole f
     all ← more (inner levels.Whole) begins_expr symbols.Comma limits.Items wanted.AnExpr 62 (first.0 ∷ []) first.1
     shut ← need_symbol symbols.BracketClose all.1
-    Ok (bracketed all.0 (leaf (x.Nil None) (place all.1)), shut.1)
+    Ok (bracketed_nodes all.0 (leaf (x.Nil None) (place all.1)), shut.1)
 
   -- what a square bracket begins
   unfoldable pub brackets_behind : ℕ → Reader Node
@@ -334,8 +334,8 @@ module _ (inner : Level → Reader Node) (room : ℕ) where
   symbol_form _ f = Err (Expected wanted.AnExpr (place f))
 
   -- a part of a tuple
-  unfoldable pub picked : ℕ → Reader Node
-  picked i f = do
+  unfoldable pub picked_part : ℕ → Reader Node
+  picked_part i f = do
     open_part ← opens room f
     a ← inner levels.Operand (behind f)
     Ok (over_one (x.Part i a.0.tree) (place f) a.0, a.1)
@@ -345,45 +345,45 @@ module _ (inner : Level → Reader Node) (room : ℕ) where
   operand_kind f (Some (kinds.Word _)) = name_operand f
   operand_kind f (Some (kinds.Key k)) = key_form k f
   operand_kind f (Some (kinds.Symbol s)) = symbol_form s f
-  operand_kind f (Some (kinds.Part i)) = picked i f
+  operand_kind f (Some (kinds.Part i)) = picked_part i f
   operand_kind f k = literal_from f (literal k)
 
   unfoldable pub operand : Reader Node
   operand f = operand_kind f (next_kind f)
 
   -- operands at a level, joined from left to right
-  unfoldable pub chained : Reader Node → Chain → Reader Node
-  chained one chain f = do
+  unfoldable pub chained_operands : Reader Node → Chain → Reader Node
+  chained_operands one chain f = do
     first ← one f
     chain_from one chain (length first.1.tokens) first.0 first.1
 
   unfoldable pub product : Reader Node
-  product f = chained operand chains.Product f
+  product f = chained_operands operand chains.Product f
 
   unfoldable pub addition : Reader Node
-  addition f = chained product chains.Sum f
+  addition f = chained_operands product chains.Sum f
 
   -- an item before the rest of a list
   unfoldable pub before_list : Node → Reader Node
   before_list item f = do
     open_list ← opens_at begins_operand room f
     rest ← inner levels.Listed f
-    Ok (consed item rest.0, rest.1)
+    Ok (consed_nodes item rest.0, rest.1)
 
-  unfoldable pub listed : Reader Node
-  listed f = do
+  unfoldable pub listed_operands : Reader Node
+  listed_operands f = do
     item ← addition f
     if is_symbol symbols.DoubleColon item.1 then before_list item.0 (behind item.1) else Ok item
 
   -- at most one comparison
-  abbrev pub compared : Node → Front → Option Joint → Result (Node × Front) ParseFault
-  compared left f (Some joint) = listed (behind f) >>= λ right. Ok (joined_nodes joint left right.0, right.1)
-  compared left f None = Ok (left, f)
+  abbrev pub compared_operands : Node → Front → Option Joint → Result (Node × Front) ParseFault
+  compared_operands left f (Some joint) = listed_operands (behind f) >>= λ right. Ok (joined_nodes joint left right.0, right.1)
+  compared_operands left f None = Ok (left, f)
 
   unfoldable pub comparison : Reader Node
   comparison f = do
-    left ← listed f
-    compared left.0 left.1 (joint_of chains.Comparison (next_kind left.1))
+    left ← listed_operands f
+    compared_operands left.0 left.1 (joint_of chains.Comparison (next_kind left.1))
 
   unfoldable pub negation : Reader Node
   negation f = do
@@ -391,14 +391,14 @@ module _ (inner : Level → Reader Node) (room : ℕ) where
     a ← inner levels.Negated (behind f)
     Ok (over_one (x.Not a.0.tree) (place f) a.0, a.1)
 
-  unfoldable pub negated : Reader Node
-  negated f = if is_key keys.Not f then negation f else comparison f
+  unfoldable pub negated_operand : Reader Node
+  negated_operand f = if is_key keys.Not f then negation f else comparison f
 
   unfoldable pub conjunction : Reader Node
-  conjunction f = chained negated chains.And f
+  conjunction f = chained_operands negated_operand chains.And f
 
   unfoldable pub disjunction : Reader Node
-  disjunction f = chained conjunction chains.Or f
+  disjunction f = chained_operands conjunction chains.Or f
 
   unfoldable pub condition : Reader Node
   condition f = do
@@ -428,8 +428,8 @@ module _ (inner : Level → Reader Node) (room : ℕ) where
   unfoldable pub at_level : Level → Reader Node
   at_level levels.Whole f = whole f
   at_level levels.Low f = low f
-  at_level levels.Negated f = negated f
-  at_level levels.Listed f = listed f
+  at_level levels.Negated f = negated_operand f
+  at_level levels.Listed f = listed_operands f
   at_level levels.Operand f = operand f
 
 -- an expression at a level, with room for so many open constructs less one

@@ -64,13 +64,13 @@ abbrev pub joined_nodes : Joint → Node → Node → Node
 joined_nodes joint a b = over_two (joined_tree joint a.tree b.tree) a.at a b
 
 -- an item before a list
-abbrev pub consed : Node → Node → Node
-consed a b = joined_nodes (joints.Operator ops.Cons) a b
+abbrev pub consed_nodes : Node → Node → Node
+consed_nodes a b = joined_nodes (joints.Operator ops.Cons) a b
 
 -- items in brackets, before the empty list that the closing bracket stands for
-abbrev pub bracketed : List Node → Node → Node
-bracketed [] end = end
-bracketed (n ∷ ns) end = consed n (bracketed ns end)
+abbrev pub bracketed_nodes : List Node → Node → Node
+bracketed_nodes [] end = end
+bracketed_nodes (n ∷ ns) end = consed_nodes n (bracketed_nodes ns end)
 
 -- one `val` around what follows it
 abbrev pub bound : Bound → Node → Node

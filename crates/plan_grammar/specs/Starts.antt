@@ -11,7 +11,7 @@ use Rattle.plan_grammar.specs.declared.start.Start.TheVariants as starts
 use Rattle.plan_grammar.specs.declared.level.Level.{Level}
 use Rattle.plan_grammar.specs.declared.node.Node.{Node}
 use Rattle.plan_grammar.specs.Ahead.{Reader, next_kind}
-use Rattle.plan_grammar.specs.Exprs.{literal, literal_from, name_operand, let_form, try_form, raise_form, foldl_form, foldr_form, eval_form, remote_form, neighbor_form, parens, brackets, chunk, picked}
+use Rattle.plan_grammar.specs.Exprs.{literal, literal_from, name_operand, let_form, try_form, raise_form, foldl_form, foldr_form, eval_form, remote_form, neighbor_form, parens, brackets, chunk, picked_part}
 
 -- what a reserved word begins
 abbrev pub key_start : Key → Start
@@ -54,5 +54,5 @@ start_at inner room starts.OnNeighbor f = neighbor_form inner room f
 start_at inner room starts.Paren f = parens inner room f
 start_at inner room starts.Bracket f = brackets inner room f
 start_at inner room starts.Bar f = chunk inner room f
-start_at inner room (starts.Part i) f = picked inner room i f
+start_at inner room (starts.Part i) f = picked_part inner room i f
 start_at inner room starts.Literal f = literal_from f (literal (next_kind f))

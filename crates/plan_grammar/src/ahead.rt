@@ -66,7 +66,7 @@ impl<'a> Ahead<'a> {
         self.end
     }
 
-    pub fn left(&self) -> usize
+    pub fn tokens_left(&self) -> usize
         ensures { result ≡ length self.now.tokens }
     {
         self.tokens.len()

@@ -7,7 +7,7 @@ ghost use Rattle.plan_grammar.specs.Inside.{ReadsExprs};
 
 use crate::ahead::Ahead;
 use crate::begins::begins_expr;
-use crate::builder::{bracketed, kept, together};
+use crate::builder::{bracketed_items, keep_node, together};
 use crate::fault::{ParseFault, Wanted};
 use crate::level::Level;
 use crate::node::{Node, leaf, over};
@@ -149,16 +149,16 @@ impl<F: Fn(Global, u32, Level, &mut Ahead<'_>) -> Result<Node, ParseFault>> Expr
     fn single(&self, ahead: &mut Ahead<'_>, first: Node) -> Result<Node, ParseFault>
         ensures { Gives (spec.single (expr_to self.now.room) self.now.room first ahead.old) result ahead.new }
     {
-        let first = kept(self.alloc, first)?;
+        let first = keep_node(self.alloc, first)?;
         ahead.need_symbol(Symbol::ParenClose)?;
         Ok(first.into_inner())
     }
 
     /// An expression in brackets, or a tuple.
-    #[tactic(auto, unfolding(crate::specs::Exprs::grouped))]
-    fn grouped(&self, ahead: &mut Ahead<'_>, at: u32) -> Result<Node, ParseFault>
+    #[tactic(auto, unfolding(crate::specs::Exprs::grouped_expression))]
+    fn group_or_tuple(&self, ahead: &mut Ahead<'_>, at: u32) -> Result<Node, ParseFault>
         requires { ReadsExprs self.now.room (F.pre self.now.read) (F.post self.now.read) }
-        ensures { Gives (spec.grouped (expr_to self.now.room) self.now.room at ahead.old) result ahead.new }
+        ensures { Gives (spec.grouped_expression (expr_to self.now.room) self.now.room at ahead.old) result ahead.new }
     {
         let first = self.inner(ahead, Level::Whole)?;
         if ahead.is_symbol(Symbol::Comma) {
@@ -177,7 +177,7 @@ impl<F: Fn(Global, u32, Level, &mut Ahead<'_>) -> Result<Node, ParseFault>> Expr
             return Ok(leaf(self.alloc, Expr::Unit, at));
         }
         if begins_expr(ahead) {
-            return self.grouped(ahead, at);
+            return self.group_or_tuple(ahead, at);
         }
         Err(ParseFault::Expected(Wanted::Symbol(Symbol::ParenClose), ahead.place()))
     }
@@ -217,7 +217,7 @@ impl<F: Fn(Global, u32, Level, &mut Ahead<'_>) -> Result<Node, ParseFault>> Expr
         let at = ahead.place();
         ahead.need_symbol(Symbol::BracketClose)?;
         let end = leaf(self.alloc, Expr::Nil(None), at);
-        bracketed(self.alloc, items, end)
+        bracketed_items(self.alloc, items, end)
     }
 
     #[tactic(auto, unfolding(crate::specs::Exprs::brackets_behind))]

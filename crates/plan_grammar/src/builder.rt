@@ -6,13 +6,13 @@ ghost use Rattle.plan_base.specs.declared.tree.Expr.TheVariants as x;
 
 use crate::fault::ParseFault;
 use crate::joint::{Joint, joined_tree};
-use crate::node::{Below, Bound, Caught, Node, both, boxed, boxed_two, over};
+use crate::node::{Below, Bound, Caught, Node, both, boxed_one, boxed_two, over};
 use plan_base::{Clause, Clauses, Expr, Exprs, Op};
 use plan_items::{Boxed, Items};
 use std::alloc::Global;
 
 /// Two operands with what joins them.
-pub fn joined(alloc: Global, joint: Joint, a: Node, b: Node) -> Result<Node, ParseFault>
+pub fn join_nodes(alloc: Global, joint: Joint, a: Node, b: Node) -> Result<Node, ParseFault>
     ensures { Answers (Ok (spec.joined_nodes joint a b)) result }
 {
     let at = a.at;
@@ -29,12 +29,12 @@ pub fn joined_kept(
 ) -> Result<Boxed<Node>, ParseFault>
     ensures { Answers (Ok (spec.joined_nodes joint a b)) result }
 {
-    let node = joined(alloc, joint, a.into_inner(), b)?;
-    kept(alloc, node)
+    let node = join_nodes(alloc, joint, a.into_inner(), b)?;
+    keep_node(alloc, node)
 }
 
 /// An expression before another, at the place of the first.
-pub fn followed(alloc: Global, a: Node, b: Node) -> Result<Node, ParseFault>
+pub fn put_before(alloc: Global, a: Node, b: Node) -> Result<Node, ParseFault>
     ensures { Answers (Ok (spec.over_two (x.Then a.tree b.tree) a.at a b)) result }
 {
     let at = a.at;
@@ -43,7 +43,7 @@ pub fn followed(alloc: Global, a: Node, b: Node) -> Result<Node, ParseFault>
 }
 
 /// An expression on the heap, while more is read.
-pub fn kept(alloc: Global, node: Node) -> Result<Boxed<Node>, ParseFault>
+pub fn keep_node(alloc: Global, node: Node) -> Result<Boxed<Node>, ParseFault>
     ensures { Answers (Ok node) result }
 {
     Ok(Boxed::new(alloc, node)?)
@@ -51,13 +51,13 @@ pub fn kept(alloc: Global, node: Node) -> Result<Boxed<Node>, ParseFault>
 
 /// Items in brackets, before the empty list that the closing bracket stands for.
 #[tactic(auto, using(crate::proofs::Builds::bracketed_last))]
-pub fn bracketed(alloc: Global, items: Items<Node>, end: Node) -> Result<Node, ParseFault>
-    ensures { Answers (Ok (spec.bracketed items end)) result }
+pub fn bracketed_items(alloc: Global, items: Items<Node>, end: Node) -> Result<Node, ParseFault>
+    ensures { Answers (Ok (spec.bracketed_nodes items end)) result }
 {
     let mut items = items;
     let mut list = end;
     while let Some(item) = items.pop() {
-        list = joined(alloc, Joint::Operator(Op::Cons), item, list)?;
+        list = join_nodes(alloc, Joint::Operator(Op::Cons), item, list)?;
     }
     Ok(list)
 }
@@ -131,7 +131,7 @@ fn clauses(alloc: Global, caught: Items<Caught>) -> Result<(Clauses, Below), Par
 pub fn try_of(alloc: Global, at: u32, body: Node, caught: Items<Caught>) -> Result<Node, ParseFault>
     ensures { Answers (Ok (spec.try_of at body caught)) result }
 {
-    let (body, below_body) = boxed(alloc, body)?;
+    let (body, below_body) = boxed_one(alloc, body)?;
     let (clauses, below_clauses) = clauses(alloc, caught)?;
     let below = both(below_body, below_clauses)?;
     Ok(over(alloc, Expr::Try(body, clauses), at, below))

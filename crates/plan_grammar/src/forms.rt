@@ -11,7 +11,7 @@ use crate::builder::{let_of, try_of};
 use crate::fault::{ParseFault, Wanted};
 use crate::level::Level;
 use crate::node::{
-    Bound, Caught, FoldParts, Node, SendParts, boxed, boxed_before, boxed_two, leaf, over,
+    Bound, Caught, FoldParts, Node, SendParts, boxed_before, boxed_one, boxed_two, leaf, over,
 };
 use crate::reader::{ExprReader, name_at, need_open};
 use crate::types::{opens, type_to};
@@ -127,7 +127,7 @@ impl<F: Fn(Global, u32, Level, &mut Ahead<'_>) -> Result<Node, ParseFault>> Expr
         ensures { Gives (spec.bindings_from (expr_to self.now.room) self.now.room (length ahead.old.tokens) bounds ahead.old) result ahead.new }
     {
         let mut bounds = bounds;
-        for _ in 0..ahead.left() {
+        for _ in 0..ahead.tokens_left() {
             if !ahead.is_key(Key::Val) {
                 return Ok(bounds);
             }
@@ -245,7 +245,7 @@ impl<F: Fn(Global, u32, Level, &mut Ahead<'_>) -> Result<Node, ParseFault>> Expr
         ahead.skip();
         need_open(self.room, ahead)?;
         let chunk = self.before_close(ahead)?;
-        let (chunk, below) = boxed(self.alloc, chunk.into_inner())?;
+        let (chunk, below) = boxed_one(self.alloc, chunk.into_inner())?;
         Ok(over(self.alloc, Expr::Eval(chunk), at, below))
     }
 

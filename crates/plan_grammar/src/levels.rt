@@ -9,12 +9,12 @@ ghost use Rattle.plan_grammar.specs.Starts.{start_at};
 
 use crate::ahead::Ahead;
 use crate::atoms::literal_at;
-use crate::builder::{followed, joined, joined_kept, kept};
+use crate::builder::{join_nodes, joined_kept, keep_node, put_before};
 use crate::fault::ParseFault;
 use crate::forms::raise_form;
 use crate::joint::{Chain, Joint, next_joint};
 use crate::level::Level;
-use crate::node::{Node, boxed, boxed_before, boxed_two, over};
+use crate::node::{Node, boxed_before, boxed_one, boxed_two, over};
 use crate::reader::{ExprReader, opens_expr, opens_operand};
 use crate::start::{Start, next_start};
 use crate::types::opens;
@@ -24,21 +24,21 @@ use std::alloc::Global;
 
 impl<F: Fn(Global, u32, Level, &mut Ahead<'_>) -> Result<Node, ParseFault>> ExprReader<F> {
     /// A part of a tuple.
-    #[tactic(auto, unfolding(crate::specs::Exprs::picked))]
-    fn picked(&self, ahead: &mut Ahead<'_>, number: u8) -> Result<Node, ParseFault>
+    #[tactic(auto, unfolding(crate::specs::Exprs::picked_part))]
+    fn pick_part(&self, ahead: &mut Ahead<'_>, number: u8) -> Result<Node, ParseFault>
         requires { ReadsExprs self.now.room (F.pre self.now.read) (F.post self.now.read) }
-        ensures { Gives (spec.picked (expr_to self.now.room) self.now.room number ahead.old) result ahead.new }
+        ensures { Gives (spec.picked_part (expr_to self.now.room) self.now.room number ahead.old) result ahead.new }
     {
         opens(self.room, ahead)?;
         let at = ahead.place();
         ahead.skip();
         let tuple = self.inner(ahead, Level::Operand)?;
-        let (tuple, below) = boxed(self.alloc, tuple)?;
+        let (tuple, below) = boxed_one(self.alloc, tuple)?;
         Ok(over(self.alloc, Expr::Part(number, tuple), at, below))
     }
 
     /// An operand that begins so.
-    fn started(&self, ahead: &mut Ahead<'_>, start: Start) -> Result<Node, ParseFault>
+    fn start_operand(&self, ahead: &mut Ahead<'_>, start: Start) -> Result<Node, ParseFault>
         requires { ReadsExprs self.now.room (F.pre self.now.read) (F.post self.now.read) }
         ensures { Gives (start_at (expr_to self.now.room) self.now.room start ahead.old) result ahead.new }
     {
@@ -55,7 +55,7 @@ impl<F: Fn(Global, u32, Level, &mut Ahead<'_>) -> Result<Node, ParseFault>> Expr
             Start::Paren => self.parens(ahead),
             Start::Bracket => self.brackets(ahead),
             Start::Bar => self.chunk(ahead),
-            Start::Part(number) => self.picked(ahead, number),
+            Start::Part(number) => self.pick_part(ahead, number),
             Start::Literal => literal_at(self.alloc, ahead),
         }
     }
@@ -66,7 +66,7 @@ impl<F: Fn(Global, u32, Level, &mut Ahead<'_>) -> Result<Node, ParseFault>> Expr
         ensures { Gives (spec.operand (expr_to self.now.room) self.now.room ahead.old) result ahead.new }
     {
         let start = next_start(ahead);
-        self.started(ahead, start)
+        self.start_operand(ahead, start)
     }
 
     /// Further factors, of which there are no more than tokens.
@@ -75,8 +75,8 @@ impl<F: Fn(Global, u32, Level, &mut Ahead<'_>) -> Result<Node, ParseFault>> Expr
         requires { ReadsExprs self.now.room (F.pre self.now.read) (F.post self.now.read) }
         ensures { Gives (spec.chain_from (spec.operand (expr_to self.now.room) self.now.room) Chain.Product (length ahead.old.tokens) left ahead.old) result ahead.new }
     {
-        let mut left = kept(self.alloc, left)?;
-        for _ in 0..ahead.left() {
+        let mut left = keep_node(self.alloc, left)?;
+        for _ in 0..ahead.tokens_left() {
             let Some(joint) = next_joint(Chain::Product, ahead) else {
                 return Ok(left.into_inner());
             };
@@ -87,7 +87,7 @@ impl<F: Fn(Global, u32, Level, &mut Ahead<'_>) -> Result<Node, ParseFault>> Expr
         Ok(left.into_inner())
     }
 
-    #[tactic(auto, unfolding(crate::specs::Exprs::product, crate::specs::Exprs::chained))]
+    #[tactic(auto, unfolding(crate::specs::Exprs::product, crate::specs::Exprs::chained_operands))]
     fn product(&self, ahead: &mut Ahead<'_>) -> Result<Node, ParseFault>
         requires { ReadsExprs self.now.room (F.pre self.now.read) (F.post self.now.read) }
         ensures { Gives (spec.product (expr_to self.now.room) self.now.room ahead.old) result ahead.new }
@@ -102,8 +102,8 @@ impl<F: Fn(Global, u32, Level, &mut Ahead<'_>) -> Result<Node, ParseFault>> Expr
         requires { ReadsExprs self.now.room (F.pre self.now.read) (F.post self.now.read) }
         ensures { Gives (spec.chain_from (spec.product (expr_to self.now.room) self.now.room) Chain.Sum (length ahead.old.tokens) left ahead.old) result ahead.new }
     {
-        let mut left = kept(self.alloc, left)?;
-        for _ in 0..ahead.left() {
+        let mut left = keep_node(self.alloc, left)?;
+        for _ in 0..ahead.tokens_left() {
             let Some(joint) = next_joint(Chain::Sum, ahead) else {
                 return Ok(left.into_inner());
             };
@@ -114,7 +114,7 @@ impl<F: Fn(Global, u32, Level, &mut Ahead<'_>) -> Result<Node, ParseFault>> Expr
         Ok(left.into_inner())
     }
 
-    #[tactic(auto, unfolding(crate::specs::Exprs::addition, crate::specs::Exprs::chained))]
+    #[tactic(auto, unfolding(crate::specs::Exprs::addition, crate::specs::Exprs::chained_operands))]
     fn addition(&self, ahead: &mut Ahead<'_>) -> Result<Node, ParseFault>
         requires { ReadsExprs self.now.room (F.pre self.now.read) (F.post self.now.read) }
         ensures { Gives (spec.addition (expr_to self.now.room) self.now.room ahead.old) result ahead.new }
@@ -129,10 +129,10 @@ impl<F: Fn(Global, u32, Level, &mut Ahead<'_>) -> Result<Node, ParseFault>> Expr
         requires { ReadsExprs self.now.room (F.pre self.now.read) (F.post self.now.read) }
         ensures { Gives (spec.before_list (expr_to self.now.room) self.now.room item ahead.old) result ahead.new }
     {
-        let item = kept(self.alloc, item)?;
+        let item = keep_node(self.alloc, item)?;
         opens_operand(self.room, ahead)?;
         let rest = self.inner(ahead, Level::Listed)?;
-        joined(
+        join_nodes(
             self.alloc,
             Joint::Operator(Op::Cons),
             item.into_inner(),
@@ -140,10 +140,10 @@ impl<F: Fn(Global, u32, Level, &mut Ahead<'_>) -> Result<Node, ParseFault>> Expr
         )
     }
 
-    #[tactic(auto, unfolding(crate::specs::Exprs::listed))]
-    fn listed(&self, ahead: &mut Ahead<'_>) -> Result<Node, ParseFault>
+    #[tactic(auto, unfolding(crate::specs::Exprs::listed_operands))]
+    fn listed_level(&self, ahead: &mut Ahead<'_>) -> Result<Node, ParseFault>
         requires { ReadsExprs self.now.room (F.pre self.now.read) (F.post self.now.read) }
-        ensures { Gives (spec.listed (expr_to self.now.room) self.now.room ahead.old) result ahead.new }
+        ensures { Gives (spec.listed_operands (expr_to self.now.room) self.now.room ahead.old) result ahead.new }
     {
         let item = self.addition(ahead)?;
         if ahead.is_symbol(Symbol::DoubleColon) {
@@ -154,17 +154,17 @@ impl<F: Fn(Global, u32, Level, &mut Ahead<'_>) -> Result<Node, ParseFault>> Expr
     }
 
     /// At most one comparison behind its left side.
-    fn compared(&self, ahead: &mut Ahead<'_>, left: Node) -> Result<Node, ParseFault>
+    fn comparison_behind(&self, ahead: &mut Ahead<'_>, left: Node) -> Result<Node, ParseFault>
         requires { ReadsExprs self.now.room (F.pre self.now.read) (F.post self.now.read) }
-        ensures { Gives (spec.compared (expr_to self.now.room) self.now.room left ahead.old (joint_of Chain.Comparison (next_kind ahead.old))) result ahead.new }
+        ensures { Gives (spec.compared_operands (expr_to self.now.room) self.now.room left ahead.old (joint_of Chain.Comparison (next_kind ahead.old))) result ahead.new }
     {
         let Some(joint) = next_joint(Chain::Comparison, ahead) else {
             return Ok(left);
         };
         ahead.skip();
-        let left = kept(self.alloc, left)?;
-        let right = self.listed(ahead)?;
-        joined(self.alloc, joint, left.into_inner(), right)
+        let left = keep_node(self.alloc, left)?;
+        let right = self.listed_level(ahead)?;
+        join_nodes(self.alloc, joint, left.into_inner(), right)
     }
 
     #[tactic(auto, unfolding(crate::specs::Exprs::comparison))]
@@ -172,8 +172,8 @@ impl<F: Fn(Global, u32, Level, &mut Ahead<'_>) -> Result<Node, ParseFault>> Expr
         requires { ReadsExprs self.now.room (F.pre self.now.read) (F.post self.now.read) }
         ensures { Gives (spec.comparison (expr_to self.now.room) self.now.room ahead.old) result ahead.new }
     {
-        let left = self.listed(ahead)?;
-        self.compared(ahead, left)
+        let left = self.listed_level(ahead)?;
+        self.comparison_behind(ahead, left)
     }
 
     #[tactic(auto, unfolding(crate::specs::Exprs::negation))]
@@ -185,14 +185,14 @@ impl<F: Fn(Global, u32, Level, &mut Ahead<'_>) -> Result<Node, ParseFault>> Expr
         let at = ahead.place();
         ahead.skip();
         let negated = self.inner(ahead, Level::Negated)?;
-        let (negated, below) = boxed(self.alloc, negated)?;
+        let (negated, below) = boxed_one(self.alloc, negated)?;
         Ok(over(self.alloc, Expr::Not(negated), at, below))
     }
 
-    #[tactic(auto, unfolding(crate::specs::Exprs::negated))]
-    fn negated(&self, ahead: &mut Ahead<'_>) -> Result<Node, ParseFault>
+    #[tactic(auto, unfolding(crate::specs::Exprs::negated_operand))]
+    fn negated_level(&self, ahead: &mut Ahead<'_>) -> Result<Node, ParseFault>
         requires { ReadsExprs self.now.room (F.pre self.now.read) (F.post self.now.read) }
-        ensures { Gives (spec.negated (expr_to self.now.room) self.now.room ahead.old) result ahead.new }
+        ensures { Gives (spec.negated_operand (expr_to self.now.room) self.now.room ahead.old) result ahead.new }
     {
         if ahead.is_key(Key::Not) {
             return self.negation(ahead);
@@ -204,26 +204,26 @@ impl<F: Fn(Global, u32, Level, &mut Ahead<'_>) -> Result<Node, ParseFault>> Expr
     #[tactic(auto, using(crate::proofs::Chains::chain_done, crate::proofs::Chains::chain_end, crate::proofs::Chains::chain_stop, crate::proofs::Chains::chain_step))]
     fn conjunction_from(&self, ahead: &mut Ahead<'_>, left: Node) -> Result<Node, ParseFault>
         requires { ReadsExprs self.now.room (F.pre self.now.read) (F.post self.now.read) }
-        ensures { Gives (spec.chain_from (spec.negated (expr_to self.now.room) self.now.room) Chain.And (length ahead.old.tokens) left ahead.old) result ahead.new }
+        ensures { Gives (spec.chain_from (spec.negated_operand (expr_to self.now.room) self.now.room) Chain.And (length ahead.old.tokens) left ahead.old) result ahead.new }
     {
-        let mut left = kept(self.alloc, left)?;
-        for _ in 0..ahead.left() {
+        let mut left = keep_node(self.alloc, left)?;
+        for _ in 0..ahead.tokens_left() {
             let Some(joint) = next_joint(Chain::And, ahead) else {
                 return Ok(left.into_inner());
             };
             ahead.skip();
-            let right = self.negated(ahead)?;
+            let right = self.negated_level(ahead)?;
             left = joined_kept(self.alloc, joint, left, right)?;
         }
         Ok(left.into_inner())
     }
 
-    #[tactic(auto, unfolding(crate::specs::Exprs::conjunction, crate::specs::Exprs::chained))]
+    #[tactic(auto, unfolding(crate::specs::Exprs::conjunction, crate::specs::Exprs::chained_operands))]
     fn conjunction(&self, ahead: &mut Ahead<'_>) -> Result<Node, ParseFault>
         requires { ReadsExprs self.now.room (F.pre self.now.read) (F.post self.now.read) }
         ensures { Gives (spec.conjunction (expr_to self.now.room) self.now.room ahead.old) result ahead.new }
     {
-        let first = self.negated(ahead)?;
+        let first = self.negated_level(ahead)?;
         self.conjunction_from(ahead, first)
     }
 
@@ -233,8 +233,8 @@ impl<F: Fn(Global, u32, Level, &mut Ahead<'_>) -> Result<Node, ParseFault>> Expr
         requires { ReadsExprs self.now.room (F.pre self.now.read) (F.post self.now.read) }
         ensures { Gives (spec.chain_from (spec.conjunction (expr_to self.now.room) self.now.room) Chain.Or (length ahead.old.tokens) left ahead.old) result ahead.new }
     {
-        let mut left = kept(self.alloc, left)?;
-        for _ in 0..ahead.left() {
+        let mut left = keep_node(self.alloc, left)?;
+        for _ in 0..ahead.tokens_left() {
             let Some(joint) = next_joint(Chain::Or, ahead) else {
                 return Ok(left.into_inner());
             };
@@ -245,7 +245,7 @@ impl<F: Fn(Global, u32, Level, &mut Ahead<'_>) -> Result<Node, ParseFault>> Expr
         Ok(left.into_inner())
     }
 
-    #[tactic(auto, unfolding(crate::specs::Exprs::disjunction, crate::specs::Exprs::chained))]
+    #[tactic(auto, unfolding(crate::specs::Exprs::disjunction, crate::specs::Exprs::chained_operands))]
     fn disjunction(&self, ahead: &mut Ahead<'_>) -> Result<Node, ParseFault>
         requires { ReadsExprs self.now.room (F.pre self.now.read) (F.post self.now.read) }
         ensures { Gives (spec.disjunction (expr_to self.now.room) self.now.room ahead.old) result ahead.new }
@@ -289,10 +289,10 @@ impl<F: Fn(Global, u32, Level, &mut Ahead<'_>) -> Result<Node, ParseFault>> Expr
         requires { ReadsExprs self.now.room (F.pre self.now.read) (F.post self.now.read) }
         ensures { Gives (spec.before_next (expr_to self.now.room) self.now.room first ahead.old) result ahead.new }
     {
-        let first = kept(self.alloc, first)?;
+        let first = keep_node(self.alloc, first)?;
         opens_expr(self.room, ahead)?;
         let second = self.inner(ahead, Level::Whole)?;
-        followed(self.alloc, first.into_inner(), second)
+        put_before(self.alloc, first.into_inner(), second)
     }
 
     #[tactic(auto, unfolding(crate::specs::Exprs::whole))]
@@ -317,8 +317,8 @@ impl<F: Fn(Global, u32, Level, &mut Ahead<'_>) -> Result<Node, ParseFault>> Expr
         match level {
             Level::Whole => self.whole(ahead),
             Level::Low => self.low(ahead),
-            Level::Negated => self.negated(ahead),
-            Level::Listed => self.listed(ahead),
+            Level::Negated => self.negated_level(ahead),
+            Level::Listed => self.listed_level(ahead),
             Level::Operand => self.operand(ahead),
         }
     }

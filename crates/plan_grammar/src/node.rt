@@ -98,7 +98,7 @@ pub fn over(alloc: Global, tree: Expr, at: u32, below: Below) -> Node
 }
 
 /// An expression on the heap, and what it adds to what stands below another.
-pub fn boxed(alloc: Global, node: Node) -> Result<(Boxed<Expr>, Below), ParseFault>
+pub fn boxed_one(alloc: Global, node: Node) -> Result<(Boxed<Expr>, Below), ParseFault>
     ensures { Answers (Ok (node.tree, spec.below_of node)) result }
 {
     let Node {
@@ -122,8 +122,8 @@ pub fn boxed_two(
 ) -> Result<(Boxed<Expr>, Boxed<Expr>, Below), ParseFault>
     ensures { Answers (Ok (a.tree, b.tree, spec.both (spec.below_of a) (spec.below_of b))) result }
 {
-    let a = boxed(alloc, a);
-    let b = boxed(alloc, b);
+    let a = boxed_one(alloc, a);
+    let b = boxed_one(alloc, b);
     let (a, below_a) = a?;
     let (b, below_b) = b?;
     Ok((a, b, both(below_a, below_b)?))
@@ -137,7 +137,7 @@ pub fn boxed_before(
 ) -> Result<(Boxed<Expr>, Below), ParseFault>
     ensures { Answers (Ok (node.tree, spec.both (spec.below_of node) behind)) result }
 {
-    let (tree, below) = boxed(alloc, node)?;
+    let (tree, below) = boxed_one(alloc, node)?;
     Ok((tree, both(below, behind)?))
 }
 

@@ -9,7 +9,7 @@ ghost use Rattle.plan_grammar.specs.Begins as begins;
 
 use crate::ahead::Ahead;
 use crate::begins::{begins_expr, begins_operand};
-use crate::builder::kept;
+use crate::builder::keep_node;
 use crate::fault::{ParseFault, Wanted};
 use crate::level::Level;
 use crate::node::Node;
@@ -101,7 +101,7 @@ impl<F: Fn(Global, u32, Level, &mut Ahead<'_>) -> Result<Node, ParseFault>> Expr
         ensures { Gives (expr_to self.now.room level ahead.old) result ahead.new }
     {
         let node = self.inner(ahead, level)?;
-        kept(self.alloc, node)
+        keep_node(self.alloc, node)
     }
 
     /// Further expressions behind commas, until there are `most` of them.

@@ -128,7 +128,7 @@ fn lists_of(alloc: Global, count: u32, t: Ty) -> Result<Ty, ParseFault>
 
 /// A list of lists of `base`, with `words` levels, which began at `start` and must not be too deep.
 #[tactic(auto, unfolding(crate::specs::Types::judged_type))]
-fn judged(alloc: Global, start: u32, words: usize, base: Ty) -> Result<Ty, ParseFault>
+fn judge_type(alloc: Global, start: u32, words: usize, base: Ty) -> Result<Ty, ParseFault>
     ensures { Answers (judged_type start words base) result }
 {
     let depth = base.depth() as usize;
@@ -233,7 +233,7 @@ impl<F: Fn(Global, u32, &mut Ahead<'_>) -> Result<Ty, ParseFault>> TypeReader<F>
         let start = ahead.place();
         let base = self.base_type(ahead)?;
         let words = take_lists(ahead);
-        judged(self.alloc, start, words, base)
+        judge_type(self.alloc, start, words, base)
     }
 }
 

@@ -21,11 +21,11 @@ digits_table =
     255 ∷ 255 ∷ 255 ∷ 255 ∷ 255 ∷ 255 ∷ 255 ∷ 255 ∷ 255 ∷ 255 ∷ 255 ∷ 255 ∷ 255 ∷ 255 ∷ 255 ∷ 255 ∷ 255 ∷ []
 
 -- what a function gives at n numbers from i on
-abbrev counted : ℕ → ℕ → (ℕ → ℕ) → List ℕ
-counted zero i f = []
-counted (suc n) i f = f i ∷ counted n (i + 1) f
+abbrev counted_values : ℕ → ℕ → (ℕ → ℕ) → List ℕ
+counted_values zero i f = []
+counted_values (suc n) i f = f i ∷ counted_values n (i + 1) f
 
-counted_at : (n i k : ℕ) (f : ℕ → ℕ) → k < n → get_or (counted n i f) k 0 ≡ f (i + k)
+counted_at : (n i k : ℕ) (f : ℕ → ℕ) → k < n → get_or (counted_values n i f) k 0 ≡ f (i + k)
 counted_at zero i k f h = absurd (omega arith)
 counted_at (suc n) i zero f h = ap f (omega arith)
 counted_at (suc n) i (suc k) f h = counted_at n (i + 1) k f (omega arith) ∙ ap f (omega arith)
@@ -35,7 +35,7 @@ abbrev worth : Option ℕ → ℕ
 worth None = 255
 worth (Some v) = v
 
-table_is : digits_table ≡ counted 256 0 (λ b. worth (hex_value b))
+table_is : digits_table ≡ counted_values 256 0 (λ b. worth (hex_value b))
 unfolding hex_value
 table_is = refl
 

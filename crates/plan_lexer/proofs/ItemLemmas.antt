@@ -2,7 +2,7 @@
 use Rattle.std.proofs.Common.{◌≡◌, ◌≢◌, ℕ, ◌+◌, ◌*◌, ◌/◌, ◌%◌, ◌<◌, ◌≤◌, Bool, true, false, List, [], ◌∷◌, ◌++◌, length, Some, None, refl, sym, arith, ltb}
 use Rattle.std.proofs.lemmas.Bool.Decides.{nat_tests}
 use lib.Utf8.{scalar, encode}
-use Rattle.plan_lexer.specs.CharItems.{continuation, shortest, two_bytes, three_bytes, four_bytes, wide_at, hex_value, escaped, hex_escape, escape_at, code_at, item_at}
+use Rattle.plan_lexer.specs.CharItems.{continuation, shortest, two_bytes, three_bytes, four_bytes, wide_at, hex_value, escaped_character, hex_escape, escape_at, code_at, item_at}
 use Rattle.plan_lexer.specs.TokenForms.{SpellsItem, plain, wide, letter, digits}
 use Rattle.plan_lexer.specs.declared.item.CharItem.TheVariants.{Code}
 
@@ -53,14 +53,14 @@ reads_plain : (quote c : ℕ) (rest : List ℕ) → 32 ≤ c → c < 127 → c �
 unfolding item_at code_at
 reads_plain quote c rest low high slash other = grind (arith, nat_tests)
 
-escaped_x : escaped 120 ≡ None
-unfolding escaped
+escaped_x : escaped_character 120 ≡ None
+unfolding escaped_character
 escaped_x = refl
 
-not_x : (l c : ℕ) → escaped l ≡ Some c → l ≡ 120 → ⊥
-not_x l c e h = let x = escaped_x in let g : escaped 120 ≡ Some c = rw (sym h) e in cc
+not_x : (l c : ℕ) → escaped_character l ≡ Some c → l ≡ 120 → ⊥
+not_x l c e h = let x = escaped_x in let g : escaped_character 120 ≡ Some c = rw (sym h) e in cc
 
-reads_letter : (quote l c : ℕ) (rest : List ℕ) → quote ≢ 92 → escaped l ≡ Some c → item_at quote (92 ∷ l ∷ rest) ≡ Code c 2
+reads_letter : (quote l c : ℕ) (rest : List ℕ) → quote ≢ 92 → escaped_character l ≡ Some c → item_at quote (92 ∷ l ∷ rest) ≡ Code c 2
 unfolding item_at code_at escape_at
 reads_letter quote l c rest other e = let x : l ≢ 120 = not_x l c e in grind (arith, nat_tests)
 

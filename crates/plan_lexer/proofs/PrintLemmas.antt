@@ -10,7 +10,7 @@ use Rattle.std.specs.List.{list_all, flat_map}
 use Rattle.std.specs.Str.{IsUtf8}
 use lib.Utf8.{encode, encodes, scalar, scalars}
 use Rattle.plan_items.proofs.Bools.{and_left, and_right}
-use Rattle.plan_lexer.specs.CharItems.{hex_value, escaped}
+use Rattle.plan_lexer.specs.CharItems.{hex_value, escaped_character}
 use Rattle.plan_lexer.specs.Numerals.{number_from, number_of}
 use Rattle.printed_forms.specs.Literals.{int_text, host_text, dev_text, part_text, hex_digit, hex_pair, byte_text, string_text, char_text, blob_text}
 use Rattle.plan_lexer.specs.TokenForms.{IsDigits, SpellsItem, plain, wide, letter, digits, SpellsItems, no_items, an_item, SpellsPairs, no_pairs, a_pair, Spells, int, negative, host, dev, part, char, string, blob}
@@ -80,16 +80,16 @@ pub spells_blob : (bytes : List ℕ) → ((i : ℕ) → get_or bytes i 0 < 256) 
 unfolding blob_text
 spells_blob bytes h = blob (flat_map hex_pair bytes) bytes (spells_pairs bytes h)
 
-quote_own : escaped 34 ≡ Some 34
-unfolding escaped
+quote_own : escaped_character 34 ≡ Some 34
+unfolding escaped_character
 quote_own = refl
 
-tick_own : escaped 39 ≡ Some 39
-unfolding escaped
+tick_own : escaped_character 39 ≡ Some 39
+unfolding escaped_character
 tick_own = refl
 
-escape_quote : (quote : ℕ) → escaped quote ≡ Some quote → (b : ℕ) → ((b == quote) || (b == 92)) ≡ true → escaped b ≡ Some b
-unfolding escaped
+escape_quote : (quote : ℕ) → escaped_character quote ≡ Some quote → (b : ℕ) → ((b == quote) || (b == 92)) ≡ true → escaped_character b ≡ Some b
+unfolding escaped_character
 escape_quote quote e b h = grind (arith, nat_tests)
 
 spells_control : (quote b : ℕ) → b < 128 → SpellsItem quote (92 ∷ 120 ∷ hex_pair b) b
@@ -97,14 +97,14 @@ spells_control quote b small =
     subst (λ x. SpellsItem quote (92 ∷ 120 ∷ hex_pair b) x) (omega arith)
     (digits (hex_digit (b / 16)) (hex_digit (b % 16)) (b / 16) (b % 16) (hex_value-digit (b / 16) (omega arith)) (hex_value-digit (b % 16) (omega arith)) (omega arith))
 
-spells_letter : (quote l b c : ℕ) → b ≡ c → escaped l ≡ Some c → SpellsItem quote (92 ∷ l ∷ []) b
+spells_letter : (quote l b c : ℕ) → b ≡ c → escaped_character l ≡ Some c → SpellsItem quote (92 ∷ l ∷ []) b
 spells_letter quote l b c e h = subst (λ x. SpellsItem quote (92 ∷ l ∷ []) x) (sym e) (letter l c h)
 
-module _ (quote : ℕ) (own : escaped quote ≡ Some quote) where
+module _ (quote : ℕ) (own : escaped_character quote ≡ Some quote) where
   byte_by : (b : ℕ) → b < 128 → (q : Bool) → ((b == quote) || (b == 92)) ≡ q → (n : Bool) → (b == 10) ≡ n → (t : Bool) → (b == 9) ≡ t → (r : Bool) → (b == 13) ≡ r
       → (x : Bool) → (nat_lt b 32 || (b == 127)) ≡ x
       → SpellsItem quote (cond q (92 ∷ b ∷ []) (cond n (92 ∷ 110 ∷ []) (cond t (92 ∷ 116 ∷ []) (cond r (92 ∷ 114 ∷ []) (cond x (92 ∷ 120 ∷ hex_pair b) (b ∷ [])))))) b
-  unfolding escaped
+  unfolding escaped_character
   byte_by b small true e n f t g r h x i = letter b b (escape_quote quote own b e)
   byte_by b small false e true f t g r h x i = spells_letter quote 110 b 10 (grind (arith, nat_tests)) refl
   byte_by b small false e false f true g r h x i = spells_letter quote 116 b 9 (grind (arith, nat_tests)) refl

@@ -5,7 +5,7 @@ use Rattle.std.proofs.lemmas.Str.{IsUtf8-append, IsUtf8-encode, IsUtf8-nil, enco
 use Rattle.std.specs.Char.{IsScalar}
 use Rattle.std.specs.Str.{IsUtf8}
 use lib.Utf8.{encode, low_scalar}
-use Rattle.plan_lexer.specs.CharItems.{hex_value, escaped}
+use Rattle.plan_lexer.specs.CharItems.{hex_value, escaped_character}
 use Rattle.plan_lexer.specs.Scanning.{rest_at, Toks, ends, skips, takes}
 use Rattle.plan_lexer.specs.TokenForms.{SpellsItem, plain, wide, letter, digits, SpellsItems, no_items, an_item, SpellsPairs, no_pairs, a_pair, Spells, name, key, int, negative, host, dev, part, char, string, blob, symbol}
 use Rattle.plan_lexer.specs.TokenRules.{IsKind, AreTokens}
@@ -18,8 +18,8 @@ pub hex_small : (b v : ℕ) → hex_value b ≡ Some v → v < 16
 unfolding hex_value
 hex_small b v e = grind (arith, nat_tests)
 
-escape_small : (l c : ℕ) → escaped l ≡ Some c → c < 128
-unfolding escaped
+escape_small : (l c : ℕ) → escaped_character l ≡ Some c → c < 128
+unfolding escaped_character
 escape_small l c e = grind (arith, nat_tests)
 
 item_scalar : (quote : ℕ) (front : List ℕ) (c : ℕ) → SpellsItem quote front c → IsScalar c

@@ -2,7 +2,7 @@
 use Rattle.std.proofs.Common.{◌≡◌, ◌≢◌, ℕ, ◌+◌, ◌*◌, ◌<◌, ◌≤◌, Bool, true, false, cond, List, [], ◌∷◌, ◌++◌, length, Option, Some, None, refl, sym, ap, ◌∙◌, subst, arith, nat_lt, ◌==◌}
 use Rattle.std.proofs.lemmas.Bool.Decides.{nat_tests}
 use lib.Utf8.{scalar, encode}
-use Rattle.plan_lexer.specs.CharItems.{continuation, shortest, two_bytes, three_bytes, four_bytes, wide_at, hex_value, escaped, hex_escape, escape_at, code_at, item_at, item_from}
+use Rattle.plan_lexer.specs.CharItems.{continuation, shortest, two_bytes, three_bytes, four_bytes, wide_at, hex_value, escaped_character, hex_escape, escape_at, code_at, item_at, item_from}
 use Rattle.plan_lexer.specs.TokenForms.{SpellsItem, plain, wide, letter, digits}
 use Rattle.plan_lexer.specs.declared.item.CharItem.TheVariants.{Closes, Open, Wrong, Code}
 
@@ -87,8 +87,8 @@ wide_front quote a more c n e = by_lead (nat_lt a 192) refl (nat_lt a 224) refl 
     by_lead false e0 false e1 false e2 true e3 h = four_front quote a more c n (grind (arith, nat_tests)) (grind (arith, nat_tests)) h
     by_lead false e0 false e1 false e2 false e3 h = absurd (no_code c n h)
 
-letter_sound : (l c n : ℕ) (rest : List ℕ) → l ≢ 120 → IsCode (escape_at (92 ∷ l ∷ rest)) c n → (escaped l ≡ Some c) × (n ≡ 2)
-unfolding escape_at escaped
+letter_sound : (l c n : ℕ) (rest : List ℕ) → l ≢ 120 → IsCode (escape_at (92 ∷ l ∷ rest)) c n → (escaped_character l ≡ Some c) × (n ≡ 2)
+unfolding escape_at escaped_character
 letter_sound l c n rest other e = grind (arith, nat_tests)
 
 no_high : (h l c n : ℕ) (rest : List ℕ) → hex_value h ≡ None → IsCode (hex_escape (92 ∷ 120 ∷ h ∷ l ∷ rest)) c n → ⊥
@@ -129,7 +129,7 @@ digits_front quote (h ∷ l ∷ rest) c n e = by_values (hex_value h) refl (hex_
         record { front = 92 ∷ 120 ∷ h ∷ l ∷ []; rest = rest; splits = refl; spells = subst (λ x. SpellsItem quote (92 ∷ 120 ∷ h ∷ l ∷ []) x) (sym g.1) (digits h l high low d f g.0); len = g.2 }
 
 cut_escape : (c n : ℕ) → IsCode (escape_at (92 ∷ [])) c n → ⊥
-unfolding escape_at escaped
+unfolding escape_at escaped_character
 cut_escape c n e = cc
 
 x_escape : (more : List ℕ) → escape_at (92 ∷ 120 ∷ more) ≡ hex_escape (92 ∷ 120 ∷ more)

@@ -2,7 +2,7 @@
 use Rattle.std.proofs.Common.{◌≡◌, ℕ, ◌≤◌, Bool, true, false, cond, ◌||◌, List, [], ◌∷◌, ◌++◌, length, Option, Some, None, map, refl, arith}
 use Rattle.std.specs.List.{list_any, find}
 use Rattle.std.specs.Str.{bytes_eq}
-use Rattle.plan_base.specs.Words.{is_word, is_reserved, reserved}
+use Rattle.plan_base.specs.Words.{is_word, is_reserved, reserved_words}
 use Rattle.plan_lexer.specs.Tables.{key_text, key_of, keys, symbol_text, symbol_at}
 use Rattle.plan_lexer.specs.Scanning.{token_at, signed_at, symbol_by}
 use Rattle.plan_lexer.specs.declared.token.Key.{Key}
@@ -159,7 +159,7 @@ not_any : (word : List ℕ) (ks : List Key) → list_any (λ r. bytes_eq r word)
 not_any word [] e = refl
 not_any word (k ∷ ks) e = reserved_by (bytes_eq (key_text k) word) k (find (λ k. bytes_eq (key_text k) word) ks) (list_any (λ r. bytes_eq r word) (map key_text ks)) e (not_any word ks)
 
-keys_reserved : (word : List ℕ) → list_any (λ r. bytes_eq r word) reserved ≡ false → list_any (λ r. bytes_eq r word) (map key_text keys) ≡ false
+keys_reserved : (word : List ℕ) → list_any (λ r. bytes_eq r word) reserved_words ≡ false → list_any (λ r. bytes_eq r word) (map key_text keys) ≡ false
 unfolding key_text
 keys_reserved word e = e
 

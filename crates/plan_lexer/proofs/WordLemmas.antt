@@ -5,7 +5,7 @@ use Rattle.std.specs.Char.{is_ascii_alphabetic}
 use Rattle.std.specs.List.{prefix_len, list_all, list_any, find}
 use Rattle.std.specs.Int.{is_in_range}
 use Rattle.std.specs.Str.{bytes_eq}
-use Rattle.plan_base.specs.Words.{is_word_byte, is_word, is_name, IsName, is_reserved, reserved}
+use Rattle.plan_base.specs.Words.{is_word_byte, is_word, is_name, IsName, is_reserved, reserved_words}
 use Rattle.plan_base.proofs.WordLaws.{is_word_cons}
 use Rattle.plan_lexer.specs.Tables.{key_text, key_of, keys}
 use Rattle.plan_lexer.specs.WordTokens.{word_len}
@@ -22,7 +22,7 @@ none_of : (word : List ℕ) (ks : List Key) → find (λ k. bytes_eq (key_text k
 none_of word [] e = refl
 none_of word (k ∷ ks) e = none_by (bytes_eq (key_text k) word) k (find (λ k. bytes_eq (key_text k) word) ks) _ e (none_of word ks)
 
-reserved_keys : (word : List ℕ) → list_any (λ r. bytes_eq r word) (map key_text keys) ≡ false → list_any (λ r. bytes_eq r word) reserved ≡ false
+reserved_keys : (word : List ℕ) → list_any (λ r. bytes_eq r word) (map key_text keys) ≡ false → list_any (λ r. bytes_eq r word) reserved_words ≡ false
 unfolding key_text
 reserved_keys word e = e
 

@@ -61,8 +61,8 @@ unfoldable pub pair_value : ℕ → ℕ → Option ℕ
 pair_value high low = pair_of (hex_value high) (hex_value low)
 
 -- the character that a letter stands for behind a backslash
-unfoldable pub escaped : ℕ → Option ℕ
-escaped b =
+unfoldable pub escaped_character : ℕ → Option ℕ
+escaped_character b =
     if b == 110 then Some 10 else (if b == 116 then Some 9 else (if b == 114 then Some 13 else
     (if b == 34 then Some 34 else (if b == 39 then Some 39 else (if b == 92 then Some 92 else None)))))
 
@@ -75,7 +75,7 @@ hex_escape text = do
 
 -- the character that a text begins with, by an escape
 unfoldable pub escape_at : List ℕ → Option (ℕ × ℕ)
-escape_at text = if get_or text 1 0 == 120 then hex_escape text else (escaped (get_or text 1 0) >>= λ c. Some (c, 2))
+escape_at text = if get_or text 1 0 == 120 then hex_escape text else (escaped_character (get_or text 1 0) >>= λ c. Some (c, 2))
 
 -- the character that a text begins with, in a string or char
 unfoldable pub code_at : List ℕ → Option (ℕ × ℕ)

@@ -3,7 +3,7 @@ use Rattle.std.specs.Prelude.{◌≡◌, ◌≢◌, ℕ, ◌+◌, ◌*◌, ◌^�
 use Rattle.std.specs.Char.{IsScalar, is_ascii_digit}
 use Rattle.std.specs.List.{list_all}
 use Rattle.plan_base.specs.Words.{is_word_byte, is_word, IsName}
-use Rattle.plan_lexer.specs.CharItems.{escaped, hex_value}
+use Rattle.plan_lexer.specs.CharItems.{escaped_character, hex_value}
 use Rattle.plan_lexer.specs.Numerals.{number_of}
 use Rattle.plan_lexer.specs.Tables.{key_text, symbol_text, symbol_at}
 use Rattle.plan_lexer.specs.declared.fault.LexFault.{LexFault}
@@ -22,7 +22,7 @@ pub record IsDigits (digits : List ℕ) : Type 0 where
 pub data SpellsItem (quote : ℕ) : List ℕ → ℕ → Type 0 where
   plain : (c : ℕ) → 32 ≤ c → c < 127 → c ≢ 92 → c ≢ quote → SpellsItem quote (c ∷ []) c
   wide : (c : ℕ) → 128 ≤ c → IsScalar c → SpellsItem quote (encode_utf8 c) c
-  letter : (l c : ℕ) → escaped l ≡ Some c → SpellsItem quote (92 ∷ l ∷ []) c
+  letter : (l c : ℕ) → escaped_character l ≡ Some c → SpellsItem quote (92 ∷ l ∷ []) c
   digits : (h l high low : ℕ) → hex_value h ≡ Some high → hex_value l ≡ Some low → high < 8 → SpellsItem quote (92 ∷ 120 ∷ h ∷ l ∷ []) (16 * high + low)
 
 -- bytes that stand for a text between such quotes

@@ -1,5 +1,5 @@
 ghost use Rattle.std.specs.Prelude.{◌≡◌, length, ◌≤◌, ◌<◌, IfSome, OnSome};
-ghost use Rattle.plan_lexer.specs.CharItems.{continuation, shortest, two_bytes, three_bytes, four_bytes, wide_at, hex_value, escaped, hex_escape, escape_at, code_at, item_at, ItemFits};
+ghost use Rattle.plan_lexer.specs.CharItems.{continuation, shortest, two_bytes, three_bytes, four_bytes, wide_at, hex_value, escaped_character, hex_escape, escape_at, code_at, item_at, ItemFits};
 
 use crate::text::byte_at;
 
@@ -132,9 +132,9 @@ pub(crate) fn hex_value(byte: u8) -> Option<u8>
 }
 
 /// The character that a letter stands for behind a backslash.
-#[tactic(auto, unfolding(crate::specs::CharItems::escaped))]
-fn escaped(letter: u8) -> Option<char>
-    ensures value { result ≡ escaped letter }
+#[tactic(auto, unfolding(crate::specs::CharItems::escaped_character))]
+fn escaped_char(letter: u8) -> Option<char>
+    ensures value { result ≡ escaped_character letter }
     ensures high { OnSome result (0 < letter) }
 {
     if letter == b'n' {
@@ -179,7 +179,7 @@ fn escape_at(text: &[u8]) -> Option<(char, usize)>
     if letter == b'x' {
         hex_escape(text)
     } else {
-        let code = escaped(letter)?;
+        let code = escaped_char(letter)?;
         Some((code, 2))
     }
 }

@@ -27,7 +27,7 @@ fn int_at(at: u32, text: &[u8]) -> Result<(TokenKind, u32), LexFault>
 }
 
 /// The least number, or the negative of one that an `i64` holds.
-fn negated(number: u64) -> i64
+fn negative_of(number: u64) -> i64
     requires { number ≤ 0x8000_0000_0000_0000 }
     ensures { result ≡ neg_ℤ (pos number) }
 {
@@ -46,7 +46,7 @@ fn negative_at(at: u32, text: &[u8]) -> Result<(TokenKind, u32), LexFault>
     ensures within { IfOk result (λ read. (at < read.1) × (read.1 ≤ at + 1 + length text.now)) }
 {
     let (number, len) = number_behind(at, 0x8000_0000_0000_0000, text)?;
-    Ok((TokenKind::Int(negated(number)), at + 1 + len as u32))
+    Ok((TokenKind::Int(negative_of(number)), at + 1 + len as u32))
 }
 
 /// The host whose sign stands at `at`, before the text.

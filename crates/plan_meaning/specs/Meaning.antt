@@ -29,7 +29,7 @@ use Rattle.plan_meaning.specs.declared.binding.Binding.{Binding}
 use Rattle.plan_meaning.specs.declared.sent.Sent.{Sent}
 use Rattle.plan_meaning.specs.declared.stop.EvalStop.TheVariants.{WorkSpent}
 use Rattle.plan_meaning.specs.State.{VisitState}
-use Rattle.plan_meaning.specs.Run.{Run, ◌>>=◌, ◌>>◌, pure, stop, raise, quiet, gave, or_wrong, wrong, given, rescue, whole, serve, sends}
+use Rattle.plan_meaning.specs.Run.{Run, ◌>>=◌, ◌>>◌, pure, stop, raise, quiet, gave, or_wrong, wrong, given_value, rescue, whole, serve, sends}
 
 -- ---- what values are taken for
 
@@ -128,14 +128,14 @@ abbrev pub packet : VisitState → Chunk → Host → ℕ → Name → Packet
 packet s k h n r = record { family = s.family; dest = h; bound = n; route = r; chunk = k; handler = None }
 
 -- a packet of this family with that bound, which the purse pays
-abbrev pub sent : Dev → Chunk → Host → ℕ → Name → Run (Unit {0})
-sent dev k h n r = λ s. record {
+abbrev pub sent_packet : Dev → Chunk → Host → ℕ → Name → Run (Unit {0})
+sent_packet dev k h n r = λ s. record {
   after = gave tt (record s { ctx = record s.ctx { purse = s.ctx.purse - n }; outbox = s.outbox ++ record { dev = dev; packet = packet s k h n r } ∷ [] });
   asks = sends k;
 }
 
 abbrev pub sent_by : Hop → Chunk → Host → ℕ → Name → Run (Unit {0})
-sent_by (To via dev) k h n r = sent dev k h n r
+sent_by (To via dev) k h n r = sent_packet dev k h n r
 sent_by NoService k h n r = raise no_service
 sent_by NoRoute k h n r = raise no_route
 
@@ -152,7 +152,7 @@ unfoldable pub is_next : VisitState → Dev → Host → Bool
 is_next s d h = if d.0 == 0 then s.ctx.here.0 == h.0 else leads_to s.ctx.neighbours d h
 
 unfoldable pub send_neighbour : Chunk → Host → ℤ → Dev → Run (Unit {0})
-send_neighbour k h n d = λ s. if is_paid n s.ctx.purse then (if is_next s d h then sent d k h (bound_of n) default_route s else raise not_neighbour s) else raise no_bound s
+send_neighbour k h n d = λ s. if is_paid n s.ctx.purse then (if is_next s d h then sent_packet d k h (bound_of n) default_route s else raise not_neighbour s) else raise no_bound s
 
 -- ---- exceptions
 
@@ -161,8 +161,8 @@ abbrev pub catches : Option Name → Exn → Bool
 catches None x = true
 catches (Some name) x = bytes_eq name x.0
 
-abbrev pub named : Name → Exn
-named x = record { 0 = x }
+abbrev pub named_exception : Name → Exn
+named_exception x = record { 0 = x }
 
 -- ---- the forms, by the meaning of their parts
 
@@ -180,40 +180,40 @@ module _ (run : Runs) where
   values code seen env es = values_behind [] code seen env es
 
   -- the body of the function at a place, with the parameters bound and nothing else
-  unfoldable pub entered : Program → ℕ → List Value → Run Value
-  entered code at args = do
+  unfoldable pub entered_function : Program → ℕ → List Value → Run Value
+  entered_function code at args = do
     f ← or_wrong (slice_get code.funs at)
     env ← or_wrong (bound f.params args)
     run code at env f.body
 
   abbrev pub applied_at : Program → Option ℕ → List Value → Run Value
-  applied_at code (Some at) args = entered code at args
+  applied_at code (Some at) args = entered_function code at args
   applied_at code None args = wrong
 
   -- a function of that name among the first `seen`
-  unfoldable pub applied : Program → ℕ → Name → List Value → Run Value
-  applied code seen f args = applied_at code (place_of f (take seen code.funs)) args
+  unfoldable pub applied_function : Program → ℕ → Name → List Value → Run Value
+  applied_function code seen f args = applied_at code (place_of f (take seen code.funs)) args
 
   abbrev pub served_or : Option Svc → Program → ℕ → Name → List Value → Run Value
   served_or (Some d) code seen f args = serve d args
-  served_or None code seen f args = applied code seen f args
+  served_or None code seen f args = applied_function code seen f args
 
   abbrev pub called_by : Option Primitive → Program → ℕ → Name → List Value → Run Value
-  called_by (Some p) code seen f args = given (primitive p args)
+  called_by (Some p) code seen f args = given_value (primitive p args)
   called_by None code seen f args = served_or (service_of f code.svcs) code seen f args
 
   -- a primitive, a declared service or an earlier function
-  unfoldable pub called : Program → ℕ → Name → List Value → Run Value
-  called code seen f args = called_by (prim_of f) code seen f args
+  unfoldable pub called_name : Program → ℕ → Name → List Value → Run Value
+  called_name code seen f args = called_by (prim_of f) code seen f args
 
   unfoldable pub call : Program → ℕ → Env → Name → List Expr → Run Value
-  call code seen env f es = values code seen env es >>= called code seen f
+  call code seen env f es = values code seen env es >>= called_name code seen f
 
   unfoldable pub tuple : Program → ℕ → Env → List Expr → Run Value
   tuple code seen env es = values code seen env es >>= (λ vs. pure (value.Tuple vs))
 
-  unfoldable pub packed : Program → ℕ → Env → Name → List Expr → Run Value
-  packed code seen env f es = values code seen env es >>= (λ vs. pure (value.Chunk (record { code = code; entry = f; args = vs })))
+  unfoldable pub packed_chunk : Program → ℕ → Env → Name → List Expr → Run Value
+  packed_chunk code seen env f es = values code seen env es >>= (λ vs. pure (value.Chunk (record { code = code; entry = f; args = vs })))
 
   unfoldable pub choice : Program → ℕ → Env → Expr → Expr → Expr → Run Value
   choice code seen env test a b = do
@@ -249,23 +249,23 @@ module _ (run : Runs) where
   operation code seen env o a b = do
     x ← run code seen env a
     y ← run code seen env b
-    given (binary o x y)
+    given_value (binary o x y)
 
   unfoldable pub selection : Program → ℕ → Env → ℕ → Expr → Run Value
-  selection code seen env i a = run code seen env a >>= (λ v. given (part i v))
+  selection code seen env i a = run code seen env a >>= (λ v. given_value (part i v))
 
   -- the first clause of that name or `_`, else the exception goes on
-  abbrev pub handled : Program → ℕ → Env → List Clause → Exn → Run Value
-  handled code seen env [] x = raise x
-  handled code seen env (k ∷ ks) x = if catches k.name x then run code seen env k.body else handled code seen env ks x
+  abbrev pub handled_exception : Program → ℕ → Env → List Clause → Exn → Run Value
+  handled_exception code seen env [] x = raise x
+  handled_exception code seen env (k ∷ ks) x = if catches k.name x then run code seen env k.body else handled_exception code seen env ks x
 
   unfoldable pub attempt : Program → ℕ → Env → Expr → List Clause → Run Value
-  attempt code seen env a ks = rescue (run code seen env a) (handled code seen env ks)
+  attempt code seen env a ks = rescue (run code seen env a) (handled_exception code seen env ks)
 
   -- f(acc, item) along the items
   abbrev pub left_along : Program → ℕ → Name → Value → List Value → Run Value
   left_along code seen f acc [] = pure acc
-  left_along code seen f acc (x ∷ xs) = applied code seen f (acc ∷ x ∷ []) >>= (λ v. left_along code seen f v xs)
+  left_along code seen f acc (x ∷ xs) = applied_function code seen f (acc ∷ x ∷ []) >>= (λ v. left_along code seen f v xs)
 
   unfoldable pub fold_left : Program → ℕ → Env → Name → Expr → Expr → Run Value
   fold_left code seen env f a l = do
@@ -277,7 +277,7 @@ module _ (run : Runs) where
   -- f(item, acc) along the items
   abbrev pub right_along : Program → ℕ → Name → Value → List Value → Run Value
   right_along code seen f acc [] = pure acc
-  right_along code seen f acc (x ∷ xs) = applied code seen f (x ∷ acc ∷ []) >>= (λ v. right_along code seen f v xs)
+  right_along code seen f acc (x ∷ xs) = applied_function code seen f (x ∷ acc ∷ []) >>= (λ v. right_along code seen f v xs)
 
   -- from the last item
   unfoldable pub fold_right : Program → ℕ → Env → Name → Expr → Expr → Run Value
@@ -288,8 +288,8 @@ module _ (run : Runs) where
     right_along code seen f acc (reverse xs)
 
   -- the entry of a chunk in its own code
-  unfoldable pub visited : Chunk → Run Value
-  visited k = applied_at k.code (place_of k.entry k.code.funs) k.args
+  unfoldable pub visited_chunk : Chunk → Run Value
+  visited_chunk k = applied_at k.code (place_of k.entry k.code.funs) k.args
 
   -- 1 is paid, and the value is dropped
   unfoldable pub evaluation : Program → ℕ → Env → Expr → Run Value
@@ -297,7 +297,7 @@ module _ (run : Runs) where
     v ← run code seen env a
     k ← or_wrong (as_chunk v)
     pay_eval
-    visited k
+    visited_chunk k
     pure value.Unit
 
   unfoldable pub remote : Program → ℕ → Env → Expr → Expr → Expr → Name → Run Value
@@ -349,21 +349,21 @@ module _ (run : Runs) where
   opened_at code seen env (Expr-F.Not a) = negation code seen env a
   opened_at code seen env (Expr-F.Binary o a b) = operation code seen env o a b
   opened_at code seen env (Expr-F.Part i a) = selection code seen env i a
-  opened_at code seen env (Expr-F.Raise x t) = raise (named x)
+  opened_at code seen env (Expr-F.Raise x t) = raise (named_exception x)
   opened_at code seen env (Expr-F.Try a ks) = attempt code seen env a ks
   opened_at code seen env (Expr-F.Foldl f a l) = fold_left code seen env f a l
   opened_at code seen env (Expr-F.Foldr f a l) = fold_right code seen env f a l
-  opened_at code seen env (Expr-F.ChunkOf f es) = packed code seen env f es
+  opened_at code seen env (Expr-F.ChunkOf f es) = packed_chunk code seen env f es
   opened_at code seen env (Expr-F.Eval a) = evaluation code seen env a
   opened_at code seen env (Expr-F.OnRemote a h n r) = remote code seen env a h n r
   opened_at code seen env (Expr-F.OnNeighbor a h n d) = neighbour code seen env a h n d
 
-  unfoldable pub opened : Program → ℕ → Env → Expr → Run Value
-  opened code seen env e = opened_at code seen env (out-Expr e)
+  unfoldable pub opened_expression : Program → ℕ → Env → Expr → Run Value
+  opened_expression code seen env e = opened_at code seen env (out-Expr e)
 
   -- an expression with what it spends
   unfoldable pub node : Program → ℕ → Env → Expr → Run Value
-  node code seen env e = whole (opened code seen env e)
+  node code seen env e = whole (opened_expression code seen env e)
 
 -- the meaning, cut off at a depth of so many expressions
 unfoldable pub run_to : ℕ → Runs

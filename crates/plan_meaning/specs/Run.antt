@@ -9,7 +9,7 @@ use Rattle.value_rules.specs.Rules.{Given, gives, raises, unfit, too_large}
 use Rattle.service_api.specs.declared.answer.Note.{Note}
 use Rattle.service_api.specs.declared.answer.Answer.{Answer}
 use Rattle.service_api.specs.declared.answer.Answer.TheVariants.{Gives, Raises}
-use Rattle.service_api.specs.Services.{Served, ServiceState, served, called}
+use Rattle.service_api.specs.Services.{Served, ServiceState, served_call, called_services}
 use Rattle.plan_meaning.specs.declared.stop.EvalStop.{EvalStop}
 use Rattle.plan_meaning.specs.declared.stop.EvalStop.TheVariants.{Raised, WorkSpent, Wrong}
 use Rattle.plan_meaning.specs.State.{VisitState}
@@ -72,21 +72,21 @@ or_wrong (Some a) = pure a
 or_wrong None = wrong
 
 -- what an operator or a primitive gives
-abbrev pub given : Given → Run Value
-given (gives v) = pure v
-given (raises x) = raise x
-given unfit = wrong
+abbrev pub given_value : Given → Run Value
+given_value (gives v) = pure v
+given_value (raises x) = raise x
+given_value unfit = wrong
 
 -- an exception goes on as told, in the state that it left
 abbrev pub otherwise : {A : Type 0} → After A → (Exn → Run A) → RunStep A
 otherwise (stopped (Raised x) s) f = f x s
 otherwise after f = quiet after
 
-abbrev pub rescued : {A : Type 0} → RunStep A → (Exn → Run A) → RunStep A
-rescued r f = record { after = (otherwise r.after f).after; asks = both r.asks (otherwise r.after f).asks }
+abbrev pub rescued_step : {A : Type 0} → RunStep A → (Exn → Run A) → RunStep A
+rescued_step r f = record { after = (otherwise r.after f).after; asks = both r.asks (otherwise r.after f).asks }
 
 abbrev pub rescue : {A : Type 0} → Run A → (Exn → Run A) → Run A
-rescue p f = λ s. rescued (p s) f
+rescue p f = λ s. rescued_step (p s) f
 
 -- ---- work
 
@@ -99,26 +99,26 @@ unfoldable pub is_too_large : Value → Bool
 is_too_large v = nat_lt 16384 (weight v) || nat_lt 4 (nesting v)
 
 -- a value over the limits raises `TooLarge`; else its weight is spent
-unfoldable pub weighed : Value → Run Value
-weighed v = if is_too_large v then raise too_large else (spend (weight v) >> pure v)
+unfoldable pub weighed_value : Value → Run Value
+weighed_value v = if is_too_large v then raise too_large else (spend (weight v) >> pure v)
 
 -- what each expression spends: 1 first, then the weight of its value
 unfoldable pub whole : Run Value → Run Value
-whole p = spend 1 >> p >>= weighed
+whole p = spend 1 >> p >>= weighed_value
 
 -- ---- services
 
-abbrev pub noted : Option Note → List Note → List Note
-noted None notes = notes
-noted (Some note) notes = notes ++ note ∷ []
+abbrev pub notes_after : Option Note → List Note → List Note
+notes_after None notes = notes
+notes_after (Some note) notes = notes ++ note ∷ []
 
-abbrev pub answered : Answer → VisitState → After Value
-answered (Gives v note) s = gave v (record s { notes = noted note s.notes })
-answered (Raises x) s = stopped (Raised x) s
+abbrev pub answered_call : Answer → VisitState → After Value
+answered_call (Gives v note) s = gave v (record s { notes = notes_after note s.notes })
+answered_call (Raises x) s = stopped (Raised x) s
 
 abbrev pub after_service : Served → VisitState → After Value
-after_service r s = answered r.answer (record s { services = called r.rows s.services })
+after_service r s = answered_call r.answer (record s { services = called_services r.rows s.services })
 
 -- the answer of a service, at the surroundings and the rows as they are
 unfoldable pub serve : Svc → List Value → Run Value
-serve d args = λ s. record { after = after_service (served s.services d args s.ctx) s; asks = service d args }
+serve d args = λ s. record { after = after_service (served_call s.services d args s.ctx) s; asks = service d args }

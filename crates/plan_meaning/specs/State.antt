@@ -26,8 +26,8 @@ pub record Own : Type 0 where
   pub outbox : List Sent
   pub notes : List Note
 
-abbrev pub joined : Own → ServiceState → VisitState
-joined o n = record { ctx = o.ctx; family = o.family; work = o.work; evals = o.evals; outbox = o.outbox; notes = o.notes; services = n }
+abbrev pub joined_state : Own → ServiceState → VisitState
+joined_state o n = record { ctx = o.ctx; family = o.family; work = o.work; evals = o.evals; outbox = o.outbox; notes = o.notes; services = n }
 
 abbrev pub own : VisitState → Own
 own s = record { ctx = s.ctx; family = s.family; work = s.work; evals = s.evals; outbox = s.outbox; notes = s.notes }

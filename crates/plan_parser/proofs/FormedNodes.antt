@@ -23,7 +23,7 @@ use Rattle.plan_grammar.specs.declared.node.Below.{Below}
 use Rattle.plan_grammar.specs.declared.node.Node.{Node}
 use Rattle.plan_grammar.specs.declared.node.Bound.{Bound}
 use Rattle.plan_grammar.specs.declared.node.Caught.{Caught}
-use Rattle.plan_grammar.specs.Nodes.{all_at, trees, leaf, over, over_one, over_two, over_three, over_four, over_list, joined_nodes, bracketed, bound, let_of, clauses_of, bodies, try_of}
+use Rattle.plan_grammar.specs.Nodes.{all_at, trees, leaf, over, over_one, over_two, over_three, over_four, over_list, joined_nodes, bracketed_nodes, bound, let_of, clauses_of, bodies, try_of}
 use Rattle.plan_parser.proofs.FormedTypes.{Each, Good}
 
 pub record Sound (n : Node) : Type 0 where
@@ -169,9 +169,9 @@ pub tuple_sound : (at : ℕ) (ns : List Node) → Each Sound ns → 2 ≤ length
 tuple_sound at ns q l h =
     over_sound (Expr-F.Tuple (trees ns)) (x.rolls-Tuple (trees ns)) at _ (both (both (rw (length-map ns (λ n. n.tree)) (le-leb 2 (length ns) l)) (few ns h)) (trees_formed ns q)) (trees_deep ns q) (list_nodes ns q)
 
-pub bracketed_sound : (ns : List Node) (end : Node) → Each Sound ns → Sound end → Sound (bracketed ns end)
+pub bracketed_sound : (ns : List Node) (end : Node) → Each Sound ns → Sound end → Sound (bracketed_nodes ns end)
 bracketed_sound [] end q e = e
-bracketed_sound (n ∷ ns) end q e = joined_sound (joints.Operator ops.Cons) n (bracketed ns end) q.0 (bracketed_sound ns end q.1 e)
+bracketed_sound (n ∷ ns) end q e = joined_sound (joints.Operator ops.Cons) n (bracketed_nodes ns end) q.0 (bracketed_sound ns end q.1 e)
 
 -- ---- `let` and `try`
 

@@ -32,7 +32,7 @@ use Rattle.plan_parser.proofs.FormedReads.{name_holds, expr_holds}
 use Rattle.plan_parser.specs.declared.signature.Head.{Head}
 use Rattle.plan_parser.specs.declared.program.Gathered.{Gathered}
 use Rattle.plan_parser.specs.Signatures.{outer_type, inner_type, arguments_from, arguments_behind, service_at, param_at, params_from, params_behind, head_at}
-use Rattle.plan_parser.specs.Programs.{nothing, one_more, with_service, with_exception, judged_function, function_of, with_body, with_function, with_declaration, declarations, draft_of, finished, program_of, Placed}
+use Rattle.plan_parser.specs.Programs.{nothing, one_more, with_service, with_exception, judged_function, function_of, with_body, with_function, with_declaration, declarations, draft_of, finished_draft, program_of, Placed}
 
 -- tokens behind a place keep the limits of their kinds
 pub kinds_of : (from len : ℕ) (ts : List Token) → AreTokens from len ts → Kinds ts
@@ -296,8 +296,8 @@ abbrev DraftOr : Result Draft ParseFault → Type 0
 DraftOr (Ok d) = GoodDraft d
 DraftOr (Err e) = Unit {0}
 
-finished_good : (end : ℕ) (g : Gathered) → GoodSoFar g → DraftOr (finished end g)
-unfolding finished
+finished_good : (end : ℕ) (g : Gathered) → GoodSoFar g → DraftOr (finished_draft end g)
+unfolding finished_draft
 finished_good end g h = by_count (nat_lt 0 (length g.funs)) refl
   where
     by_count : (b : Bool) → nat_lt 0 (length g.funs) ≡ b → DraftOr (if b then Ok (draft_of g) else Err (Expected (wanted.Key keys.Fun) end))
@@ -309,7 +309,7 @@ unfolding program_of
 program_good tokens end k = by_declarations (declarations (length tokens) nothing (record { tokens = tokens; end = end }))
     (declarations_good (length tokens) nothing (record { tokens = tokens; end = end }) nothing_good k)
   where
-    by_declarations : (r : Result Gathered ParseFault) → GoodOr r → DraftOr (r >>= λ g. finished end g)
+    by_declarations : (r : Result Gathered ParseFault) → GoodOr r → DraftOr (r >>= λ g. finished_draft end g)
     by_declarations (Ok g) h = finished_good end g h
     by_declarations (Err e) h = tt
 

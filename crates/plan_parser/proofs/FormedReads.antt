@@ -38,7 +38,7 @@ use Rattle.plan_grammar.specs.Ahead.{Front, Reader, place, behind, kind_in, next
 use Rattle.plan_grammar.specs.Begins.{begins_operand, begins_expr}
 use Rattle.plan_grammar.specs.Joints.{joint_of}
 use Rattle.plan_grammar.specs.Nodes.{leaf, joined_nodes, clauses_of}
-use Rattle.plan_grammar.specs.Exprs.{literal_key, literal, literal_from, opens_at, need_open, chain_step, chain_from, catch_at, clause_follows, items_from, arguments_behind, arguments, call, name_operand, chunk, tuple, single, grouped, parens_behind, parens, typed_nil, listing, brackets_behind, brackets, binding, bindings_from, let_form, clause, clauses_from, try_form, raise_typed, raise_plain, raise_form, before_comma, before_close, fold_parts, foldl_form, foldr_form, eval_form, send_parts, remote_form, neighbor_form, key_form, symbol_form, picked, operand_kind, operand, chained, product, addition, before_list, listed, compared, comparison, negation, negated, conjunction, disjunction, condition, low, before_next, whole, at_level, expr_to}
+use Rattle.plan_grammar.specs.Exprs.{literal_key, literal, literal_from, opens_at, need_open, chain_step, chain_from, catch_at, clause_follows, items_from, arguments_behind, arguments, call, name_operand, chunk, tuple, single, grouped_expression, parens_behind, parens, typed_nil, listing, brackets_behind, brackets, binding, bindings_from, let_form, clause, clauses_from, try_form, raise_typed, raise_plain, raise_form, before_comma, before_close, fold_parts, foldl_form, foldr_form, eval_form, send_parts, remote_form, neighbor_form, key_form, symbol_form, picked_part, operand_kind, operand, chained_operands, product, addition, before_list, listed_operands, compared_operands, comparison, negation, negated_operand, conjunction, disjunction, condition, low, before_next, whole, at_level, expr_to}
 use Rattle.plan_grammar.proofs.Builds.{clauses_last}
 use Rattle.plan_parser.proofs.FormedTypes.{Kinds, Holds, Any, step, choose, weaken, behind_kinds, symbol_holds, opens_holds, Each, each_last, Between, more_holds, more_some, Good, type_holds}
 use Rattle.plan_parser.proofs.FormedNodes.{Sound, leaf_sound, joined_sound, then_sound, foldl_sound, foldr_sound, not_sound, eval_sound, part_sound, if_sound, remote_sound, neighbor_sound, call_sound, chunk_sound, tuple_sound, bracketed_sound, SoundBound, let_sound, SoundCaught, SoundClauses, try_sound}
@@ -196,8 +196,8 @@ module _ (inner : Level → Reader Node) (room : ℕ) (reads : (l : Level) (f : 
   unfolding single
   single_holds first f p k = step Any Sound _ _ (symbol_holds symbols.ParenClose f k) (λ _ g _ q. (p, q))
 
-  grouped_holds : (at : ℕ) (f : Front) → Kinds f.tokens → Holds Sound (grouped inner room at f)
-  unfolding grouped
+  grouped_holds : (at : ℕ) (f : Front) → Kinds f.tokens → Holds Sound (grouped_expression inner room at f)
+  unfolding grouped_expression
   grouped_holds at f k =
       step Sound Sound _ _ (reads levels.Whole f k) (λ first g p q.
       choose Sound (is_symbol symbols.Comma g) _ _ (λ here. tuple_holds at first g here p q) (λ _. single_holds first g p q))
@@ -388,8 +388,8 @@ module _ (inner : Level → Reader Node) (room : ℕ) (reads : (l : Level) (f : 
   symbol_form_holds symbols.Bar f k = chunk_holds f k
   symbol_form_holds _ f k = tt
 
-  picked_holds : (i : ℕ) (f : Front) → IsKind (kinds.Part i) → Kinds f.tokens → Holds Sound (picked inner room i f)
-  unfolding picked
+  picked_holds : (i : ℕ) (f : Front) → IsKind (kinds.Part i) → Kinds f.tokens → Holds Sound (picked_part inner room i f)
+  unfolding picked_part
   picked_holds i f h k =
       step Any Sound _ _ (opens_holds room f k) (λ _ g _ q.
       step Sound Sound _ _ (reads levels.Operand (behind f) (behind_kinds f k)) (λ a j p r. (part_sound i (place f) a h.0 h.1 p, r)))
@@ -405,8 +405,8 @@ module _ (inner : Level → Reader Node) (room : ℕ) (reads : (l : Level) (f : 
   unfolding operand
   operand_holds f k = operand_kind_holds f (next_kind f) (kind_of_next f k) k
 
-  chained_holds : (one : Reader Node) → ((f : Front) → Kinds f.tokens → Holds Sound (one f)) → (chain : Chain) (f : Front) → Kinds f.tokens → Holds Sound (chained inner room one chain f)
-  unfolding chained
+  chained_holds : (one : Reader Node) → ((f : Front) → Kinds f.tokens → Holds Sound (one f)) → (chain : Chain) (f : Front) → Kinds f.tokens → Holds Sound (chained_operands inner room one chain f)
+  unfolding chained_operands
   chained_holds one h chain f k = step Sound Sound _ _ (h f k) (λ first g p q. chain_holds one h chain (length g.tokens) first g p q)
 
   product_holds : (f : Front) → Kinds f.tokens → Holds Sound (product inner room f)
@@ -423,13 +423,13 @@ module _ (inner : Level → Reader Node) (room : ℕ) (reads : (l : Level) (f : 
       step Any Sound _ _ (opens_at_holds begins_operand room f k) (λ _ g _ q.
       step Sound Sound _ _ (reads levels.Listed f k) (λ rest h r s. (joined_sound (joints.Operator ops.Cons) item rest p r, s)))
 
-  listed_holds : (f : Front) → Kinds f.tokens → Holds Sound (listed inner room f)
-  unfolding listed
+  listed_holds : (f : Front) → Kinds f.tokens → Holds Sound (listed_operands inner room f)
+  unfolding listed_operands
   listed_holds f k =
       step Sound Sound _ _ (addition_holds f k) (λ item g p q.
       choose Sound (is_symbol symbols.DoubleColon g) _ _ (λ _. before_list_holds item (behind g) p (behind_kinds g q)) (λ _. (p, q)))
 
-  compared_holds : (left : Node) (f : Front) (joint : Option Joint) → Sound left → Kinds f.tokens → Holds Sound (compared inner room left f joint)
+  compared_holds : (left : Node) (f : Front) (joint : Option Joint) → Sound left → Kinds f.tokens → Holds Sound (compared_operands inner room left f joint)
   compared_holds left f (Some joint) p k =
       step Sound Sound _ _ (listed_holds (behind f) (behind_kinds f k)) (λ right g q r. (joined_sound joint left right p q, r))
   compared_holds left f None p k = (p, k)
@@ -444,13 +444,13 @@ module _ (inner : Level → Reader Node) (room : ℕ) (reads : (l : Level) (f : 
       step Any Sound _ _ (opens_holds room f k) (λ _ g _ q.
       step Sound Sound _ _ (reads levels.Negated (behind f) (behind_kinds f k)) (λ a h p r. (not_sound (place f) a p, r)))
 
-  negated_holds : (f : Front) → Kinds f.tokens → Holds Sound (negated inner room f)
-  unfolding negated
+  negated_holds : (f : Front) → Kinds f.tokens → Holds Sound (negated_operand inner room f)
+  unfolding negated_operand
   negated_holds f k = choose Sound (is_key keys.Not f) _ _ (λ _. negation_holds f k) (λ _. comparison_holds f k)
 
   conjunction_holds : (f : Front) → Kinds f.tokens → Holds Sound (conjunction inner room f)
   unfolding conjunction
-  conjunction_holds f k = chained_holds (negated inner room) negated_holds chains.And f k
+  conjunction_holds f k = chained_holds (negated_operand inner room) negated_holds chains.And f k
 
   disjunction_holds : (f : Front) → Kinds f.tokens → Holds Sound (disjunction inner room f)
   unfolding disjunction

@@ -100,8 +100,8 @@ wider : {A : Type 0} (P : A → Type 0) (a b c d : ℕ) → c ≤ a → b ≤ d 
 wider P a b c d l m xs q = record { all = q.all; least = (let h = q.least in omega (arith, h, l)); most = (let h = q.most in omega (arith, h, m)) }
 
 module _ {A : Type 0} (P : A → Type 0) (one : Reader A) (reads : (f : Front) → Kinds f.tokens → Holds P (one f)) (begins : Front → Bool) (sep : Symbol) (limit : Limit) (what : Wanted) where
-  grown : (done : List A) (x : A) → length (done ++ x ∷ []) ≡ length done + 1
-  grown done x = length-append done (x ∷ [])
+  grown_by_one : (done : List A) (x : A) → length (done ++ x ∷ []) ≡ length done + 1
+  grown_by_one done x = length-append done (x ∷ [])
 
   pub more_holds : (most : ℕ) (done : List A) (f : Front) → Each P done → Kinds f.tokens
       → Holds (Between P (length done) (length done + most)) (more one begins sep limit what most done f)
@@ -110,7 +110,7 @@ module _ {A : Type 0} (P : A → Type 0) (one : Reader A) (reads : (f : Front) �
   more_holds (suc most) done f q k =
       choose (Between P (length done) (length done + suc most)) (is_symbol sep f) _ _
       (λ _. step P (Between P (length done) (length done + suc most)) (one (behind f)) _ (reads (behind f) (behind_kinds f k))
-      (λ x g p r. let e = grown done x in
+      (λ x g p r. let e = grown_by_one done x in
       weaken (Between P (length (done ++ x ∷ [])) (length (done ++ x ∷ []) + most)) (Between P (length done) (length done + suc most)) _
       (wider P _ _ _ _ (omega (arith, e)) (omega (arith, e))) (more_holds most (done ++ x ∷ []) g (each_last P done x q p) r)))
       (λ _. (record { all = q; least = omega arith; most = omega arith }, k))
@@ -121,7 +121,7 @@ module _ {A : Type 0} (P : A → Type 0) (one : Reader A) (reads : (f : Front) �
   unfolding more
   more_some most done f here q k =
       rw here (step P (Between P (length done + 1) (length done + suc most)) (one (behind f)) _ (reads (behind f) (behind_kinds f k))
-      (λ x g p r. let e = grown done x in
+      (λ x g p r. let e = grown_by_one done x in
       weaken (Between P (length (done ++ x ∷ [])) (length (done ++ x ∷ []) + most)) (Between P (length done + 1) (length done + suc most)) _
       (wider P _ _ _ _ (omega (arith, e)) (omega (arith, e))) (more_holds most (done ++ x ∷ []) g (each_last P done x q p) r)))
 

@@ -30,7 +30,7 @@ use Rattle.plan_grammar.specs.declared.fault.Wanted.TheVariants as wanted
 use Rattle.plan_grammar.specs.Ahead.{Front, Reader, ◌>>=◌, place, behind, next_kind, is_symbol, need_symbol}
 use Rattle.plan_grammar.specs.Types.{opens}
 use Rattle.plan_parser.specs.declared.item.TypedValue.{TypedValue}
-use Rattle.plan_parser.specs.Values.{typed, literal_key, literal, literal_from, begins_value, tuple_of, list_of, judged_item, fits, tuple_from, tuple, grouped, parens, like, listing, typed_nil, brackets, value_at, value_to, ended, argument_at, arguments_from, arguments_behind, value_of, args_of}
+use Rattle.plan_parser.specs.Values.{typed_value, literal_key, literal, literal_from, begins_value, tuple_of, list_of, judged_item, fits, tuple_from, tuple, grouped_value, parens, like, listing, typed_nil, brackets, value_at, value_to, nothing_follows, argument_at, arguments_from, arguments_behind, value_of, args_of}
 use Rattle.plan_parser.proofs.FormedTypes.{Kinds, Holds, Any, step, choose, behind_kinds, symbol_holds, Each, each_test, Between, more_holds, more_some, Good, formed_of, formed_roll, depth_roll, type_holds}
 use Rattle.plan_parser.proofs.FormedReads.{KindOf, kind_of_next, text_well}
 use Rattle.plan_parser.proofs.FormedPrograms.{kinds_of}
@@ -65,7 +65,7 @@ module _ (l : Value-F Value Chunk) {v : Value} (r : roll-Value l ≡ v) where
 leaf : (n : ℕ) (l : Value-F Value Chunk) {v : Value} → roll-Value l ≡ v → (t : Ty-F Ty) {u : Ty} → roll-Ty t ≡ u
     → formed_value_level formed_value formed_chunk l ≡ true → typed_value_level value_has_types chunk_has_types l ≡ true
     → value_depth_level value_depth l ≡ 0 → nesting_level nesting chunk_nesting l ≡ 0 → formed_type_level formed_type t ≡ true → type_depth_level type_depth t ≡ 1
-    → GoodItem (suc n) (typed v u)
+    → GoodItem (suc n) (typed_value v u)
 leaf n l r t q f h d k g s = record {
   value = record {
     formed = formed_is l r ∙ f;
@@ -207,8 +207,8 @@ module _ (inner : Reader TypedValue) (outside room : ℕ) (few : room ≤ 7) (re
   unfolding tuple
   tuple_holds first f q k = choose (GoodItem (suc room)) (is_symbol symbols.Comma f) _ _ (λ here. tuple_from_holds first f here q k) (λ _. tt)
 
-  grouped_holds : (at : ℕ) (f : Front) → Kinds f.tokens → Holds (GoodItem (suc room)) (grouped inner outside room at f)
-  unfolding grouped
+  grouped_holds : (at : ℕ) (f : Front) → Kinds f.tokens → Holds (GoodItem (suc room)) (grouped_value inner outside room at f)
+  unfolding grouped_value
   grouped_holds at f k =
       choose (GoodItem (suc room)) (room == 0) _ _ (λ _. tt) (λ _. step (GoodItem room) (GoodItem (suc room)) _ _ (reads f k) (λ first g q r. tuple_holds first g q r))
 
@@ -286,9 +286,9 @@ GoodOr P (Ok a) = P a
 GoodOr P (Err e) = Unit {0}
 
 up_to_end : {A B : Type 0} (P : A → Type 0) (Q : B → Type 0) (make : A → B) (r : Result (A × Front) ParseFault) → Holds P r → ((a : A) → P a → Q (make a))
-    → GoodOr Q (r >>= λ x. (ended x.1 >>= λ _. Ok (make x.0)))
+    → GoodOr Q (r >>= λ x. (nothing_follows x.1 >>= λ _. Ok (make x.0)))
 up_to_end P Q make (Err e) q h = tt
-up_to_end P Q make (Ok x) q h = by_end (ended x.1)
+up_to_end P Q make (Ok x) q h = by_end (nothing_follows x.1)
   where
     by_end : (r : Result (Unit {0}) ParseFault) → GoodOr Q (r >>= λ _. Ok (make x.0))
     by_end (Ok _) = h x.0 q.0
@@ -304,7 +304,7 @@ unfolding args_of
 args_of_good tokens end k = by_bracket (need_symbol symbols.ParenOpen (record { tokens = tokens; end = end })) (symbol_holds symbols.ParenOpen _ k)
   where
     by_bracket : (r : Result (Unit {0} × Front) ParseFault) → Holds Any r
-        → GoodOr (Between (GoodValue 8) 0 8) (r >>= λ open_bracket. (arguments_behind open_bracket.1 >>= λ args. (ended args.1 >>= λ _. Ok args.0)))
+        → GoodOr (Between (GoodValue 8) 0 8) (r >>= λ open_bracket. (arguments_behind open_bracket.1 >>= λ args. (nothing_follows args.1 >>= λ _. Ok args.0)))
     by_bracket (Ok x) q = up_to_end (Between (GoodValue 8) 0 8) (Between (GoodValue 8) 0 8) (λ vs. vs) (arguments_behind x.1) (arguments_behind_holds x.1 q.1) (λ vs p. p)
     by_bracket (Err e) q = tt
 

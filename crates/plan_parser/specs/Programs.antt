@@ -82,14 +82,14 @@ draft_of g = record {
 }
 
 -- at the end there must be a function
-unfoldable pub finished : ℕ → Gathered → Result Draft ParseFault
-finished end g = if nat_lt 0 (length g.funs) then Ok (draft_of g) else Err (Expected (wanted.Key keys.Fun) end)
+unfoldable pub finished_draft : ℕ → Gathered → Result Draft ParseFault
+finished_draft end g = if nat_lt 0 (length g.funs) then Ok (draft_of g) else Err (Expected (wanted.Key keys.Fun) end)
 
 -- the tokens of a text of that length as a program, or the first refusal
 unfoldable pub program_of : List Token → ℕ → Result Draft ParseFault
 program_of tokens end = do
   all ← declarations (length tokens) nothing (record { tokens = tokens; end = end })
-  finished end all
+  finished_draft end all
 
 -- one place for each declaration and one for each expression
 pub record Placed (d : Draft) : Type 0 where

@@ -21,22 +21,22 @@ use Rattle.plan_grammar.specs.Types.{opens, more, type_to}
 use Rattle.plan_parser.specs.declared.item.TypedValue.{TypedValue}
 
 -- a value with its type
-abbrev pub typed : Value → Ty → TypedValue
-typed value t = record { value = value; ty = t }
+abbrev pub typed_value : Value → Ty → TypedValue
+typed_value value t = record { value = value; ty = t }
 
 -- the value that one token is
 abbrev pub literal_key : Key → Option TypedValue
-literal_key keys.True = Some (typed (v.Bool true) ty.Bool)
-literal_key keys.False = Some (typed (v.Bool false) ty.Bool)
+literal_key keys.True = Some (typed_value (v.Bool true) ty.Bool)
+literal_key keys.False = Some (typed_value (v.Bool false) ty.Bool)
 literal_key _ = None
 
 abbrev pub literal : Option TokenKind → Option TypedValue
-literal (Some (kinds.Int n)) = Some (typed (v.Int n) ty.Int)
-literal (Some (kinds.Host n)) = Some (typed (v.Host (record { 0 = n })) ty.Host)
-literal (Some (kinds.Dev n)) = Some (typed (v.Dev (record { 0 = n })) ty.Dev)
-literal (Some (kinds.Char c)) = Some (typed (v.Char c) ty.Char)
-literal (Some (kinds.Str s)) = Some (typed (v.Str s) ty.Str)
-literal (Some (kinds.Blob b)) = Some (typed (v.Blob b) ty.Blob)
+literal (Some (kinds.Int n)) = Some (typed_value (v.Int n) ty.Int)
+literal (Some (kinds.Host n)) = Some (typed_value (v.Host (record { 0 = n })) ty.Host)
+literal (Some (kinds.Dev n)) = Some (typed_value (v.Dev (record { 0 = n })) ty.Dev)
+literal (Some (kinds.Char c)) = Some (typed_value (v.Char c) ty.Char)
+literal (Some (kinds.Str s)) = Some (typed_value (v.Str s) ty.Str)
+literal (Some (kinds.Blob b)) = Some (typed_value (v.Blob b) ty.Blob)
 literal (Some (kinds.Key k)) = literal_key k
 literal _ = None
 
@@ -50,11 +50,11 @@ begins_value f = is_some (literal (next_kind f)) || (is_symbol symbols.ParenOpen
 
 -- several values as a tuple
 abbrev pub tuple_of : List TypedValue → TypedValue
-tuple_of is = typed (v.Tuple (map (λ i. i.value) is)) (ty.Tuple (map (λ i. i.ty) is))
+tuple_of is = typed_value (v.Tuple (map (λ i. i.value) is)) (ty.Tuple (map (λ i. i.ty) is))
 
 -- values of one type as a list
 abbrev pub list_of : Ty → List Value → TypedValue
-list_of t vs = typed (v.List t vs) (ty.List t)
+list_of t vs = typed_value (v.List t vs) (ty.List t)
 
 -- an item of a list must have the type of the first
 unfoldable pub judged_item : Ty → ℕ → TypedValue → Front → Result (Value × Front) ParseFault
@@ -78,14 +78,14 @@ module _ (inner : Reader TypedValue) (outside room : ℕ) where
   tuple first f = if is_symbol symbols.Comma f then tuple_from first f else Err (Expected (wanted.Symbol symbols.Comma) (place f))
 
   -- a tuple, whose bracket stands at that place
-  unfoldable pub grouped : ℕ → Reader TypedValue
-  grouped at f = if room == 0 then Err (TooDeep at) else (inner f >>= λ first. tuple first.0 first.1)
+  unfoldable pub grouped_value : ℕ → Reader TypedValue
+  grouped_value at f = if room == 0 then Err (TooDeep at) else (inner f >>= λ first. tuple first.0 first.1)
 
   -- what a round bracket begins
   unfoldable pub parens : Reader TypedValue
   parens f =
-      if is_symbol symbols.ParenClose (behind f) then Ok (typed v.Unit ty.Unit, behind (behind f))
-      else if begins_value (behind f) then grouped (place f) (behind f)
+      if is_symbol symbols.ParenClose (behind f) then Ok (typed_value v.Unit ty.Unit, behind (behind f))
+      else if begins_value (behind f) then grouped_value (place f) (behind f)
       else Err (Expected (wanted.Symbol symbols.ParenClose) (place (behind f)))
 
   -- a further item of a list
@@ -130,8 +130,8 @@ value_to outside zero f = Err (TooDeep (place f))
 value_to outside (suc room) f = value_at (value_to outside room) outside room f
 
 -- nothing may follow
-unfoldable pub ended : Front → Result (Unit {0}) ParseFault
-ended f = if nat_lt 0 (length f.tokens) then Err (Expected wanted.AValue (place f)) else Ok tt
+unfoldable pub nothing_follows : Front → Result (Unit {0}) ParseFault
+nothing_follows f = if nat_lt 0 (length f.tokens) then Err (Expected wanted.AValue (place f)) else Ok tt
 
 -- an argument, inside the bracket
 unfoldable pub argument_at : Reader Value
@@ -155,7 +155,7 @@ arguments_behind f =
 unfoldable pub value_of : List Token → ℕ → Result Value ParseFault
 value_of tokens end = do
   i ← value_to 0 8 (record { tokens = tokens; end = end })
-  all ← ended i.1
+  all ← nothing_follows i.1
   Ok i.0.value
 
 -- the tokens as arguments, or the first refusal
@@ -163,5 +163,5 @@ unfoldable pub args_of : List Token → ℕ → Result (List Value) ParseFault
 args_of tokens end = do
   open_bracket ← need_symbol symbols.ParenOpen (record { tokens = tokens; end = end })
   args ← arguments_behind open_bracket.1
-  all ← ended args.1
+  all ← nothing_follows args.1
   Ok args.0

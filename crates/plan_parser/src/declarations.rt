@@ -64,7 +64,7 @@ fn with_exception(
 
 /// Judges a function that was read: its depth, and then the number of all expressions.
 #[tactic(auto, unfolding(crate::specs::Programs::judged_function))]
-fn judged(at: u32, depth: u32, nodes: usize, ahead: &Ahead<'_>) -> Result<(), ParseFault>
+fn judge_function(at: u32, depth: u32, nodes: usize, ahead: &Ahead<'_>) -> Result<(), ParseFault>
     ensures { Gives (spec.judged_function at depth nodes ahead.now) result ahead.now }
 {
     if depth > MOST_DEPTH {
@@ -110,7 +110,7 @@ fn with_body(
     } = body;
     let mut gathered = gathered;
     add_places(&mut gathered.node_at, at, below)?;
-    judged(start, depth, gathered.node_at.len(), ahead)?;
+    judge_function(start, depth, gathered.node_at.len(), ahead)?;
     gathered.funs.add(Fun {
         name,
         params,
@@ -180,7 +180,7 @@ pub fn declarations(alloc: Global, tokens: &[Token], end: u32) -> Result<Gathere
     let mut ahead = Ahead::over(tokens, end);
     let mut gathered = nothing(alloc);
     for _ in 0..tokens.len() {
-        if ahead.left() == 0 {
+        if ahead.tokens_left() == 0 {
             return Ok(gathered);
         }
         gathered = with_declaration(alloc, &mut ahead, gathered)?;
@@ -211,9 +211,9 @@ fn draft_of(gathered: Gathered) -> Result<Draft, ParseFault>
 }
 
 /// The whole draft; at the end there must be a function.
-#[tactic(auto, unfolding(crate::specs::Programs::finished))]
-pub fn finished(end: u32, gathered: Gathered) -> Result<Draft, ParseFault>
-    ensures { Answers (spec.finished end gathered) result }
+#[tactic(auto, unfolding(crate::specs::Programs::finished_draft))]
+pub fn finish_draft(end: u32, gathered: Gathered) -> Result<Draft, ParseFault>
+    ensures { Answers (spec.finished_draft end gathered) result }
 {
     if gathered.funs.is_empty() {
         return Err(ParseFault::Expected(Wanted::Key(Key::Fun), end));

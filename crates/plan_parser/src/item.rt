@@ -17,8 +17,8 @@ pub struct TypedValue {
     pub ty: Ty,
 }
 
-pub fn typed(value: Value, ty: Ty) -> TypedValue
-    ensures { result ≡ spec.typed value ty }
+pub fn with_type(value: Value, ty: Ty) -> TypedValue
+    ensures { result ≡ spec.typed_value value ty }
 {
     TypedValue { value, ty }
 }
@@ -27,8 +27,8 @@ fn literal_key(key: Key) -> Option<TypedValue>
     ensures { result ≡ spec.literal_key key }
 {
     match key {
-        Key::True => Some(typed(Value::Bool(true), Ty::Bool)),
-        Key::False => Some(typed(Value::Bool(false), Ty::Bool)),
+        Key::True => Some(with_type(Value::Bool(true), Ty::Bool)),
+        Key::False => Some(with_type(Value::Bool(false), Ty::Bool)),
         _ => None,
     }
 }
@@ -38,12 +38,15 @@ fn literal(alloc: Global, ahead: &Ahead<'_>) -> Result<Option<TypedValue>, Parse
     ensures { Answers (Ok (spec.literal (next_kind ahead.now))) result }
 {
     match ahead.next() {
-        Some(TokenKind::Int(number)) => Ok(Some(typed(Value::Int(*number), Ty::Int))),
-        Some(TokenKind::Host(number)) => Ok(Some(typed(Value::Host(Host(*number)), Ty::Host))),
-        Some(TokenKind::Dev(number)) => Ok(Some(typed(Value::Dev(Dev(*number)), Ty::Dev))),
-        Some(TokenKind::Char(scalar)) => Ok(Some(typed(Value::Char(*scalar), Ty::Char))),
-        Some(TokenKind::Str(text)) => Ok(Some(typed(Value::Str(text.copy(alloc)?), Ty::Str))),
-        Some(TokenKind::Blob(bytes)) => Ok(Some(typed(Value::Blob(bytes.copy(alloc)?), Ty::Blob))),
+        Some(TokenKind::Int(number)) => Ok(Some(with_type(Value::Int(*number), Ty::Int))),
+        Some(TokenKind::Host(number)) => Ok(Some(with_type(Value::Host(Host(*number)), Ty::Host))),
+        Some(TokenKind::Dev(number)) => Ok(Some(with_type(Value::Dev(Dev(*number)), Ty::Dev))),
+        Some(TokenKind::Char(scalar)) => Ok(Some(with_type(Value::Char(*scalar), Ty::Char))),
+        Some(TokenKind::Str(text)) => Ok(Some(with_type(Value::Str(text.copy(alloc)?), Ty::Str))),
+        Some(TokenKind::Blob(bytes)) => Ok(Some(with_type(
+            Value::Blob(bytes.copy(alloc)?),
+            Ty::Blob,
+        ))),
         Some(TokenKind::Key(key)) => Ok(literal_key(*key)),
         _ => Ok(None),
     }

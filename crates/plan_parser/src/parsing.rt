@@ -5,7 +5,7 @@ ghost use Rattle.plan_lexer.specs.TokenRules.{AreTokens};
 ghost use Rattle.plan_grammar.specs.Ahead.{Answers};
 ghost use Rattle.plan_parser.specs.Programs.{program_of, Placed};
 
-use crate::declarations::{declarations, finished};
+use crate::declarations::{declarations, finish_draft};
 use plan_base::Draft;
 use plan_grammar::ParseFault;
 use plan_lexer::{Token, Tokens};
@@ -17,7 +17,7 @@ fn program_of(alloc: Global, tokens: &[Token], end: u32) -> Result<Draft, ParseF
     ensures { Answers (program_of tokens.now end) result }
 {
     let gathered = declarations(alloc, tokens, end)?;
-    finished(end, gathered)
+    finish_draft(end, gathered)
 }
 
 /// The program that the tokens of a text of `len` bytes are, well formed, with one place for each declaration and each

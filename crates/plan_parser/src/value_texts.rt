@@ -18,11 +18,11 @@ use plan_lexer::{Symbol, Token, lex};
 use std::alloc::Global;
 
 /// Refuses what follows.
-#[tactic(auto, unfolding(crate::specs::Values::ended))]
-fn ended(ahead: &Ahead<'_>) -> Result<(), ParseFault>
-    ensures { Answers (spec.ended ahead.now) result }
+#[tactic(auto, unfolding(crate::specs::Values::nothing_follows))]
+fn need_end(ahead: &Ahead<'_>) -> Result<(), ParseFault>
+    ensures { Answers (spec.nothing_follows ahead.now) result }
 {
-    if ahead.left() > 0 {
+    if ahead.tokens_left() > 0 {
         return Err(ParseFault::Expected(Wanted::AValue, ahead.place()));
     }
     Ok(())
@@ -84,7 +84,7 @@ fn value_of(alloc: Global, tokens: &[Token], end: u32) -> Result<Value, ParseFau
 {
     let mut ahead = Ahead::over(tokens, end);
     let TypedValue { value, ty: _ } = value_to(alloc, 0, MOST_NESTED + 1, &mut ahead)?;
-    ended(&ahead)?;
+    need_end(&ahead)?;
     Ok(value)
 }
 
@@ -95,7 +95,7 @@ fn args_of(alloc: Global, tokens: &[Token], end: u32) -> Result<Values, ParseFau
     let mut ahead = Ahead::over(tokens, end);
     ahead.need_symbol(Symbol::ParenOpen)?;
     let args = arguments_behind(alloc, &mut ahead)?;
-    ended(&ahead)?;
+    need_end(&ahead)?;
     Ok(args)
 }
 

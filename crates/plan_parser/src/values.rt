@@ -7,7 +7,7 @@ ghost use Rattle.plan_parser.specs.Values as spec;
 ghost use Rattle.plan_parser.specs.Values.{value_to};
 ghost use Rattle.plan_parser.specs.InsideValues.{ReadsValues};
 
-use crate::item::{TypedValue, begins_value, list_of, literal_at, tuple_of, typed};
+use crate::item::{TypedValue, begins_value, list_of, literal_at, tuple_of, with_type};
 use plan_base::{Limit, Ty, Value, Values};
 use plan_equality::Same;
 use plan_grammar::{Ahead, MOST_ITEMS, MOST_PARTS, ParseFault, Wanted, opens, type_to};
@@ -43,7 +43,7 @@ pub fn past_value(ahead: &Ahead<'_>, limit: Limit) -> ParseFault
 
 /// Refuses an item of a list that hasn't the type of the first.
 #[tactic(auto, unfolding(crate::specs::Values::judged_item))]
-fn judged(t: &Ty, at: u32, item: TypedValue, ahead: &Ahead<'_>) -> Result<Value, ParseFault>
+fn judge_item(t: &Ty, at: u32, item: TypedValue, ahead: &Ahead<'_>) -> Result<Value, ParseFault>
     ensures { Gives (spec.judged_item t.now at item ahead.now) result ahead.now }
 {
     if !item.ty.is(t) {
@@ -120,10 +120,10 @@ impl<F: Fn(Global, u32, u32, &mut Ahead<'_>) -> Result<TypedValue, ParseFault>> 
     }
 
     /// A tuple, whose bracket stands at `at`.
-    #[tactic(auto, unfolding(crate::specs::Values::grouped))]
-    fn grouped(&self, ahead: &mut Ahead<'_>, at: u32) -> Result<TypedValue, ParseFault>
+    #[tactic(auto, unfolding(crate::specs::Values::grouped_value))]
+    fn tuple_at(&self, ahead: &mut Ahead<'_>, at: u32) -> Result<TypedValue, ParseFault>
         requires { ReadsValues self.now.outside self.now.room (F.pre self.now.read) (F.post self.now.read) }
-        ensures { Gives (spec.grouped (value_to self.now.outside self.now.room) self.now.outside self.now.room at ahead.old) result ahead.new }
+        ensures { Gives (spec.grouped_value (value_to self.now.outside self.now.room) self.now.outside self.now.room at ahead.old) result ahead.new }
     {
         if self.room == 0 {
             return Err(ParseFault::TooDeep(at));
@@ -142,10 +142,10 @@ impl<F: Fn(Global, u32, u32, &mut Ahead<'_>) -> Result<TypedValue, ParseFault>> 
         ahead.skip();
         if ahead.is_symbol(Symbol::ParenClose) {
             ahead.skip();
-            return Ok(typed(Value::Unit, Ty::Unit));
+            return Ok(with_type(Value::Unit, Ty::Unit));
         }
         if begins_value(ahead) {
-            return self.grouped(ahead, at);
+            return self.tuple_at(ahead, at);
         }
         Err(ParseFault::Expected(Wanted::Symbol(Symbol::ParenClose), ahead.place()))
     }
@@ -158,7 +158,7 @@ impl<F: Fn(Global, u32, u32, &mut Ahead<'_>) -> Result<TypedValue, ParseFault>> 
     {
         let at = ahead.place();
         let item = self.inner(ahead)?;
-        judged(t, at, item, ahead)
+        judge_item(t, at, item, ahead)
     }
 
     /// Further items of that type behind commas.

@@ -5,15 +5,15 @@ use Rattle.plan_base.specs.declared.tree.Ty.{Ty, Ty-F, out-Ty, map-Ty, fold_out-
 use Rattle.plan_base.specs.declared.tree.Expr.{Expr, Expr-F, out-Expr, map-Expr, fold_out-Expr}
 use Rattle.plan_base.specs.declared.tree.Expr.TheVariants as x
 use Rattle.plan_base.specs.declared.tree.Clause.{Clause, fold-Clause, fold_out-Clause}
-use Rattle.printed_forms.specs.Pieces.{listed, commas}
+use Rattle.printed_forms.specs.Pieces.{listed_pieces, commas}
 use Rattle.printed_forms.specs.Printed.{empty_text, values_text, type_text_level, type_text, expr_text_level, expr_text, clause_text_level, clause_text}
 
-pub listed-map : {X A : Type 0} (between first : List A) (f : X → List A) (xs : List X) → listed between first (λ s. s) (map f xs) ≡ listed between first f xs
+pub listed-map : {X A : Type 0} (between first : List A) (f : X → List A) (xs : List X) → listed_pieces between first (λ s. s) (map f xs) ≡ listed_pieces between first f xs
 listed-map between first f [] = refl
 listed-map between first f (x ∷ xs) = ap (λ s. first ++ (f x ++ s)) (listed-map between between f xs)
 
-pub listed_same : {X A : Type 0} (between first : List A) (f g : X → List A) → ((x : X) → f x ≡ g x) → (xs : List X) → listed between first (λ s. s) (map f xs) ≡ listed between first g xs
-listed_same between first f g e xs = listed-map between first f xs ∙ (λ i. listed between first (λ x. e x i) xs)
+pub listed_same : {X A : Type 0} (between first : List A) (f g : X → List A) → ((x : X) → f x ≡ g x) → (xs : List X) → listed_pieces between first (λ s. s) (map f xs) ≡ listed_pieces between first g xs
+listed_same between first f g e xs = listed-map between first f xs ∙ (λ i. listed_pieces between first (λ x. e x i) xs)
 
 type_text_step : (f : Ty → List ℕ) (x : Ty-F Ty) → type_text_level (λ s. s) (map-Ty Ty (List ℕ) f x) ≡ type_text_level f x
 type_text_step f (Ty-F.Tuple ts) = ap (λ s. codes "(" ++ s ++ codes ")") (listed-map (codes " * ") [] f ts)

@@ -1,7 +1,7 @@
 ghost use Rattle.std.specs.Prelude.{◌≡◌, ◌++◌, [], codes, OnOk, OnErr};
 ghost use Rattle.std.specs.Fmt.{decimal};
 ghost use Rattle.std.specs.List.{flat_map};
-ghost use Rattle.printed_forms.specs.Pieces.{listed, commas};
+ghost use Rattle.printed_forms.specs.Pieces.{listed_pieces, commas};
 ghost use Rattle.printed_forms.specs.Printed.{type_text, op_text, nil_text, raise_text, expr_text, catch_text, clause_text, svc_text, exn_text, param_text, fun_text, program_text};
 
 use crate::pieces::{
@@ -222,7 +222,8 @@ fn put_exprs(alloc: Global, exprs: &[Expr], out: &mut Bytes) -> Result<(), NoMem
 /// Clauses with bars between them.
 #[cycle(put_expr)]
 fn put_clauses(alloc: Global, clauses: &[Clause], out: &mut Bytes) -> Result<(), NoMemory>
-    ensures { OnOk result (out.new ≡ out.old ++ listed (codes " | ") [] clause_text clauses.now) }
+    ensures { OnOk result (out.new ≡ out.old ++ listed_pieces (codes " | ") [] clause_text
+        clauses.now) }
 {
     let mut separator: &[u8] = b"";
     for clause in clauses {

@@ -1,5 +1,5 @@
 ghost use Rattle.std.specs.Prelude.{◌≡◌, ◌++◌, [], OnOk, OnErr};
-ghost use Rattle.printed_forms.specs.Pieces.{listed};
+ghost use Rattle.printed_forms.specs.Pieces.{listed_pieces};
 ghost use Rattle.printed_forms.specs.Printed.{type_text, empty_text};
 
 use crate::pieces::put;
@@ -48,7 +48,7 @@ pub(crate) fn put_type(t: &Ty, out: &mut Bytes) -> Result<(), NoMemory>
 /// Types with `between` between two.
 #[cycle(put_type)]
 pub(crate) fn put_types(between: &[u8], types: &[Ty], out: &mut Bytes) -> Result<(), NoMemory>
-    ensures { OnOk result (out.new ≡ out.old ++ listed between.now [] type_text types.now) }
+    ensures { OnOk result (out.new ≡ out.old ++ listed_pieces between.now [] type_text types.now) }
 {
     let mut separator: &[u8] = b"";
     for t in types {

@@ -289,8 +289,8 @@ record Kept (d e : Expr) (t : Ty) : Type 0 where
 level_formed : (d : Expr) (l : ExprLayer) → out-Expr d ≡ l → formed_expr d ≡ true → Formed l
 level_formed d l o f = ap (formed_expr_level formed_expr (λ c. is_some c.name) (λ c. formed_expr c.body)) (sym o) ∙ (sym (formed_expr_out d) ∙ f)
 
-kept : (d e : Expr) (t : Ty) (l m : ExprLayer) → out-Expr d ≡ l → out-Expr e ≡ m → Good t → Formed m → expr_depth_level expr_depth clause_depth m ≡ expr_depth_level expr_depth clause_depth l → expr_nodes_level expr_nodes clause_nodes m ≡ expr_nodes_level expr_nodes clause_nodes l → Kept d e t
-kept d e t l m o p g f dp ns = record {
+same_form_kept : (d e : Expr) (t : Ty) (l m : ExprLayer) → out-Expr d ≡ l → out-Expr e ≡ m → Good t → Formed m → expr_depth_level expr_depth clause_depth m ≡ expr_depth_level expr_depth clause_depth l → expr_nodes_level expr_nodes clause_nodes m ≡ expr_nodes_level expr_nodes clause_nodes l → Kept d e t
+same_form_kept d e t l m o p g f dp ns = record {
   suits = g;
   formed = formed_expr_out e ∙ (ap (formed_expr_level formed_expr (λ c. is_some c.name) (λ c. formed_expr c.body)) p ∙ f);
   depth = expr_depth_out e ∙ (ap (expr_depth_level expr_depth clause_depth) p ∙ (dp ∙ (ap (expr_depth_level expr_depth clause_depth) (sym o) ∙ sym (expr_depth_out d))));
@@ -361,99 +361,99 @@ module _ (code : Program) (heads : GoodHeads code) (seen : ℕ) where
     expr_kept {d = d} {e = e} {t = t} (B.empty u o q s p r) g w f = same d e t p (subst (λ z. Good z) (sym q) (good_list u (level_formed d (Expr-F.Nil (Some u)) o f) (subst (λ z. IsShallow z) q s))) f
     expr_kept {d = d} {e = e} {t = t} (B.empty_filled u o q s p r) g w f =
         let good_t : Good t = good t (subst GoodWant r w) s in
-        kept d e t (Expr-F.Nil None) (Expr-F.Nil (Some u)) o (ap out-Expr p ∙ v.outs-Nil (Some u)) good_t (good_item t u (ap out-Ty q ∙ ty.outs-List u) good_t) refl refl
+        same_form_kept d e t (Expr-F.Nil None) (Expr-F.Nil (Some u)) o (ap out-Expr p ∙ v.outs-Nil (Some u)) good_t (good_item t u (ap out-Ty q ∙ ty.outs-List u) good_t) refl refl
     expr_kept {d = d} {e = e} {t = t} (B.raising n o k s p r) g w f = same d e t p (level_formed d (Expr-F.Raise n (Some t)) o f) f
     expr_kept {d = d} {e = e} {t = t} (B.raising_filled n o k s p r) g w f =
         let good_t : Good t = good t (subst GoodWant r w) s in
-        kept d e t (Expr-F.Raise n None) (Expr-F.Raise n (Some t)) o (ap out-Expr p ∙ v.outs-Raise n (Some t)) good_t good_t refl refl
+        same_form_kept d e t (Expr-F.Raise n None) (Expr-F.Raise n (Some t)) o (ap out-Expr p ∙ v.outs-Raise n (Some t)) good_t good_t refl refl
     expr_kept {want = want} {d = d} {e = e} {t = t} (B.tuple ds es ts o b q s p r) g w f =
         let z = level_formed d (Expr-F.Tuple ds) o f in
         let k = parts_kept b g (want_parts (length ds) want w) (and_right (has_from_to 2 8 ds) (list_all formed_expr ds) z) in
         let n : has_from_to 2 8 es ≡ true = some_few 2 8 ds es (count_kept k) (and_left (has_from_to 2 8 ds) (list_all formed_expr ds) z) in
-        kept d e t (Expr-F.Tuple ds) (Expr-F.Tuple es) o (ap out-Expr p ∙ v.outs-Tuple es) (subst (λ z. Good z) (sym q) (good_tuple ts (ap (λ m. nat_le 2 m && nat_le m 8) k.count ∙ n) k.types (subst (λ z. IsShallow z) q s)))
+        same_form_kept d e t (Expr-F.Tuple ds) (Expr-F.Tuple es) o (ap out-Expr p ∙ v.outs-Tuple es) (subst (λ z. Good z) (sym q) (good_tuple ts (ap (λ m. nat_le 2 m && nat_le m 8) k.count ∙ n) k.types (subst (λ z. IsShallow z) q s)))
         (and_both (has_from_to 2 8 es) (list_all formed_expr es) n k.all) (ap (λ m. 1 + m) (deepest_kept k)) (ap (λ m. 1 + m) (sum_kept k))
     expr_kept {d = d} {e = e} {t = t} (B.part i a a1 ts o b q p r) g w f =
         let z = level_formed d (Expr-F.Part i a) o f in
         let k = expr_kept b g tt (and_right (nat_le 1 i && nat_le i 8) (formed_expr a) z) in
-        kept d e t (Expr-F.Part i a) (Expr-F.Part i a1) o (ap out-Expr p ∙ v.outs-Part i a1) (good_part i ts t (good_parts (ty.Tuple ts) ts (ty.outs-Tuple ts) k.suits) q)
+        same_form_kept d e t (Expr-F.Part i a) (Expr-F.Part i a1) o (ap out-Expr p ∙ v.outs-Part i a1) (good_part i ts t (good_parts (ty.Tuple ts) ts (ty.outs-Tuple ts) k.suits) q)
         (and_both (nat_le 1 i && nat_le i 8) (formed_expr a1) (and_left (nat_le 1 i && nat_le i 8) (formed_expr a) z) k.formed) (ap (λ m. 1 + m) k.depth) (ap (λ m. 1 + m) k.nodes)
     expr_kept {d = d} {e = e} {t = t} (B.of_items n a a1 p u o q b h r s) g w f =
         let z = level_formed d (Expr-F.Call n (a ∷ [])) o f in
         let k = expr_kept b g tt (and_left (formed_expr a) true (and_right (nat_le 1 8) (formed_expr a && true) z)) in
-        kept d e t (Expr-F.Call n (a ∷ [])) (Expr-F.Call n (a1 ∷ [])) o (ap out-Expr r ∙ v.outs-Call n (a1 ∷ [])) (good_of_list p u t (good_item (ty.List u) u (ty.outs-List u) k.suits) k.suits h)
+        same_form_kept d e t (Expr-F.Call n (a ∷ [])) (Expr-F.Call n (a1 ∷ [])) o (ap out-Expr r ∙ v.outs-Call n (a1 ∷ [])) (good_of_list p u t (good_item (ty.List u) u (ty.outs-List u) k.suits) k.suits h)
         (and_both (nat_le 1 8) (formed_expr a1 && true) refl (and_both (formed_expr a1) true k.formed refl)) (ap (λ m. 1 + max 0 m) k.depth) (ap (λ m. 1 + (0 + m)) k.nodes)
     expr_kept {d = d} {e = e} {t = t} (B.primitive n ds es p ts o q h b j r s) g w f =
         let z = level_formed d (Expr-F.Call n ds) o f in
         let k = parts_kept b g (all_formed ts (good_takes p ts h)) (and_right (nat_le (length ds) 8) (list_all formed_expr ds) z) in
-        kept d e t (Expr-F.Call n ds) (Expr-F.Call n es) o (ap out-Expr r ∙ v.outs-Call n es) (subst (λ z. Good z) (sym j) (good_makes p)) (args_formed ds es ts k z) (ap (λ m. 1 + m) (deepest_kept k)) (ap (λ m. 1 + m) (sum_kept k))
+        same_form_kept d e t (Expr-F.Call n ds) (Expr-F.Call n es) o (ap out-Expr r ∙ v.outs-Call n es) (subst (λ z. Good z) (sym j) (good_makes p)) (args_formed ds es ts k z) (ap (λ m. 1 + m) (deepest_kept k)) (ap (λ m. 1 + m) (sum_kept k))
     expr_kept {d = d} {e = e} {t = t} (B.serving n ds es y o q h b j r s) g w f =
         let z = level_formed d (Expr-F.Call n ds) o f in
         let y_good = service_good code n y heads h in
         let k = parts_kept b g (all_formed y.params (svc_params y y_good)) (and_right (nat_le (length ds) 8) (list_all formed_expr ds) z) in
-        kept d e t (Expr-F.Call n ds) (Expr-F.Call n es) o (ap out-Expr r ∙ v.outs-Call n es) (subst (λ z. Good z) (sym j) (svc_result y y_good)) (args_formed ds es y.params k z) (ap (λ m. 1 + m) (deepest_kept k)) (ap (λ m. 1 + m) (sum_kept k))
+        same_form_kept d e t (Expr-F.Call n ds) (Expr-F.Call n es) o (ap out-Expr r ∙ v.outs-Call n es) (subst (λ z. Good z) (sym j) (svc_result y y_good)) (args_formed ds es y.params k z) (ap (λ m. 1 + m) (deepest_kept k)) (ap (λ m. 1 + m) (sum_kept k))
     expr_kept {d = d} {e = e} {t = t} (B.call n ds es y o q h l b j r s) g w f =
         let z = level_formed d (Expr-F.Call n ds) o f in
         let y_good = earlier_good code seen n y heads l in
         let k = parts_kept b g (all_formed (param_types y.params) (good_params y.params (fun_params y y_good))) (and_right (nat_le (length ds) 8) (list_all formed_expr ds) z) in
-        kept d e t (Expr-F.Call n ds) (Expr-F.Call n es) o (ap out-Expr r ∙ v.outs-Call n es) (subst (λ z. Good z) (sym j) (fun_result y y_good)) (args_formed ds es (param_types y.params) k z) (ap (λ m. 1 + m) (deepest_kept k)) (ap (λ m. 1 + m) (sum_kept k))
+        same_form_kept d e t (Expr-F.Call n ds) (Expr-F.Call n es) o (ap out-Expr r ∙ v.outs-Call n es) (subst (λ z. Good z) (sym j) (fun_result y y_good)) (args_formed ds es (param_types y.params) k z) (ap (λ m. 1 + m) (deepest_kept k)) (ap (λ m. 1 + m) (sum_kept k))
     expr_kept {d = d} {e = e} {t = t} (B.choice p a b p1 a1 b1 o i j l r) g w f =
         let z = level_formed d (Expr-F.If p a b) o f in
         let y = and_right (formed_expr p) (formed_expr a && formed_expr b) z in
         let k = expr_kept i g (formed_of ty.Bool good_bool) (and_left (formed_expr p) (formed_expr a && formed_expr b) z) in
         let m = expr_kept j g w (first a b y) in
         let n = expr_kept l g (formed_of t m.suits) (second a b y) in
-        kept d e t (Expr-F.If p a b) (Expr-F.If p1 a1 b1) o (ap out-Expr r ∙ v.outs-If p1 a1 b1) m.suits (three p1 a1 b1 k.formed m.formed n.formed) (λ i. 1 + max (k.depth i) (max (m.depth i) (n.depth i))) (λ i. 1 + k.nodes i + m.nodes i + n.nodes i)
+        same_form_kept d e t (Expr-F.If p a b) (Expr-F.If p1 a1 b1) o (ap out-Expr r ∙ v.outs-If p1 a1 b1) m.suits (three p1 a1 b1 k.formed m.formed n.formed) (λ i. 1 + max (k.depth i) (max (m.depth i) (n.depth i))) (λ i. 1 + k.nodes i + m.nodes i + n.nodes i)
     expr_kept {c = c} {d = d} {e = e} {t = t} (B.binder x u a b a1 b1 o i j r) g w f =
         let z = level_formed d (Expr-F.Let x u a b) o f in
         let u_good : Good u = and_left (well_formed_type u) (formed_expr a && formed_expr b) z in
         let y = and_right (well_formed_type u) (formed_expr a && formed_expr b) z in
         let k = expr_kept i g (formed_of u u_good) (first a b y) in
         let m = expr_kept j (good_behind c x u g u_good) w (second a b y) in
-        kept d e t (Expr-F.Let x u a b) (Expr-F.Let x u a1 b1) o (ap out-Expr r ∙ v.outs-Let x u a1 b1) m.suits (and_both (well_formed_type u) (formed_expr a1 && formed_expr b1) u_good (two a1 b1 k.formed m.formed)) (λ i. 1 + max (k.depth i) (m.depth i)) (λ i. 1 + k.nodes i + m.nodes i)
+        same_form_kept d e t (Expr-F.Let x u a b) (Expr-F.Let x u a1 b1) o (ap out-Expr r ∙ v.outs-Let x u a1 b1) m.suits (and_both (well_formed_type u) (formed_expr a1 && formed_expr b1) u_good (two a1 b1 k.formed m.formed)) (λ i. 1 + max (k.depth i) (m.depth i)) (λ i. 1 + k.nodes i + m.nodes i)
     expr_kept {d = d} {e = e} {t = t} (B.sequence a b a1 b1 o i j r) g w f =
         let z = level_formed d (Expr-F.Then a b) o f in
         let k = expr_kept i g (formed_of ty.Unit good_unit) (first a b z) in
         let m = expr_kept j g w (second a b z) in
-        kept d e t (Expr-F.Then a b) (Expr-F.Then a1 b1) o (ap out-Expr r ∙ v.outs-Then a1 b1) m.suits (two a1 b1 k.formed m.formed) (λ i. 1 + max (k.depth i) (m.depth i)) (λ i. 1 + k.nodes i + m.nodes i)
+        same_form_kept d e t (Expr-F.Then a b) (Expr-F.Then a1 b1) o (ap out-Expr r ∙ v.outs-Then a1 b1) m.suits (two a1 b1 k.formed m.formed) (λ i. 1 + max (k.depth i) (m.depth i)) (λ i. 1 + k.nodes i + m.nodes i)
     expr_kept {d = d} {e = e} {t = t} (B.both a b a1 b1 o i j q r s) g w f =
         let z = level_formed d (Expr-F.And a b) o f in
         let k = expr_kept i g (formed_of ty.Bool good_bool) (first a b z) in
         let m = expr_kept j g (formed_of ty.Bool good_bool) (second a b z) in
-        kept d e t (Expr-F.And a b) (Expr-F.And a1 b1) o (ap out-Expr r ∙ v.outs-And a1 b1) (subst (λ z. Good z) (sym q) good_bool) (two a1 b1 k.formed m.formed) (λ i. 1 + max (k.depth i) (m.depth i)) (λ i. 1 + k.nodes i + m.nodes i)
+        same_form_kept d e t (Expr-F.And a b) (Expr-F.And a1 b1) o (ap out-Expr r ∙ v.outs-And a1 b1) (subst (λ z. Good z) (sym q) good_bool) (two a1 b1 k.formed m.formed) (λ i. 1 + max (k.depth i) (m.depth i)) (λ i. 1 + k.nodes i + m.nodes i)
     expr_kept {d = d} {e = e} {t = t} (B.either a b a1 b1 o i j q r s) g w f =
         let z = level_formed d (Expr-F.Or a b) o f in
         let k = expr_kept i g (formed_of ty.Bool good_bool) (first a b z) in
         let m = expr_kept j g (formed_of ty.Bool good_bool) (second a b z) in
-        kept d e t (Expr-F.Or a b) (Expr-F.Or a1 b1) o (ap out-Expr r ∙ v.outs-Or a1 b1) (subst (λ z. Good z) (sym q) good_bool) (two a1 b1 k.formed m.formed) (λ i. 1 + max (k.depth i) (m.depth i)) (λ i. 1 + k.nodes i + m.nodes i)
+        same_form_kept d e t (Expr-F.Or a b) (Expr-F.Or a1 b1) o (ap out-Expr r ∙ v.outs-Or a1 b1) (subst (λ z. Good z) (sym q) good_bool) (two a1 b1 k.formed m.formed) (λ i. 1 + max (k.depth i) (m.depth i)) (λ i. 1 + k.nodes i + m.nodes i)
     expr_kept {d = d} {e = e} {t = t} (B.negation a a1 o i q r s) g w f =
         let k = expr_kept i g (formed_of ty.Bool good_bool) (level_formed d (Expr-F.Not a) o f) in
-        kept d e t (Expr-F.Not a) (Expr-F.Not a1) o (ap out-Expr r ∙ v.outs-Not a1) (subst (λ z. Good z) (sym q) good_bool) k.formed (ap (λ m. 1 + m) k.depth) (ap (λ m. 1 + m) k.nodes)
+        same_form_kept d e t (Expr-F.Not a) (Expr-F.Not a1) o (ap out-Expr r ∙ v.outs-Not a1) (subst (λ z. Good z) (sym q) good_bool) k.formed (ap (λ m. 1 + m) k.depth) (ap (λ m. 1 + m) k.nodes)
     expr_kept {d = d} {e = e} {t = t} (B.calculation y a b a1 b1 o h i j q r s) g w f =
         let z = level_formed d (Expr-F.Binary y a b) o f in
         let k = expr_kept i g (formed_of ty.Int good_int) (first a b z) in
         let m = expr_kept j g (formed_of ty.Int good_int) (second a b z) in
-        kept d e t (Expr-F.Binary y a b) (Expr-F.Binary y a1 b1) o (ap out-Expr r ∙ v.outs-Binary y a1 b1) (subst (λ z. Good z) (sym q) good_int) (two a1 b1 k.formed m.formed) (λ i. 1 + max (k.depth i) (m.depth i)) (λ i. 1 + k.nodes i + m.nodes i)
+        same_form_kept d e t (Expr-F.Binary y a b) (Expr-F.Binary y a1 b1) o (ap out-Expr r ∙ v.outs-Binary y a1 b1) (subst (λ z. Good z) (sym q) good_int) (two a1 b1 k.formed m.formed) (λ i. 1 + max (k.depth i) (m.depth i)) (λ i. 1 + k.nodes i + m.nodes i)
     expr_kept {d = d} {e = e} {t = t} (B.join y a b a1 b1 o h i l j r s) g w f =
         let z = level_formed d (Expr-F.Binary y a b) o f in
         let k = expr_kept i g tt (first a b z) in
         let m = expr_kept j g (formed_of t k.suits) (second a b z) in
-        kept d e t (Expr-F.Binary y a b) (Expr-F.Binary y a1 b1) o (ap out-Expr r ∙ v.outs-Binary y a1 b1) k.suits (two a1 b1 k.formed m.formed) (λ i. 1 + max (k.depth i) (m.depth i)) (λ i. 1 + k.nodes i + m.nodes i)
+        same_form_kept d e t (Expr-F.Binary y a b) (Expr-F.Binary y a1 b1) o (ap out-Expr r ∙ v.outs-Binary y a1 b1) k.suits (two a1 b1 k.formed m.formed) (λ i. 1 + max (k.depth i) (m.depth i)) (λ i. 1 + k.nodes i + m.nodes i)
     expr_kept {d = d} {e = e} {t = t} (B.comparison y a b a1 b1 u o h i j q r s) g w f =
         let z = level_formed d (Expr-F.Binary y a b) o f in
         let k = expr_kept i g tt (first a b z) in
         let m = expr_kept j g (formed_of u k.suits) (second a b z) in
-        kept d e t (Expr-F.Binary y a b) (Expr-F.Binary y a1 b1) o (ap out-Expr r ∙ v.outs-Binary y a1 b1) (subst (λ z. Good z) (sym q) good_bool) (two a1 b1 k.formed m.formed) (λ i. 1 + max (k.depth i) (m.depth i)) (λ i. 1 + k.nodes i + m.nodes i)
+        same_form_kept d e t (Expr-F.Binary y a b) (Expr-F.Binary y a1 b1) o (ap out-Expr r ∙ v.outs-Binary y a1 b1) (subst (λ z. Good z) (sym q) good_bool) (two a1 b1 k.formed m.formed) (λ i. 1 + max (k.depth i) (m.depth i)) (λ i. 1 + k.nodes i + m.nodes i)
     expr_kept {d = d} {e = e} {t = t} (B.order y a b a1 b1 u o h i l j q r s) g w f =
         let z = level_formed d (Expr-F.Binary y a b) o f in
         let k = expr_kept i g tt (first a b z) in
         let m = expr_kept j g (formed_of u k.suits) (second a b z) in
-        kept d e t (Expr-F.Binary y a b) (Expr-F.Binary y a1 b1) o (ap out-Expr r ∙ v.outs-Binary y a1 b1) (subst (λ z. Good z) (sym q) good_bool) (two a1 b1 k.formed m.formed) (λ i. 1 + max (k.depth i) (m.depth i)) (λ i. 1 + k.nodes i + m.nodes i)
+        same_form_kept d e t (Expr-F.Binary y a b) (Expr-F.Binary y a1 b1) o (ap out-Expr r ∙ v.outs-Binary y a1 b1) (subst (λ z. Good z) (sym q) good_bool) (two a1 b1 k.formed m.formed) (λ i. 1 + max (k.depth i) (m.depth i)) (λ i. 1 + k.nodes i + m.nodes i)
     expr_kept {want = want} {d = d} {e = e} {t = t} (B.prefix y a b a1 b1 u o h i j q l r s) g w f =
         let z = level_formed d (Expr-F.Binary y a b) o f in
         let k = expr_kept i g (want_item want w) (first a b z) in
         let u_list : Good (ty.List u) = good_list u k.suits (subst (λ z. IsShallow z) q l) in
         let m = expr_kept j g (formed_of (ty.List u) u_list) (second a b z) in
-        kept d e t (Expr-F.Binary y a b) (Expr-F.Binary y a1 b1) o (ap out-Expr r ∙ v.outs-Binary y a1 b1) (subst (λ z. Good z) (sym q) u_list) (two a1 b1 k.formed m.formed) (λ i. 1 + max (k.depth i) (m.depth i)) (λ i. 1 + k.nodes i + m.nodes i)
+        same_form_kept d e t (Expr-F.Binary y a b) (Expr-F.Binary y a1 b1) o (ap out-Expr r ∙ v.outs-Binary y a1 b1) (subst (λ z. Good z) (sym q) u_list) (two a1 b1 k.formed m.formed) (λ i. 1 + max (k.depth i) (m.depth i)) (λ i. 1 + k.nodes i + m.nodes i)
     expr_kept {d = d} {e = e} {t = t} (B.handling a a1 ks hs o i j r) g w f =
         let z = level_formed d (Expr-F.Try a ks) o f in
         let y = and_right (formed_expr a) ((has_from_to 1 8 ks && names_all_but_last (λ k. is_some k.name) ks) && list_all (λ k. formed_expr k.body) ks) z in
@@ -464,7 +464,7 @@ module _ (code : Program) (heads : GoodHeads code) (seen : ℕ) where
         let deepest : largest_by clause_depth hs ≡ largest_by clause_depth ks = sym (largest_by-map clause_depth hs) ∙ (ap (largest_by (λ n. n)) m.depths ∙ largest_by-map clause_depth ks) in
         let sums : sum_by clause_nodes hs ≡ sum_by clause_nodes ks = sym (sum-map clause_nodes hs) ∙ (ap (sum_by (λ n. n)) m.counts ∙ sum-map clause_nodes ks) in
         let counted : (has_from_to 1 8 hs && names_all_but_last (λ k. is_some k.name) hs) ≡ true = (λ i. (nat_le 1 (n i) && nat_le (n i) 8) && named_kept ks hs m.names i) ∙ counts in
-        kept d e t (Expr-F.Try a ks) (Expr-F.Try a1 hs) o (ap out-Expr r ∙ v.outs-Try a1 hs) k.suits
+        same_form_kept d e t (Expr-F.Try a ks) (Expr-F.Try a1 hs) o (ap out-Expr r ∙ v.outs-Try a1 hs) k.suits
         (and_both (formed_expr a1) ((has_from_to 1 8 hs && names_all_but_last (λ k. is_some k.name) hs) && list_all (λ k. formed_expr k.body) hs) k.formed (and_both (has_from_to 1 8 hs && names_all_but_last (λ k. is_some k.name) hs) (list_all (λ k. formed_expr k.body) hs) counted m.all))
         (λ i. 1 + max (k.depth i) (deepest i)) (λ i. 1 + k.nodes i + sums i)
     expr_kept {d = d} {e = e} {t = t} (B.fold_left n a l a1 l1 y u o h q p i j r s) g w f =
@@ -475,7 +475,7 @@ module _ (code : Program) (heads : GoodHeads code) (seen : ℕ) where
         let u_good : Good u = and_left (well_formed_type u) true (and_right (well_formed_type t) (well_formed_type u && true) types) in
         let k = expr_kept i g (formed_of t t_good) (first a l z) in
         let m = expr_kept j g (formed_list u u_good) (second a l z) in
-        kept d e t (Expr-F.Foldl n a l) (Expr-F.Foldl n a1 l1) o (ap out-Expr r ∙ v.outs-Foldl n a1 l1) t_good (two a1 l1 k.formed m.formed) (λ i. 1 + max (k.depth i) (m.depth i)) (λ i. 1 + k.nodes i + m.nodes i)
+        same_form_kept d e t (Expr-F.Foldl n a l) (Expr-F.Foldl n a1 l1) o (ap out-Expr r ∙ v.outs-Foldl n a1 l1) t_good (two a1 l1 k.formed m.formed) (λ i. 1 + max (k.depth i) (m.depth i)) (λ i. 1 + k.nodes i + m.nodes i)
     expr_kept {d = d} {e = e} {t = t} (B.fold_right n a l a1 l1 y u o h q p i j r s) g w f =
         let z = level_formed d (Expr-F.Foldr n a l) o f in
         let y_good = earlier_good code seen n y heads h in
@@ -483,22 +483,22 @@ module _ (code : Program) (heads : GoodHeads code) (seen : ℕ) where
         let types : AllGood (u ∷ t ∷ []) = subst (λ z. AllGood z) q (good_params y.params (fun_params y y_good)) in
         let k = expr_kept i g (formed_of t t_good) (first a l z) in
         let m = expr_kept j g (formed_list u (and_left (well_formed_type u) (well_formed_type t && true) types)) (second a l z) in
-        kept d e t (Expr-F.Foldr n a l) (Expr-F.Foldr n a1 l1) o (ap out-Expr r ∙ v.outs-Foldr n a1 l1) t_good (two a1 l1 k.formed m.formed) (λ i. 1 + max (k.depth i) (m.depth i)) (λ i. 1 + k.nodes i + m.nodes i)
+        same_form_kept d e t (Expr-F.Foldr n a l) (Expr-F.Foldr n a1 l1) o (ap out-Expr r ∙ v.outs-Foldr n a1 l1) t_good (two a1 l1 k.formed m.formed) (λ i. 1 + max (k.depth i) (m.depth i)) (λ i. 1 + k.nodes i + m.nodes i)
     expr_kept {d = d} {e = e} {t = t} (B.packing n ds es y o h b q r s) g w f =
         let z = level_formed d (Expr-F.ChunkOf n ds) o f in
         let y_good = any_good code n y heads h in
         let k = parts_kept b g (all_formed (param_types y.params) (good_params y.params (fun_params y y_good))) (and_right (nat_le (length ds) 8) (list_all formed_expr ds) z) in
-        kept d e t (Expr-F.ChunkOf n ds) (Expr-F.ChunkOf n es) o (ap out-Expr r ∙ v.outs-ChunkOf n es) (subst (λ z. Good z) (sym q) good_chunk) (args_formed ds es (param_types y.params) k z) (ap (λ m. 1 + m) (deepest_kept k)) (ap (λ m. 1 + m) (sum_kept k))
+        same_form_kept d e t (Expr-F.ChunkOf n ds) (Expr-F.ChunkOf n es) o (ap out-Expr r ∙ v.outs-ChunkOf n es) (subst (λ z. Good z) (sym q) good_chunk) (args_formed ds es (param_types y.params) k z) (ap (λ m. 1 + m) (deepest_kept k)) (ap (λ m. 1 + m) (sum_kept k))
     expr_kept {d = d} {e = e} {t = t} (B.evaluation a a1 o i q r s) g w f =
         let k = expr_kept i g (formed_of ty.Chunk good_chunk) (level_formed d (Expr-F.Eval a) o f) in
-        kept d e t (Expr-F.Eval a) (Expr-F.Eval a1) o (ap out-Expr r ∙ v.outs-Eval a1) (subst (λ z. Good z) (sym q) good_unit) k.formed (ap (λ m. 1 + m) k.depth) (ap (λ m. 1 + m) k.nodes)
+        same_form_kept d e t (Expr-F.Eval a) (Expr-F.Eval a1) o (ap out-Expr r ∙ v.outs-Eval a1) (subst (λ z. Good z) (sym q) good_unit) k.formed (ap (λ m. 1 + m) k.depth) (ap (λ m. 1 + m) k.nodes)
     expr_kept {d = d} {e = e} {t = t} (B.remote a h n a1 h1 n1 x o i j l q r s) g w f =
         let z = level_formed d (Expr-F.OnRemote a h n x) o f in
         let y = and_right (formed_expr a) (formed_expr h && formed_expr n) z in
         let k = expr_kept i g (formed_of ty.Chunk good_chunk) (and_left (formed_expr a) (formed_expr h && formed_expr n) z) in
         let m = expr_kept j g (formed_of ty.Host good_host) (first h n y) in
         let b = expr_kept l g (formed_of ty.Int good_int) (second h n y) in
-        kept d e t (Expr-F.OnRemote a h n x) (Expr-F.OnRemote a1 h1 n1 x) o (ap out-Expr r ∙ v.outs-OnRemote a1 h1 n1 x) (subst (λ z. Good z) (sym q) good_unit) (three a1 h1 n1 k.formed m.formed b.formed) (λ i. 1 + max (k.depth i) (max (m.depth i) (b.depth i))) (λ i. 1 + k.nodes i + m.nodes i + b.nodes i)
+        same_form_kept d e t (Expr-F.OnRemote a h n x) (Expr-F.OnRemote a1 h1 n1 x) o (ap out-Expr r ∙ v.outs-OnRemote a1 h1 n1 x) (subst (λ z. Good z) (sym q) good_unit) (three a1 h1 n1 k.formed m.formed b.formed) (λ i. 1 + max (k.depth i) (max (m.depth i) (b.depth i))) (λ i. 1 + k.nodes i + m.nodes i + b.nodes i)
     expr_kept {d = d} {e = e} {t = t} (B.neighbour a h n y a1 h1 n1 y1 o i j l x q r s) g w f =
         let z = level_formed d (Expr-F.OnNeighbor a h n y) o f in
         let z0 = and_left (formed_expr a && formed_expr h) (formed_expr n && formed_expr y) z in
@@ -507,7 +507,7 @@ module _ (code : Program) (heads : GoodHeads code) (seen : ℕ) where
         let m = expr_kept j g (formed_of ty.Host good_host) (second a h z0) in
         let b = expr_kept l g (formed_of ty.Int good_int) (first n y z1) in
         let c = expr_kept x g (formed_of ty.Dev good_dev) (second n y z1) in
-        kept d e t (Expr-F.OnNeighbor a h n y) (Expr-F.OnNeighbor a1 h1 n1 y1) o (ap out-Expr r ∙ v.outs-OnNeighbor a1 h1 n1 y1) (subst (λ z. Good z) (sym q) good_unit)
+        same_form_kept d e t (Expr-F.OnNeighbor a h n y) (Expr-F.OnNeighbor a1 h1 n1 y1) o (ap out-Expr r ∙ v.outs-OnNeighbor a1 h1 n1 y1) (subst (λ z. Good z) (sym q) good_unit)
         (and_both (formed_expr a1 && formed_expr h1) (formed_expr n1 && formed_expr y1) (two a1 h1 k.formed m.formed) (two n1 y1 b.formed c.formed))
         (λ i. 1 + max (max (k.depth i) (m.depth i)) (max (b.depth i) (c.depth i))) (λ i. 1 + k.nodes i + m.nodes i + b.nodes i + c.nodes i)
 

@@ -8,7 +8,7 @@ use Rattle.plan_base.specs.declared.tree.Expr.{Expr}
 use Rattle.typing_rules.specs.declared.type_fault.TypeFault.{TypeFault}
 use Rattle.typing_rules.specs.declared.type_fault.TypeFault.TheVariants.{NoMemory}
 use Rattle.typing_rules.specs.Typing.{Ctx}
-use Rattle.typing_rules.specs.TypingOrder.{Checking, Found, checked}
+use Rattle.typing_rules.specs.TypingOrder.{Checking, Found, checked_expression}
 use Rattle.plan_types.specs.declared.state.Scope.{Scope}
 use Rattle.plan_types.specs.declared.state.State.{State}
 
@@ -24,7 +24,7 @@ Gives want (Err f) = f ≢ NoMemory → want ≡ Err f
 
 -- the checking of the expressions that are no deeper
 abbrev pub below : Scope → ℕ → Ctx → Option Ty → Expr → Checking Found
-below scope depth = checked scope.code.now depth scope.seen
+below scope depth = checked_expression scope.code.now depth scope.seen
 
 -- a function value that checks expressions to a depth
 pub record Nests (depth : ℕ) (pre : Global → ℕ → Bor Scope → MutBor State → Option (Bor Ty) → Bor Expr → Type 0)

@@ -8,7 +8,7 @@ ghost use Rattle.plan_types.specs.Checks.{Meets, Nests, below};
 
 use crate::checker::Checker;
 use crate::names::{binding, is_exception};
-use crate::settle::{items_of, list_of, settled, shallow};
+use crate::settle::{items_of, list_of, settle_type, shallow};
 use crate::state::{Scope, State};
 use plan_base::{Expr, Name, NoMemory, Param, Place, Ty};
 use plan_copies::Copied;
@@ -32,9 +32,9 @@ fn literal(
     e: &Expr,
     ty: Ty,
 ) -> Result<(Expr, Ty), TypeFault>
-    ensures { Meets (spec.settled at (option_copied want.entry) e.now ty node) result node }
+    ensures { Meets (spec.settled_type at (option_copied want.entry) e.now ty node) result node }
 {
-    settled(alloc, at, node, want, e.copy(alloc)?, ty)
+    settle_type(alloc, at, node, want, e.copy(alloc)?, ty)
 }
 
 /// A name that was bound.
@@ -53,7 +53,7 @@ fn variable(
     match binding(name, ctx) {
         Some(ty) => {
             let (e, ty) = copies(alloc, e, ty)?;
-            settled(alloc, at, node, want, e, ty)
+            settle_type(alloc, at, node, want, e, ty)
         }
         None => Err(TypeFault::UnknownName(Place::Node(at))),
     }
@@ -70,7 +70,7 @@ fn item_type(alloc: Global, at: u32, want: Option<&Ty>) -> Result<Ty, TypeFault>
 }
 
 /// An empty list as it stands, with the type of its items, and its type.
-fn written(alloc: Global, e: &Expr, item: &Ty) -> Result<(Expr, Ty), NoMemory>
+fn empty_as_written(alloc: Global, e: &Expr, item: &Ty) -> Result<(Expr, Ty), NoMemory>
     ensures { IfOk result (λ r. r ≡ (e.now, Ty.List item.now)) }
 {
     let ty = list_of(alloc, item.copy(alloc)?)?;
@@ -78,7 +78,7 @@ fn written(alloc: Global, e: &Expr, item: &Ty) -> Result<(Expr, Ty), NoMemory>
 }
 
 /// An empty list of such items, and its type.
-fn filled(alloc: Global, item: Ty) -> Result<(Expr, Ty), NoMemory>
+fn empty_of_items(alloc: Global, item: Ty) -> Result<(Expr, Ty), NoMemory>
     ensures { IfOk result (λ r. r ≡ (Expr.Nil (Some item), Ty.List item)) }
 {
     let given = item.copy(alloc)?;
@@ -99,16 +99,16 @@ fn empty(
     ensures { Meets (spec.empty at (option_copied want.entry) e.now item.now node) result node }
 {
     if let Some(item) = item {
-        let (whole, ty) = written(alloc, e, item)?;
+        let (whole, ty) = empty_as_written(alloc, e, item)?;
         return shallow(alloc, at, node, want, whole, ty);
     }
     let item = item_type(alloc, at, want)?;
-    let (whole, ty) = filled(alloc, item)?;
+    let (whole, ty) = empty_of_items(alloc, item)?;
     shallow(alloc, at, node, want, whole, ty)
 }
 
 /// An exception raised where that type is wanted, and its type.
-fn raised(alloc: Global, name: &Name, ty: &Ty) -> Result<(Expr, Ty), NoMemory>
+fn raise_of_type(alloc: Global, name: &Name, ty: &Ty) -> Result<(Expr, Ty), NoMemory>
     ensures { IfOk result (λ r. r ≡ (Expr.Raise name.now (Some ty.now), ty.now)) }
 {
     let name = name.copy(alloc)?;
@@ -141,7 +141,7 @@ fn raising(
     let Some(ty) = want else {
         return Err(TypeFault::NeedsType(Place::Node(at)));
     };
-    let (whole, ty) = raised(alloc, name, ty)?;
+    let (whole, ty) = raise_of_type(alloc, name, ty)?;
     shallow(alloc, at, node, want, whole, ty)
 }
 
@@ -157,7 +157,7 @@ impl<
 > Checker<F> {
     /// Each form by its own rule.
     #[tactic(auto, using(plan_base::specs::Trees::trees))]
-    fn opened(
+    fn check_form(
         &self,
         scope: &Scope<'_>,
         state: &mut State,
@@ -166,7 +166,7 @@ impl<
         e: &Expr,
     ) -> Result<(Expr, Ty), TypeFault>
         requires { Nests self.now.depth (F.pre self.now.run) (F.post self.now.run) }
-        ensures meets { Meets (spec.opened scope.now.code.now scope.now.seen (below scope.now self.now.depth) state.old.ctx at (option_copied want.entry) e.now (out-Expr e.now) state.old.node) result state.new.node }
+        ensures meets { Meets (spec.opened_form scope.now.code.now scope.now.seen (below scope.now self.now.depth) state.old.ctx at (option_copied want.entry) e.now (out-Expr e.now) state.old.node) result state.new.node }
         ensures keeps { state.new.ctx ≡ state.old.ctx }
     {
         match e {
@@ -250,13 +250,13 @@ impl<
     {
         let at = state.node;
         state.node = at.saturating_add(1);
-        self.opened(scope, state, at, want, e)
+        self.check_form(scope, state, at, want, e)
     }
 }
 
 /// An expression of at most that depth, of which a type may be wanted: the expression with its types
 /// filled in, and its type.
-pub fn checked(
+pub fn check_expr(
     alloc: Global,
     depth: usize,
     scope: &Scope<'_>,
@@ -273,7 +273,7 @@ pub fn checked(
     let checker = Checker {
         alloc,
         depth: depth - 1,
-        run: checked,
+        run: check_expr,
     };
     checker.expression(scope, state, want, e)
 }

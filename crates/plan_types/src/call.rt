@@ -8,7 +8,7 @@ ghost use Rattle.plan_types.specs.Checks.{Meets, Nests, below};
 
 use crate::checker::Checker;
 use crate::names::{earlier, fun_of};
-use crate::settle::{items_of, list_of, settled};
+use crate::settle::{items_of, list_of, settle_type};
 use crate::state::{Scope, State};
 use plan_base::{Expr, Exprs, Name, NoMemory, Param, Place, Primitive, Program, Ty, Tys};
 use plan_copies::Copied;
@@ -127,8 +127,8 @@ impl<
     }
 
     /// A call by its parameters' types and its result's.
-    #[tactic(auto, unfolding(typing_rules::specs::TypingOrder::applied))]
-    fn applied(
+    #[tactic(auto, unfolding(typing_rules::specs::TypingOrder::applied_call))]
+    fn check_call(
         &self,
         scope: &Scope<'_>,
         state: &mut State,
@@ -140,13 +140,13 @@ impl<
         ty: &Ty,
     ) -> Result<(Expr, Ty), TypeFault>
         requires { Nests self.now.depth (F.pre self.now.run) (F.post self.now.run) }
-        ensures meets { Meets (spec.applied scope.now.code.now scope.now.seen (below scope.now self.now.depth) state.old.ctx at (option_copied want.entry) f.now es.now wants.now ty.now state.old.node) result state.new.node }
+        ensures meets { Meets (spec.applied_call scope.now.code.now scope.now.seen (below scope.now self.now.depth) state.old.ctx at (option_copied want.entry) f.now es.now wants.now ty.now state.old.node) result state.new.node }
         ensures keeps { state.new.ctx ≡ state.old.ctx }
     {
         let given = self.arguments(scope, state, at, wants, es)?;
         let ty = ty.copy(self.alloc)?;
         let whole = Expr::Call(f.copy(self.alloc)?, given);
-        settled(self.alloc, at, state.node, want, whole, ty)
+        settle_type(self.alloc, at, state.node, want, whole, ty)
     }
 
     /// A primitive that takes one list of any type.
@@ -174,7 +174,7 @@ impl<
             None => return Err(TypeFault::WrongShape(Place::Node(at))),
         };
         let whole = Expr::Call(f.copy(self.alloc)?, given);
-        settled(self.alloc, at, state.node, want, whole, ty)
+        settle_type(self.alloc, at, state.node, want, whole, ty)
     }
 
     /// A primitive.
@@ -194,7 +194,7 @@ impl<
         ensures keeps { state.new.ctx ≡ state.old.ctx }
     {
         match takes(self.alloc, prim)? {
-            Some(wants) => self.applied(scope, state, at, want, f, es, &wants, &makes(prim)),
+            Some(wants) => self.check_call(scope, state, at, want, f, es, &wants, &makes(prim)),
             None => self.of_items(scope, state, at, want, f, prim, es),
         }
     }
@@ -219,7 +219,7 @@ impl<
             None => return Err(not_earlier(scope.code, f, at)),
         };
         let wants = param_types(self.alloc, fun.params.as_slice())?;
-        self.applied(scope, state, at, want, f, es, &wants, &fun.result)
+        self.check_call(scope, state, at, want, f, es, &wants, &fun.result)
     }
 
     /// A call of a primitive, a service or a function.
@@ -241,7 +241,7 @@ impl<
             return self.primitive(scope, state, at, want, f, prim, es);
         }
         match service_of(f, scope.code.svcs.as_slice()) {
-            Some(svc) => self.applied(scope, state, at, want, f, es, &svc.params, &svc.result),
+            Some(svc) => self.check_call(scope, state, at, want, f, es, &svc.params, &svc.result),
             None => self.function(scope, state, at, want, f, es),
         }
     }
@@ -312,7 +312,7 @@ impl<
         }
         let ty = first.copy(self.alloc)?;
         let whole = Expr::Foldl(f.copy(self.alloc)?, start, items);
-        settled(self.alloc, at, state.node, want, whole, ty)
+        settle_type(self.alloc, at, state.node, want, whole, ty)
     }
 
     /// `foldr`.
@@ -340,7 +340,7 @@ impl<
         }
         let ty = second.copy(self.alloc)?;
         let whole = Expr::Foldr(f.copy(self.alloc)?, start, items);
-        settled(self.alloc, at, state.node, want, whole, ty)
+        settle_type(self.alloc, at, state.node, want, whole, ty)
     }
 
     /// A chunk literal, whose entry is any function of the program.
@@ -365,6 +365,6 @@ impl<
         let wants = param_types(self.alloc, fun.params.as_slice())?;
         let given = self.arguments(scope, state, at, &wants, es)?;
         let whole = Expr::ChunkOf(f.copy(self.alloc)?, given);
-        settled(self.alloc, at, state.node, want, whole, Ty::Chunk)
+        settle_type(self.alloc, at, state.node, want, whole, Ty::Chunk)
     }
 }

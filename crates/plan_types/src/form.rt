@@ -8,7 +8,7 @@ ghost use Rattle.plan_types.specs.Checks.{Meets, Nests, below};
 
 use crate::checker::Checker;
 use crate::names::any_unknown;
-use crate::settle::{part_in, parts_of, settled, shallow};
+use crate::settle::{part_in, parts_of, settle_type, shallow};
 use crate::state::{Scope, State};
 use plan_base::{Clauses, Expr, Exprs, Name, NoMemory, Param, Place, Ty};
 use plan_copies::Copied;
@@ -71,7 +71,7 @@ impl<
             Some(item) => item.copy(self.alloc)?,
             None => return Err(TypeFault::WrongShape(Place::Node(at))),
         };
-        settled(
+        settle_type(
             self.alloc,
             at,
             state.node,
@@ -184,7 +184,7 @@ impl<
     {
         let first = self.wanting_boxed(scope, state, &Ty::Bool, a)?;
         let second = self.wanting_boxed(scope, state, &Ty::Bool, b)?;
-        settled(
+        settle_type(
             self.alloc,
             at,
             state.node,
@@ -211,7 +211,7 @@ impl<
     {
         let first = self.wanting_boxed(scope, state, &Ty::Bool, a)?;
         let second = self.wanting_boxed(scope, state, &Ty::Bool, b)?;
-        settled(
+        settle_type(
             self.alloc,
             at,
             state.node,
@@ -236,7 +236,7 @@ impl<
         ensures keeps { state.new.ctx ≡ state.old.ctx }
     {
         let test = self.wanting_boxed(scope, state, &Ty::Bool, a)?;
-        settled(self.alloc, at, state.node, want, Expr::Not(test), Ty::Bool)
+        settle_type(self.alloc, at, state.node, want, Expr::Not(test), Ty::Bool)
     }
 
     /// `try`.
@@ -277,7 +277,7 @@ impl<
         ensures keeps { state.new.ctx ≡ state.old.ctx }
     {
         let chunk = self.wanting_boxed(scope, state, &Ty::Chunk, a)?;
-        settled(
+        settle_type(
             self.alloc,
             at,
             state.node,
@@ -308,7 +308,7 @@ impl<
         let host = self.wanting_boxed(scope, state, &Ty::Host, h)?;
         let bound = self.wanting_boxed(scope, state, &Ty::Int, n)?;
         let whole = Expr::OnRemote(chunk, host, bound, route.copy(self.alloc)?);
-        settled(self.alloc, at, state.node, want, whole, Ty::Unit)
+        settle_type(self.alloc, at, state.node, want, whole, Ty::Unit)
     }
 
     /// `OnNeighbor`.
@@ -333,7 +333,7 @@ impl<
         let bound = self.wanting_boxed(scope, state, &Ty::Int, n)?;
         let dev = self.wanting_boxed(scope, state, &Ty::Dev, d)?;
         let whole = Expr::OnNeighbor(chunk, host, bound, dev);
-        settled(self.alloc, at, state.node, want, whole, Ty::Unit)
+        settle_type(self.alloc, at, state.node, want, whole, Ty::Unit)
     }
 }
 

@@ -6,7 +6,7 @@ ghost use Rattle.typing_rules.specs.TypingOrder as spec;
 ghost use Rattle.plan_types.specs.Checks.{Meets, Nests, below};
 
 use crate::checker::Checker;
-use crate::settle::{is_joined, is_ordered, items_of, list_of, settled, shallow};
+use crate::settle::{is_joined, is_ordered, items_of, list_of, settle_type, shallow};
 use crate::state::{Scope, State};
 use plan_base::{Expr, Op, Place, Ty};
 use std::alloc::Global;
@@ -40,7 +40,7 @@ impl<
     {
         let first = self.wanting_boxed(scope, state, &Ty::Int, a)?;
         let second = self.wanting_boxed(scope, state, &Ty::Int, b)?;
-        settled(
+        settle_type(
             self.alloc,
             at,
             state.node,
@@ -71,7 +71,7 @@ impl<
             return Err(TypeFault::WrongShape(Place::Node(at)));
         }
         let second = self.wanting_boxed(scope, state, &ty, b)?;
-        settled(
+        settle_type(
             self.alloc,
             at,
             state.node,
@@ -99,7 +99,7 @@ impl<
     {
         let (first, ty) = self.run_boxed(scope, state, None, a)?;
         let second = self.wanting_boxed(scope, state, &ty, b)?;
-        settled(
+        settle_type(
             self.alloc,
             at,
             state.node,
@@ -130,7 +130,7 @@ impl<
             return Err(TypeFault::WrongShape(Place::Node(at)));
         }
         let second = self.wanting_boxed(scope, state, &ty, b)?;
-        settled(
+        settle_type(
             self.alloc,
             at,
             state.node,

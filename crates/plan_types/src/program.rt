@@ -6,7 +6,7 @@ ghost use Rattle.typing_rules.specs.TypingNames as names;
 ghost use Rattle.typing_rules.specs.TypingOrder as spec;
 ghost use Rattle.plan_types.specs.Checks.{Gives};
 
-use crate::body::checked;
+use crate::body::check_expr;
 use crate::names::{has_name, is_built_in};
 use crate::state::{Scope, State};
 use plan_base::{Expr, Fun, Funs, Name, Names, NoMemory, Param, Params, Place, Program, Svc, Ty};
@@ -141,14 +141,14 @@ fn body(
     node: u32,
     d: &Fun,
 ) -> Result<((Expr, Ty), u32), TypeFault>
-    ensures { Gives (spec.checked code.now 64 seen d.now.params (Some d.now.result) d.now.body node) result }
+    ensures { Gives (spec.checked_expression code.now 64 seen d.now.params (Some d.now.result) d.now.body node) result }
 {
     let scope = Scope { code, seen };
     let mut state = State {
         ctx: copy_params(alloc, d.params.as_slice())?,
         node,
     };
-    let found = checked(
+    let found = check_expr(
         alloc,
         MOST_DEPTH,
         &scope,
@@ -199,7 +199,7 @@ fn bodies(alloc: Global, code: &Program, mut all: &[Fun]) -> Result<(Funs, u32),
 
 /// The program, unless its code is too large.
 #[tactic(auto, unfolding(typing_rules::specs::TypingOrder::sized_program))]
-fn sized(code: Program) -> Result<Program, TypeFault>
+fn check_size(code: Program) -> Result<Program, TypeFault>
     ensures { result ≡ spec.sized_program code }
 {
     if code_size(&code) <= MOST_CODE {
@@ -210,13 +210,13 @@ fn sized(code: Program) -> Result<Program, TypeFault>
 }
 
 /// The program with its types filled in, or the first refusal in the order of checking.
-#[tactic(auto, unfolding(typing_rules::specs::TypingOrder::annotated))]
-pub fn annotated(alloc: Global, code: &Program) -> Result<Program, TypeFault>
-    ensures { Gives (spec.annotated code.now) result }
+#[tactic(auto, unfolding(typing_rules::specs::TypingOrder::annotated_program))]
+pub fn annotate_program(alloc: Global, code: &Program) -> Result<Program, TypeFault>
+    ensures { Gives (spec.annotated_program code.now) result }
 {
     let _count = declarations(alloc, code)?;
     let (funs, _nodes) = bodies(alloc, code, code.funs.as_slice())?;
-    sized(Program {
+    check_size(Program {
         svcs: copy_svcs(alloc, code.svcs.as_slice())?,
         exns: copy_names(alloc, code.exns.as_slice())?,
         funs,

@@ -15,7 +15,7 @@ use std::alloc::Global;
 use typing_rules::TypeFault;
 
 /// The refusal of an expression, which is let go.
-fn refused(_e: Expr, fault: TypeFault) -> Result<(Expr, Ty), TypeFault>
+fn refuse_expr(_e: Expr, fault: TypeFault) -> Result<(Expr, Ty), TypeFault>
     ensures { result ≡ Err fault }
 {
     Err(fault)
@@ -32,8 +32,8 @@ fn mismatch(alloc: Global, at: u32, wanted: &Ty, ty: Ty) -> TypeFault
 }
 
 /// The answer for an expression of that type, unless another type is wanted.
-#[tactic(auto, unfolding(typing_rules::specs::TypingOrder::settled))]
-pub fn settled(
+#[tactic(auto, unfolding(typing_rules::specs::TypingOrder::settled_type))]
+pub fn settle_type(
     alloc: Global,
     at: u32,
     node: u32,
@@ -41,7 +41,7 @@ pub fn settled(
     e: Expr,
     ty: Ty,
 ) -> Result<(Expr, Ty), TypeFault>
-    ensures { Meets (spec.settled at (option_copied want.entry) e ty node) result node }
+    ensures { Meets (spec.settled_type at (option_copied want.entry) e ty node) result node }
 {
     match want {
         None => Ok((e, ty)),
@@ -49,7 +49,7 @@ pub fn settled(
             if wanted.is(&ty) {
                 Ok((e, ty))
             } else {
-                refused(e, mismatch(alloc, at, wanted, ty))
+                refuse_expr(e, mismatch(alloc, at, wanted, ty))
             }
         }
     }
@@ -68,9 +68,9 @@ pub fn shallow(
     ensures { Meets (spec.shallow at (option_copied want.entry) e ty node) result node }
 {
     if ty.depth() <= 8 {
-        settled(alloc, at, node, want, e, ty)
+        settle_type(alloc, at, node, want, e, ty)
     } else {
-        refused(e, TypeFault::TypeTooDeep(Place::Node(at)))
+        refuse_expr(e, TypeFault::TypeTooDeep(Place::Node(at)))
     }
 }
 

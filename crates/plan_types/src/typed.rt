@@ -5,10 +5,10 @@ ghost use Rattle.plan_base.specs.declared.tree.Program.{Program as Code};
 ghost use Rattle.plan_base.specs.WellFormed.{IsWellFormedProgram, ProgramHasTypes};
 ghost use Rattle.typing_rules.specs.Typing.{Typed};
 ghost use Rattle.typing_rules.specs.TypingFills.{Fills};
-ghost use Rattle.typing_rules.specs.TypingOrder.{annotated as answer};
+ghost use Rattle.typing_rules.specs.TypingOrder.{annotated_program as answer};
 ghost use Rattle.plan_types.specs.Kept.{IsChecked};
 
-use crate::program::annotated;
+use crate::program::annotate_program;
 use plan_base::{Draft, NoMemory, Program};
 use plan_items::Shared;
 use std::alloc::Global;
@@ -54,7 +54,7 @@ impl Checked {
     }
 
     /// The program, for one more owner. Takes no memory, and fails only where the count of owners is full.
-    pub fn shared(&self) -> Result<Shared<Program>, NoMemory>
+    pub fn share_program(&self) -> Result<Shared<Program>, NoMemory>
         ensures value { IfOk result (λ p. p ≡ self.now) }
         ensures kept { IsChecked self.now }
     {
@@ -80,7 +80,7 @@ pub fn annotate(alloc: Global, draft: Draft) -> Result<Checked, TypeFault>
     ensures only { (p : Code) → Fills draft.program p → Typed p → MatchResult result (λ k. k ≡ p) (λ f. f ≡ TypeFault.NoMemory) }
     ensures fault { IfErr result (λ f. f ≢ TypeFault.NoMemory → answer draft.program ≡ Err f) }
 {
-    let program = annotated(alloc, &draft.program)?;
+    let program = annotate_program(alloc, &draft.program)?;
     let shared = Shared::new(alloc, program)?;
     Ok(Checked { program: shared })
 }
@@ -95,16 +95,16 @@ pub fn check(alloc: Global, program: Program) -> Result<Checked, TypeFault>
     ensures only { Typed program → MatchResult result (λ k. k ≡ program) (λ f. f ≡ TypeFault.NoMemory) }
     ensures fault { IfErr result (λ f. f ≢ TypeFault.NoMemory → answer program ≡ Err f) }
 {
-    let _filled = annotated(alloc, &program)?;
+    let _filled = annotate_program(alloc, &program)?;
     let shared = Shared::new(alloc, program)?;
     Ok(Checked { program: shared })
 }
 
 /// The first refusal of a program in the order of checking, where there is one.
-pub fn refused(alloc: Global, program: &Program) -> Result<Option<TypeFault>, NoMemory>
+pub fn first_refusal(alloc: Global, program: &Program) -> Result<Option<TypeFault>, NoMemory>
     ensures { IfOk result (λ o. MatchOption o (IsTrue (is_ok (answer program.now))) (λ f. answer program.now ≡ Err f)) }
 {
-    match annotated(alloc, program) {
+    match annotate_program(alloc, program) {
         Ok(_filled) => Ok(None),
         Err(TypeFault::NoMemory) => Err(NoMemory),
         Err(fault) => Ok(Some(fault)),

@@ -4,7 +4,7 @@ use Rattle.plan_base.specs.declared.tree.Exn.{Exn}
 use Rattle.plan_base.specs.declared.tree.Ty.{Ty}
 use Rattle.plan_base.specs.declared.tree.Value.{Value}
 use Rattle.typing_rules.specs.Typing.{HasType}
-use Rattle.value_rules.specs.Rules.{Given, gives, raises, unfit, limited}
+use Rattle.value_rules.specs.Rules.{Given, gives, raises, unfit, limited_value}
 use Rattle.plan_values.specs.declared.fault.PrimFault.{PrimFault}
 use Rattle.plan_values.specs.declared.fault.PrimFault.TheVariants as fault
 
@@ -17,7 +17,7 @@ Answers want (Err fault.NoMemory) = Unit {0}
 
 -- the same of a value that is not weighed yet
 abbrev pub AnswersUnweighed : Given → Result Value PrimFault → Type 0
-AnswersUnweighed want (Ok v) = want ≡ limited v
+AnswersUnweighed want (Ok v) = want ≡ limited_value v
 AnswersUnweighed want (Err (fault.Raises x)) = want ≡ raises x
 AnswersUnweighed want (Err fault.Unfit) = want ≡ unfit
 AnswersUnweighed want (Err fault.NoMemory) = Unit {0}

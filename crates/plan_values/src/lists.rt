@@ -13,9 +13,9 @@ use plan_sizes::weight;
 use std::alloc::{AllocError, Global};
 
 /// The value, or `TooLarge` where it weighs more than 16,384 bytes.
-#[tactic(auto, unfolding(value_rules::specs::Rules::limited))]
-fn limited(alloc: Global, v: Value) -> Result<Value, PrimFault>
-    ensures { Answers (rules.limited v) result }
+#[tactic(auto, unfolding(value_rules::specs::Rules::limited_value))]
+fn limit_value(alloc: Global, v: Value) -> Result<Value, PrimFault>
+    ensures { Answers (rules.limited_value v) result }
 {
     if weight(&v) > 16384 {
         return Err(too_large(alloc));
@@ -25,16 +25,16 @@ fn limited(alloc: Global, v: Value) -> Result<Value, PrimFault>
 
 /// `a ^ b`: two strings or two blobs, joined.
 #[tactic(auto, using(plan_base::specs::Trees::trees))]
-pub fn joined(alloc: Global, a: &Value, b: &Value) -> Result<Value, PrimFault>
+pub fn join_values(alloc: Global, a: &Value, b: &Value) -> Result<Value, PrimFault>
     ensures { Answers (rules.joined_values (out-Value a.now) (out-Value b.now)) result }
 {
     match a {
         Value::Str(x) => match b {
-            Value::Str(y) => limited(alloc, Value::Str(joined_text(alloc, x, y)?)),
+            Value::Str(y) => limit_value(alloc, Value::Str(joined_text(alloc, x, y)?)),
             _ => Err(PrimFault::Unfit),
         },
         Value::Blob(x) => match b {
-            Value::Blob(y) => limited(alloc, Value::Blob(joined_bytes(alloc, x, y)?)),
+            Value::Blob(y) => limit_value(alloc, Value::Blob(joined_bytes(alloc, x, y)?)),
             _ => Err(PrimFault::Unfit),
         },
         Value::Unit
@@ -74,7 +74,7 @@ pub fn put_first(alloc: Global, x: &Value, xs: &Value) -> Result<Value, PrimFaul
         Value::List(t, items) => {
             let t = Boxed::new(alloc, t.get().copy(alloc)?)?;
             let items = with_first(alloc, x, items.as_slice())?;
-            limited(alloc, Value::List(t, items))
+            limit_value(alloc, Value::List(t, items))
         }
         Value::Unit
         | Value::Bool(_)

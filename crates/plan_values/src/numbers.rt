@@ -9,7 +9,7 @@ use std::alloc::Global;
 
 #[tactic(auto, using(crate::proofs::NumberLaws::bounds))]
 pub fn sum(alloc: Global, a: i64, b: i64) -> Result<Value, PrimFault>
-    ensures { Answers (rules.bounded (a +ℤ b)) result }
+    ensures { Answers (rules.bounded_number (a +ℤ b)) result }
 {
     match a.checked_add(b) {
         Some(n) => Ok(Value::Int(n)),
@@ -19,7 +19,7 @@ pub fn sum(alloc: Global, a: i64, b: i64) -> Result<Value, PrimFault>
 
 #[tactic(auto, using(crate::proofs::NumberLaws::bounds))]
 pub fn difference(alloc: Global, a: i64, b: i64) -> Result<Value, PrimFault>
-    ensures { Answers (rules.bounded (a -ℤ b)) result }
+    ensures { Answers (rules.bounded_number (a -ℤ b)) result }
 {
     match a.checked_sub(b) {
         Some(n) => Ok(Value::Int(n)),
@@ -29,7 +29,7 @@ pub fn difference(alloc: Global, a: i64, b: i64) -> Result<Value, PrimFault>
 
 #[tactic(auto, using(crate::proofs::NumberLaws::bounds))]
 pub fn product(alloc: Global, a: i64, b: i64) -> Result<Value, PrimFault>
-    ensures { Answers (rules.bounded (a *ℤ b)) result }
+    ensures { Answers (rules.bounded_number (a *ℤ b)) result }
 {
     match a.checked_mul(b) {
         Some(n) => Ok(Value::Int(n)),
@@ -39,7 +39,7 @@ pub fn product(alloc: Global, a: i64, b: i64) -> Result<Value, PrimFault>
 
 #[tactic(auto, using(crate::proofs::NumberLaws::quotients))]
 pub fn quotient(alloc: Global, a: i64, b: i64) -> Result<Value, PrimFault>
-    ensures { Answers (rules.divided a b) result }
+    ensures { Answers (rules.divided_number a b) result }
 {
     if b == 0 {
         return Err(division_by_zero(alloc));

@@ -9,7 +9,7 @@ ghost use Rattle.value_rules.specs.Typed.{OperatorTakes};
 ghost use Rattle.plan_values.specs.Answers.{Answers, IsFit};
 
 use crate::PrimFault;
-use crate::lists::{joined, put_first};
+use crate::lists::{join_values, put_first};
 use crate::numbers::{difference, product, quotient, remainder, sum};
 use crate::order::before;
 use plan_base::{Op, Value};
@@ -23,22 +23,22 @@ pub fn binary(alloc: Global, op: Op, a: &Value, b: &Value) -> Result<Value, Prim
     ensures answers { Answers (rules.binary op a.now b.now) result }
     ensures fits { (t u r : AType) → OperatorTakes op t u r → HasType a.now t → HasType b.now u → IsFit r result }
 {
-    operated(alloc, op, a, b)
+    apply_operator(alloc, op, a, b)
 }
 
 #[tactic(auto, unfolding(value_rules::specs::Rules::binary))]
-fn operated(alloc: Global, op: Op, a: &Value, b: &Value) -> Result<Value, PrimFault>
+fn apply_operator(alloc: Global, op: Op, a: &Value, b: &Value) -> Result<Value, PrimFault>
     ensures { Answers (rules.binary op a.now b.now) result }
 {
     match op {
-        Op::Cat => joined(alloc, a, b),
+        Op::Cat => join_values(alloc, a, b),
         Op::Cons => put_first(alloc, a, b),
         Op::Eq => Ok(Value::Bool(same(a, b))),
         Op::Ne => Ok(Value::Bool(!same(a, b))),
         Op::Lt => answer(before(a, b)),
-        Op::Le => negated(before(b, a)),
+        Op::Le => negated_answer(before(b, a)),
         Op::Gt => answer(before(b, a)),
-        Op::Ge => negated(before(a, b)),
+        Op::Ge => negated_answer(before(a, b)),
         Op::Add | Op::Sub | Op::Mul | Op::Div | Op::Mod => on_numbers(alloc, op, a, b),
     }
 }
@@ -59,7 +59,7 @@ fn answer(before: Option<bool>) -> Result<Value, PrimFault>
     }
 }
 
-fn negated(before: Option<bool>) -> Result<Value, PrimFault>
+fn negated_answer(before: Option<bool>) -> Result<Value, PrimFault>
     ensures { Answers (rules.answered_truth not before) result }
 {
     match before {
@@ -70,11 +70,11 @@ fn negated(before: Option<bool>) -> Result<Value, PrimFault>
 
 #[tactic(auto, using(plan_base::specs::Trees::trees))]
 fn on_numbers(alloc: Global, op: Op, a: &Value, b: &Value) -> Result<Value, PrimFault>
-    ensures { Answers (rules.numbers (rules.computed op) (out-Value a.now) (out-Value b.now)) result }
+    ensures { Answers (rules.numbers (rules.computed_number op) (out-Value a.now) (out-Value b.now)) result }
 {
     match a {
         Value::Int(x) => match b {
-            Value::Int(y) => computed(alloc, op, *x, *y),
+            Value::Int(y) => compute_number(alloc, op, *x, *y),
             _ => Err(PrimFault::Unfit),
         },
         Value::Unit
@@ -90,8 +90,8 @@ fn on_numbers(alloc: Global, op: Op, a: &Value, b: &Value) -> Result<Value, Prim
     }
 }
 
-fn computed(alloc: Global, op: Op, a: i64, b: i64) -> Result<Value, PrimFault>
-    ensures { Answers (rules.computed op a b) result }
+fn compute_number(alloc: Global, op: Op, a: i64, b: i64) -> Result<Value, PrimFault>
+    ensures { Answers (rules.computed_number op a b) result }
 {
     match op {
         Op::Add => sum(alloc, a, b),

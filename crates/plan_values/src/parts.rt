@@ -39,10 +39,10 @@ fn part_at(alloc: Global, i: u8, parts: &Values) -> Result<Value, PrimFault>
     if i == 0 {
         return Err(PrimFault::Unfit);
     }
-    copied(alloc, parts.get(i as usize - 1))
+    copy_part(alloc, parts.get(i as usize - 1))
 }
 
-fn copied(alloc: Global, v: Option<&Value>) -> Result<Value, PrimFault>
+fn copy_part(alloc: Global, v: Option<&Value>) -> Result<Value, PrimFault>
     ensures { Answers (rules.found_value (option_copied v.entry)) result }
 {
     match v {

@@ -19,11 +19,11 @@ pub fn primitive(alloc: Global, p: Primitive, args: &Values) -> Result<Value, Pr
     ensures answers { Answers (rules.primitive p args.now) result }
     ensures fits { (ts : List AType) (r : AType) → PrimitiveTakes p ts r → HaveTypes args.now ts → IsFit r result }
 {
-    applied(alloc, p, args)
+    apply_primitive(alloc, p, args)
 }
 
 #[tactic(auto, unfolding(value_rules::specs::Rules::primitive), using(crate::proofs::Arguments::arguments))]
-fn applied(alloc: Global, p: Primitive, args: &Values) -> Result<Value, PrimFault>
+fn apply_primitive(alloc: Global, p: Primitive, args: &Values) -> Result<Value, PrimFault>
     ensures { Answers (rules.primitive p args.now) result }
 {
     match args.as_slice() {
@@ -73,13 +73,13 @@ fn length(a: &Value) -> Result<Value, PrimFault>
     ensures { Answers (rules.of_one prim.Length (out-Value a.now)) result }
 {
     match a {
-        Value::List(_, items) => counted(items.len()),
+        Value::List(_, items) => count_value(items.len()),
         _ => Err(PrimFault::Unfit),
     }
 }
 
 /// A count as a number. No memory holds 2^63 of anything.
-fn counted(n: usize) -> Result<Value, PrimFault>
+fn count_value(n: usize) -> Result<Value, PrimFault>
     ensures { Answers (rules.gives (value.Int (pos n))) result }
 {
     match i64::try_from(n) {
@@ -143,7 +143,7 @@ fn blob_length(a: &Value) -> Result<Value, PrimFault>
     ensures { Answers (rules.of_one prim.BlobLength (out-Value a.now)) result }
 {
     match a {
-        Value::Blob(b) => counted(b.len()),
+        Value::Blob(b) => count_value(b.len()),
         _ => Err(PrimFault::Unfit),
     }
 }

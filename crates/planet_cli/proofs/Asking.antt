@@ -19,7 +19,7 @@ use Rattle.planet_cli.specs.Does.{Does, wire_in}
 use Rattle.planet_cli.specs.Calls.{Calls}
 use Rattle.planet_cli.specs.Laws.{AsksAtMost, MaySend}
 use Rattle.planet_cli.proofs.Views.{says_one, Took, took, left, view}
-use Rattle.planet_cli.proofs.Giving.{done_found, given, well}
+use Rattle.planet_cli.proofs.Giving.{done_found, call_gives_cause, well}
 
 -- ---- requests
 
@@ -82,7 +82,7 @@ grown_so seed k (NodesFailed h s) a b p = elim p [ ]
 module _ (seed k : ℕ) (cause : Cause) (old new : Outside) (n m : SinkState) (call : Calls (Some (grow seed k)) cause old new n m) where
   -- it is done, but for `NoMemory` and faults of writing
   pub grow_is_whole : ¬ (HasRisen old.out.faults new.out.faults) → ¬ (HasRisen n.faults m.faults) → (cause ≡ Done) ⊎ (cause ≡ NoMemory)
-  grow_is_whole f l = well call.found cause (HasRisen n.faults m.faults) (given (Some (grow seed k)) cause old new n m call) l
+  grow_is_whole f l = well call.found cause (HasRisen n.faults m.faults) (call_gives_cause (Some (grow seed k)) cause old new n m call) l
       (elim (grown_so seed k call.found old.out new.out call.does.1) [ inl e ↦ inl e | inr other ↦ elim other [ inl e ↦ inr e | inr w ↦ absurd (f w.1) ] ])
 
   pub grow_writes : cause ≡ Done → OfGrown seed k (Writes old.out new.out)

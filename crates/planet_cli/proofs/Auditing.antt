@@ -52,11 +52,11 @@ file_reads name files read cause old new a logs t done seen names said = by t.ta
 
 module _ (words : List (List ℕ)) (cause : Cause) (old new : Outside) (n m : SinkState) (call : Calls (request_of words) cause old new n m)
     (a : AuditFile) (logs : List Log) (r : Audits words old.files a logs) (done : cause ≡ Done) (fit : Fit a.links logs) where
-  asked : Calls (Some (audit r.file)) cause old new n m
-  asked = subst (λ q. Calls q cause old new n m) r.asked call
+  audit_was_asked : Calls (Some (audit r.file)) cause old new n m
+  audit_was_asked = subst (λ q. Calls q cause old new n m) r.asked call
 
   frames : FramesRead logs
-  frames = file_reads r.file old.files new.files asked.found old.out new.out a logs asked.does.1 (done_found (Some (audit r.file)) cause old new n m asked done) r.seen r.names r.says
+  frames = file_reads r.file old.files new.files audit_was_asked.found old.out new.out a logs audit_was_asked.does.1 (done_found (Some (audit r.file)) cause old new n m audit_was_asked done) r.seen r.names r.says
 
   pub audit_adds : AllAddUp a.links logs
   audit_adds f =

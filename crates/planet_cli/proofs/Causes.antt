@@ -36,7 +36,7 @@ use Rattle.planet_cli.specs.Does.{Does, wire_in, shop_in, serving_in}
 use Rattle.planet_cli.specs.Calls.{Calls}
 use Rattle.planet_cli.specs.Laws.{UnlessLinked, UnlessFleet, IfNodesFailed}
 use Rattle.planet_cli.proofs.Views.{Took, took, left, view, audit_view}
-use Rattle.planet_cli.proofs.Giving.{given, carried}
+use Rattle.planet_cli.proofs.Giving.{call_gives_cause, fact_carries_over}
 
 -- no fault of the link; and none of children
 abbrev Unlinked : Cause → Type 0
@@ -61,33 +61,33 @@ untaken said files read LinkFault u = elim u [ ]
 untaken said files read SpawnFault u = elim u [ ]
 untaken said files read (NodesFailed h s) u = elim u [ ]
 
-printed : (text : List ℕ) (c : Cause) (a b : SinkState) → Prints text c a b → Unlinked c × Unstarted c
-printed text Done a b p = (tt, tt)
-printed text WriteFault a b p = (tt, tt)
-printed text NoMemory a b p = (tt, tt)
-printed text Usage a b p = (tt, tt)
-printed text (Refused r) a b p = (tt, tt)
-printed text ReadFault a b p = (tt, tt)
-printed text LinkFault a b p = elim p [ ]
-printed text SpawnFault a b p = elim p [ ]
-printed text (NodesFailed h s) a b p = elim p [ ]
+printing_has_neither : (text : List ℕ) (c : Cause) (a b : SinkState) → Prints text c a b → Unlinked c × Unstarted c
+printing_has_neither text Done a b p = (tt, tt)
+printing_has_neither text WriteFault a b p = (tt, tt)
+printing_has_neither text NoMemory a b p = (tt, tt)
+printing_has_neither text Usage a b p = (tt, tt)
+printing_has_neither text (Refused r) a b p = (tt, tt)
+printing_has_neither text ReadFault a b p = (tt, tt)
+printing_has_neither text LinkFault a b p = elim p [ ]
+printing_has_neither text SpawnFault a b p = elim p [ ]
+printing_has_neither text (NodesFailed h s) a b p = elim p [ ]
 
-grown : (seed k : ℕ) (c : Cause) (a b : SinkState) → GrowsAs seed k c a b → Unlinked c × Unstarted c
-grown seed k Done a b p = (tt, tt)
-grown seed k WriteFault a b p = (tt, tt)
-grown seed k NoMemory a b p = (tt, tt)
-grown seed k Usage a b p = (tt, tt)
-grown seed k (Refused r) a b p = (tt, tt)
-grown seed k ReadFault a b p = (tt, tt)
-grown seed k LinkFault a b p = elim p [ ]
-grown seed k SpawnFault a b p = elim p [ ]
-grown seed k (NodesFailed h s) a b p = elim p [ ]
+growing_has_neither : (seed k : ℕ) (c : Cause) (a b : SinkState) → GrowsAs seed k c a b → Unlinked c × Unstarted c
+growing_has_neither seed k Done a b p = (tt, tt)
+growing_has_neither seed k WriteFault a b p = (tt, tt)
+growing_has_neither seed k NoMemory a b p = (tt, tt)
+growing_has_neither seed k Usage a b p = (tt, tt)
+growing_has_neither seed k (Refused r) a b p = (tt, tt)
+growing_has_neither seed k ReadFault a b p = (tt, tt)
+growing_has_neither seed k LinkFault a b p = elim p [ ]
+growing_has_neither seed k SpawnFault a b p = elim p [ ]
+growing_has_neither seed k (NodesFailed h s) a b p = elim p [ ]
 
-asked : (result : Result (Unit {0}) AskFault) → Unstarted (ask_cause result)
-asked (Ok x) = tt
-asked (Err asks.LinkFault) = tt
-asked (Err asks.WriteFault) = tt
-asked (Err asks.NoMemory) = tt
+asking_is_unstarted : (result : Result (Unit {0}) AskFault) → Unstarted (ask_cause result)
+asking_is_unstarted (Ok x) = tt
+asking_is_unstarted (Err asks.LinkFault) = tt
+asking_is_unstarted (Err asks.WriteFault) = tt
+asking_is_unstarted (Err asks.NoMemory) = tt
 
 ran : (result : Result FleetEnd FleetFault) → Unlinked (fleet_cause result)
 ran (Ok Well) = tt
@@ -97,14 +97,14 @@ ran (Err fleets.WaitFault) = tt
 ran (Err fleets.WriteFault) = tt
 ran (Err fleets.NoMemory) = tt
 
-served : (result : Result (Unit {0}) ServeFault) → Unstarted (serve_cause result)
-served (Ok x) = tt
-served (Err serves.LinkFault) = tt
-served (Err serves.WriteFault) = tt
-served (Err serves.NoMemory) = tt
+serving_is_unstarted : (result : Result (Unit {0}) ServeFault) → Unstarted (serve_cause result)
+serving_is_unstarted (Ok x) = tt
+serving_is_unstarted (Err serves.LinkFault) = tt
+serving_is_unstarted (Err serves.WriteFault) = tt
+serving_is_unstarted (Err serves.NoMemory) = tt
 
 texts_so : {A : Type 0} (text : A → List ℕ) (said : FileMap → Said A) (files read : FilesState) (c : Cause) (a b : SinkState) → Took said (PrintsBy text) files read c a b → Unlinked c × Unstarted c
-texts_so text said files read c a b (took v own p) = printed (text v) c a b p
+texts_so text said files read c a b (took v own p) = printing_has_neither (text v) c a b p
 texts_so text said files read c a b (left u same) = untaken said files read c u
 
 prints_so : (said : FileMap → Said (List ℕ)) (files read : FilesState) (c : Cause) (a b : SinkState) → Took said Prints files read c a b → Unlinked c × Unstarted c
@@ -112,7 +112,7 @@ prints_so said files read c a b t = texts_so (λ text. text) said files read c a
 
 module _ (c : Cause) (old new : Outside) where
   asks_so : (file : List ℕ) → Took (ask_said file) AsksAs old.files new.files c (wire_in old) (wire_in new) → Unstarted c
-  asks_so file (took a own p) = subst Unstarted (sym p.is) (asked p.result)
+  asks_so file (took a own p) = subst Unstarted (sym p.is) (asking_is_unstarted p.result)
   asks_so file (left u same) = (untaken (ask_said file) old.files new.files c u).1
 
   runs_so : (file : List ℕ) → Took (fleet_said file) RunsAs old.files new.files c (shop_in old) (shop_in new) → Unlinked c
@@ -120,7 +120,7 @@ module _ (c : Cause) (old new : Outside) where
   runs_so file (left u same) = (untaken (fleet_said file) old.files new.files c u).0
 
   serves_so : (file : List ℕ) (turns : ℕ) (read : FilesState) → Took (config_said file) (ServesAs turns) old.files read c (record (serving_in old) { files = read }) (serving_in new) → Unstarted c
-  serves_so file turns read (took cfg own p) = subst Unstarted (sym p.is) (served p.result)
+  serves_so file turns read (took cfg own p) = subst Unstarted (sym p.is) (serving_is_unstarted p.result)
   serves_so file turns read (left u same) = (untaken (config_said file) old.files read c u).1
 
   kinds : (q : Option Request) → Does q c old new → UnlessLinked q (Unlinked c) × UnlessFleet q (Unstarted c)
@@ -131,7 +131,7 @@ module _ (c : Cause) (old new : Outside) where
   kinds (Some (inject file)) d = (tt, asks_so file (view (ask_said file) AsksAs file old.files new.files c (wire_in old) (wire_in new) d.1))
   kinds (Some (fleet file)) d = (runs_so file (view (fleet_said file) RunsAs file old.files new.files c (shop_in old) (shop_in new) d.1), tt)
   kinds (Some (node file turns)) d = (tt, serves_so file turns d.1.read (view (config_said file) (ServesAs turns) file old.files d.1.read c (record (serving_in old) { files = d.1.read }) (serving_in new) d.1.did))
-  kinds (Some (grow seed k)) d = grown seed k c old.out new.out d.1
+  kinds (Some (grow seed k)) d = growing_has_neither seed k c old.out new.out d.1
   kinds (Some (cut file)) d = texts_so cut_output (cut_said file) old.files new.files c old.out new.out (view (cut_said file) (PrintsBy cut_output) file old.files new.files c old.out new.out d.1)
   kinds (Some (ports file)) d = texts_so port_output (port_said file) old.files new.files c old.out new.out (view (port_said file) (PrintsBy port_output) file old.files new.files c old.out new.out d.1)
   kinds (Some (gather port file)) d = texts_so (messages_text port) (gather_said file) old.files new.files c old.out new.out (view (gather_said file) (PrintsBy (messages_text port)) file old.files new.files c old.out new.out d.1)
@@ -180,16 +180,16 @@ none_failed (NodesFailed h s) u = u
 
 module _ (q : Option Request) (cause : Cause) (old new : Outside) (n m : SinkState) (call : Calls q cause old new n m) where
   link_so : Unlinked call.found → Unlinked cause
-  link_so h = carried call.found cause (HasRisen n.faults m.faults) (given q cause old new n m call) Unlinked tt tt h
+  link_so h = fact_carries_over call.found cause (HasRisen n.faults m.faults) (call_gives_cause q cause old new n m call) Unlinked tt tt h
 
   start_so : Unstarted call.found → Unstarted cause
-  start_so h = carried call.found cause (HasRisen n.faults m.faults) (given q cause old new n m call) Unstarted tt tt h
+  start_so h = fact_carries_over call.found cause (HasRisen n.faults m.faults) (call_gives_cause q cause old new n m call) Unstarted tt tt h
 
-  pub unlinked : UnlessLinked q (cause ≢ LinkFault)
-  unlinked = unless_linked q (Unlinked call.found) (cause ≢ LinkFault) (λ h e. subst Unlinked e (link_so h)) (kinds call.found old new q call.does).0
+  pub cause_is_unlinked : UnlessLinked q (cause ≢ LinkFault)
+  cause_is_unlinked = unless_linked q (Unlinked call.found) (cause ≢ LinkFault) (λ h e. subst Unlinked e (link_so h)) (kinds call.found old new q call.does).0
 
-  pub unspawned : UnlessFleet q (cause ≢ SpawnFault)
-  unspawned = unless_fleet q (Unstarted call.found) (cause ≢ SpawnFault) (λ h e. subst Unstarted e (start_so h)) (kinds call.found old new q call.does).1
+  pub cause_is_unspawned : UnlessFleet q (cause ≢ SpawnFault)
+  cause_is_unspawned = unless_fleet q (Unstarted call.found) (cause ≢ SpawnFault) (λ h e. subst Unstarted e (start_so h)) (kinds call.found old new q call.does).1
 
   pub unfailing : UnlessFleet q (IfNodesFailed cause (λ h s. ⊥))
   unfailing = unless_fleet q (Unstarted call.found) (IfNodesFailed cause (λ h s. ⊥)) (λ h. none_failed cause (start_so h)) (kinds call.found old new q call.does).1

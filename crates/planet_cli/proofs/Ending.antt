@@ -59,9 +59,9 @@ module _ {A : Type 0} (made : A → Outcome) (never : (v : A) (r : Refusal) → 
   refused_only (says v) r e = absurd (never v r e)
 
   module _ (said : FileMap → Said A) (files read : FilesState) (Quiet : Type 0) (old new : SinkState) where
-    acted : (v : A) (c : Cause) → (IsTrue files.observable → said files.held ≡ says v) → Acting (made v) Quiet old new c
+    acting_gives_ending : (v : A) (c : Cause) → (IsTrue files.observable → said files.held ≡ says v) → Acting (made v) Quiet old new c
         → Ending (outcome_by made (said files.held)) (IsTrue files.observable) (HasRisen files.read_faults read.read_faults) Quiet old new c
-    acted v c own a = record {
+    acting_gives_ending v c own a = record {
       usage = λ e. absurd (a.asked e);
       refusal = none c a.unrefused;
       told = λ seen r e p. absurd (never v r (sym (is seen) ∙ e));
@@ -136,7 +136,7 @@ no_runs r e = cc
 
 texts_end : {A : Type 0} (text : A → List ℕ) (said : FileMap → Said A) (files read : FilesState) (a b : SinkState) (c : Cause) → Took said (PrintsBy text) files read c a b
     → Ending (outcome_by (λ v. whole (text v)) (said files.held)) (IsTrue files.observable) (HasRisen files.read_faults read.read_faults) (Unit {0}) a b c
-texts_end text said files read a b c (took v own p) = acted (λ x. whole (text x)) (λ x r. no_whole (text x) r) said files read (Unit {0}) a b v c own (printing (text v) c (Unit {0}) a b p)
+texts_end text said files read a b c (took v own p) = acting_gives_ending (λ x. whole (text x)) (λ x r. no_whole (text x) r) said files read (Unit {0}) a b v c own (printing (text v) c (Unit {0}) a b p)
 texts_end text said files read a b c (left u same) = untaken (λ x. whole (text x)) (λ x r. no_whole (text x) r) said files read (Unit {0}) a b c u same
 
 prints_end : (said : FileMap → Said (List ℕ)) (files read : FilesState) (a b : SinkState) (c : Cause) → Took said Prints files read c a b
@@ -144,16 +144,16 @@ prints_end : (said : FileMap → Said (List ℕ)) (files read : FilesState) (a b
 prints_end said files read a b c t = texts_end (λ text. text) said files read a b c t
 
 ask_ends : (file : List ℕ) (c : Cause) (old new : Outside) → Took (ask_said file) AsksAs old.files new.files c (wire_in old) (wire_in new) → EndsBy (Some (inject file)) old new c
-ask_ends file c old new (took a own p) = acted (λ x. whole (ask_line x)) (λ x r. no_whole (ask_line x) r) (ask_said file) old.files new.files (¬ (HasRisen old.link.faults new.link.faults)) old.out new.out a c own (asking a c (wire_in old) (wire_in new) p)
+ask_ends file c old new (took a own p) = acting_gives_ending (λ x. whole (ask_line x)) (λ x r. no_whole (ask_line x) r) (ask_said file) old.files new.files (¬ (HasRisen old.link.faults new.link.faults)) old.out new.out a c own (asking a c (wire_in old) (wire_in new) p)
 ask_ends file c old new (left u same) = untaken (λ x. whole (ask_line x)) (λ x r. no_whole (ask_line x) r) (ask_said file) old.files new.files (¬ (HasRisen old.link.faults new.link.faults)) old.out new.out c u (ap (λ w. w.out) same)
 
 fleet_ends : (file : List ℕ) (c : Cause) (old new : Outside) → Took (fleet_said file) RunsAs old.files new.files c (shop_in old) (shop_in new) → EndsBy (Some (fleet file)) old new c
-fleet_ends file c old new (took f own p) = acted (λ x. runs) (λ x r. no_runs r) (fleet_said file) old.files new.files (Unit {0}) old.out new.out f c own (running (Unit {0}) f c (shop_in old) (shop_in new) p)
+fleet_ends file c old new (took f own p) = acting_gives_ending (λ x. runs) (λ x r. no_runs r) (fleet_said file) old.files new.files (Unit {0}) old.out new.out f c own (running (Unit {0}) f c (shop_in old) (shop_in new) p)
 fleet_ends file c old new (left u same) = untaken (λ x. runs) (λ x r. no_runs r) (fleet_said file) old.files new.files (Unit {0}) old.out new.out c u (ap (λ w. w.out) same)
 
 node_ends : (file : List ℕ) (turns : ℕ) (c : Cause) (old new : Outside) (read : FilesState)
     → Took (config_said file) (ServesAs turns) old.files read c (record (serving_in old) { files = read }) (serving_in new) → EndsBy (Some (node file turns)) old new c
-node_ends file turns c old new read (took cfg own p) = acted (λ x. runs) (λ x r. no_runs r) (config_said file) old.files new.files (Unit {0}) old.out new.out cfg c own (serving (Unit {0}) turns cfg c (record (serving_in old) { files = read }) (serving_in new) p)
+node_ends file turns c old new read (took cfg own p) = acting_gives_ending (λ x. runs) (λ x r. no_runs r) (config_said file) old.files new.files (Unit {0}) old.out new.out cfg c own (serving (Unit {0}) turns cfg c (record (serving_in old) { files = read }) (serving_in new) p)
 node_ends file turns c old new read (left u same) =
     untaken (λ x. runs) (λ x r. no_runs r) (config_said file) old.files new.files (Unit {0}) old.out new.out c
     (subst (λ f. Untaken (config_said file) old.files f c) (sym (ap (λ w. w.files) same)) u) (ap (λ w. w.out) same)

@@ -45,33 +45,33 @@ use Rattle.call_causes.specs.Notes.{Notes, told, no_memory, failed}
 use Rattle.planet_cli.proofs.Views.{Took, took, left, view, audit_view}
 
 module _ (old new : Outside) (n m : SinkState) where
-  printed : (text : List ℕ) (c : Cause) → Prints text c old.out new.out → Explains c old new n m
-  printed text Done p = tt
-  printed text WriteFault p = inl p.rose
-  printed text NoMemory p = tt
-  printed text Usage p = tt
-  printed text (Refused r) p = tt
-  printed text ReadFault p = elim p [ ]
-  printed text LinkFault p = elim p [ ]
-  printed text SpawnFault p = elim p [ ]
-  printed text (NodesFailed h s) p = tt
+  printing_explains : (text : List ℕ) (c : Cause) → Prints text c old.out new.out → Explains c old new n m
+  printing_explains text Done p = tt
+  printing_explains text WriteFault p = inl p.rose
+  printing_explains text NoMemory p = tt
+  printing_explains text Usage p = tt
+  printing_explains text (Refused r) p = tt
+  printing_explains text ReadFault p = elim p [ ]
+  printing_explains text LinkFault p = elim p [ ]
+  printing_explains text SpawnFault p = elim p [ ]
+  printing_explains text (NodesFailed h s) p = tt
 
-  grown : (seed k : ℕ) (c : Cause) → GrowsAs seed k c old.out new.out → Explains c old new n m
-  grown seed k Done p = tt
-  grown seed k WriteFault p = inl p.is.rose
-  grown seed k NoMemory p = tt
-  grown seed k Usage p = tt
-  grown seed k (Refused r) p = tt
-  grown seed k ReadFault p = elim p [ ]
-  grown seed k LinkFault p = elim p [ ]
-  grown seed k SpawnFault p = elim p [ ]
-  grown seed k (NodesFailed h s) p = tt
+  growing_explains : (seed k : ℕ) (c : Cause) → GrowsAs seed k c old.out new.out → Explains c old new n m
+  growing_explains seed k Done p = tt
+  growing_explains seed k WriteFault p = inl p.is.rose
+  growing_explains seed k NoMemory p = tt
+  growing_explains seed k Usage p = tt
+  growing_explains seed k (Refused r) p = tt
+  growing_explains seed k ReadFault p = elim p [ ]
+  growing_explains seed k LinkFault p = elim p [ ]
+  growing_explains seed k SpawnFault p = elim p [ ]
+  growing_explains seed k (NodesFailed h s) p = tt
 
-  asked : (a : AskFile) (result : Result (Unit {0}) AskFault) → Asks a old.link new.link old.out new.out result → Explains (ask_cause result) old new n m
-  asked a (Ok x) p = tt
-  asked a (Err asks.LinkFault) p = p.did.0
-  asked a (Err asks.WriteFault) p = inl p.did.2.rose
-  asked a (Err asks.NoMemory) p = tt
+  asking_explains : (a : AskFile) (result : Result (Unit {0}) AskFault) → Asks a old.link new.link old.out new.out result → Explains (ask_cause result) old new n m
+  asking_explains a (Ok x) p = tt
+  asking_explains a (Err asks.LinkFault) p = p.did.0
+  asking_explains a (Err asks.WriteFault) p = inl p.did.2.rose
+  asking_explains a (Err asks.NoMemory) p = tt
 
   ran : (f : Fleet) (result : Result FleetEnd FleetFault) → RunsFleet f.children old.children new.children old.out new.out result → Explains (fleet_cause result) old new n m
   ran f (Ok Well) p = tt
@@ -81,12 +81,12 @@ module _ (old new : Outside) (n m : SinkState) where
   ran f (Err fleets.WriteFault) p = inl p.did.2.rose
   ran f (Err fleets.NoMemory) p = tt
 
-  served : (cfg : ServeConfig) (turns : ℕ) (read : FilesState) (result : Result (Unit {0}) ServeFault) → read.write_faults ≡ old.files.write_faults
+  serving_explains : (cfg : ServeConfig) (turns : ℕ) (read : FilesState) (result : Result (Unit {0}) ServeFault) → read.write_faults ≡ old.files.write_faults
       → ServesFrom cfg (own_services cfg) turns (record (serving_in old) { files = read }) (serving_in new) result → Explains (serve_cause result) old new n m
-  served cfg turns read (Ok x) same p = tt
-  served cfg turns read (Err serves.LinkFault) same p = p.serves.faults
-  served cfg turns read (Err serves.WriteFault) same p = elim p.serves.faults [ inl rose ↦ inr (inl (subst (λ k. HasRisen k new.files.write_faults) same rose)) | inr rose ↦ inl rose ]
-  served cfg turns read (Err serves.NoMemory) same p = tt
+  serving_explains cfg turns read (Ok x) same p = tt
+  serving_explains cfg turns read (Err serves.LinkFault) same p = p.serves.faults
+  serving_explains cfg turns read (Err serves.WriteFault) same p = elim p.serves.faults [ inl rose ↦ inr (inl (subst (λ k. HasRisen k new.files.write_faults) same rose)) | inr rose ↦ inl rose ]
+  serving_explains cfg turns read (Err serves.NoMemory) same p = tt
 
   -- where nothing was taken
   untaken : {A : Type 0} (said : FileMap → Said A) (c : Cause) → Untaken said old.files new.files c → Explains c old new n m
@@ -101,14 +101,14 @@ module _ (old new : Outside) (n m : SinkState) where
   untaken said (NodesFailed h s) u = tt
 
   texts_so : {A : Type 0} (text : A → List ℕ) (said : FileMap → Said A) (c : Cause) → Took said (PrintsBy text) old.files new.files c old.out new.out → Explains c old new n m
-  texts_so text said c (took v own p) = printed (text v) c p
+  texts_so text said c (took v own p) = printing_explains (text v) c p
   texts_so text said c (left u same) = untaken said c u
 
   prints_so : (said : FileMap → Said (List ℕ)) (c : Cause) → Took said Prints old.files new.files c old.out new.out → Explains c old new n m
   prints_so said c t = texts_so (λ text. text) said c t
 
   asks_so : (file : List ℕ) (c : Cause) → Took (ask_said file) AsksAs old.files new.files c (wire_in old) (wire_in new) → Explains c old new n m
-  asks_so file c (took a own p) = subst (λ k. Explains k old new n m) (sym p.is) (asked a p.result p.asks)
+  asks_so file c (took a own p) = subst (λ k. Explains k old new n m) (sym p.is) (asking_explains a p.result p.asks)
   asks_so file c (left u same) = untaken (ask_said file) c u
 
   runs_so : (file : List ℕ) (c : Cause) → Took (fleet_said file) RunsAs old.files new.files c (shop_in old) (shop_in new) → Explains c old new n m
@@ -117,7 +117,7 @@ module _ (old new : Outside) (n m : SinkState) where
 
   serves_so : (file : List ℕ) (turns : ℕ) (c : Cause) (read : FilesState) → read.write_faults ≡ old.files.write_faults
       → Took (config_said file) (ServesAs turns) old.files read c (record (serving_in old) { files = read }) (serving_in new) → Explains c old new n m
-  serves_so file turns c read same (took cfg own p) = subst (λ k. Explains k old new n m) (sym p.is) (served cfg turns read p.result same p.serves)
+  serves_so file turns c read same (took cfg own p) = subst (λ k. Explains k old new n m) (sym p.is) (serving_explains cfg turns read p.result same p.serves)
   serves_so file turns c read same (left u is) = untaken (config_said file) c (subst (λ f. Untaken (config_said file) old.files f c) (sym (ap (λ w. w.files) is)) u)
 
   -- of what was done
@@ -129,7 +129,7 @@ module _ (old new : Outside) (n m : SinkState) where
   explains (Some (inject file)) c d = asks_so file c (view (ask_said file) AsksAs file old.files new.files c (wire_in old) (wire_in new) d.1)
   explains (Some (fleet file)) c d = runs_so file c (view (fleet_said file) RunsAs file old.files new.files c (shop_in old) (shop_in new) d.1)
   explains (Some (node file turns)) c d = serves_so file turns c d.1.read d.1.did.takes.only.write_faults (view (config_said file) (ServesAs turns) file old.files d.1.read c (record (serving_in old) { files = d.1.read }) (serving_in new) d.1.did)
-  explains (Some (grow seed k)) c d = grown seed k c d.1
+  explains (Some (grow seed k)) c d = growing_explains seed k c d.1
   explains (Some (cut file)) c d = texts_so cut_output (cut_said file) c (view (cut_said file) (PrintsBy cut_output) file old.files new.files c old.out new.out d.1)
   explains (Some (ports file)) c d = texts_so port_output (port_said file) c (view (port_said file) (PrintsBy port_output) file old.files new.files c old.out new.out d.1)
   explains (Some (gather port file)) c d = texts_so (messages_text port) (gather_said file) c (view (gather_said file) (PrintsBy (messages_text port)) file old.files new.files c old.out new.out d.1)

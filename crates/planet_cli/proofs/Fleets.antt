@@ -30,7 +30,7 @@ use Rattle.planet_cli.specs.Does.{shop_in}
 use Rattle.planet_cli.specs.Calls.{Calls}
 use Rattle.planet_cli.specs.Laws.{IfEnded, IsEnded, RunsAtMost}
 use Rattle.planet_cli.proofs.Views.{says_one, Took, took, left, view}
-use Rattle.planet_cli.proofs.Giving.{given, carried, unfailed}
+use Rattle.planet_cli.proofs.Giving.{call_gives_cause, fact_carries_over, found_is_given}
 
 -- ---- ends
 
@@ -46,16 +46,16 @@ end_map SpawnFault f h = tt
 end_map NoMemory f h = tt
 
 -- a file that wasn't taken ends no fleet
-unended : {A : Type 0} (said : FileMap → Said A) (P : FleetEnd → Type 0) (old new : FilesState) (c : Cause) → Untaken said old new c → IfEnded c P
-unended said P old new Done u = elim u [ ]
-unended said P old new (NodesFailed host s) u = elim u [ ]
-unended said P old new Usage u = tt
-unended said P old new (Refused r) u = tt
-unended said P old new ReadFault u = tt
-unended said P old new WriteFault u = tt
-unended said P old new LinkFault u = tt
-unended said P old new SpawnFault u = tt
-unended said P old new NoMemory u = tt
+untaken_ends_nothing : {A : Type 0} (said : FileMap → Said A) (P : FleetEnd → Type 0) (old new : FilesState) (c : Cause) → Untaken said old new c → IfEnded c P
+untaken_ends_nothing said P old new Done u = elim u [ ]
+untaken_ends_nothing said P old new (NodesFailed host s) u = elim u [ ]
+untaken_ends_nothing said P old new Usage u = tt
+untaken_ends_nothing said P old new (Refused r) u = tt
+untaken_ends_nothing said P old new ReadFault u = tt
+untaken_ends_nothing said P old new WriteFault u = tt
+untaken_ends_nothing said P old new LinkFault u = tt
+untaken_ends_nothing said P old new SpawnFault u = tt
+untaken_ends_nothing said P old new NoMemory u = tt
 
 ran_so : (f : Fleet) (result : Result FleetEnd FleetFault) (old new : Shop) → RunsFleet f.children old.children new.children old.out new.out result
     → IfEnded (fleet_cause result) (λ end. RunsFleet f.children old.children new.children old.out new.out (Ok end))
@@ -126,21 +126,21 @@ module _ (file : List ℕ) (cause : Cause) (old new : Outside) (n m : SinkState)
   fleet_view = view (fleet_said file) RunsAs file old.files new.files call.found (shop_in old) (shop_in new) call.does.1
 
   gives : Gives call.found cause (HasRisen n.faults m.faults)
-  gives = given (Some (fleet file)) cause old new n m call
+  gives = call_gives_cause (Some (fleet file)) cause old new n m call
 
   -- what holds of how the fleet ended holds of what the call gives
-  ended : (P : FleetEnd → Type 0) → IfEnded call.found P → IfEnded cause P
-  ended P h = carried call.found cause (HasRisen n.faults m.faults) gives (λ c. IfEnded c P) tt tt h
+  ended_as_found : (P : FleetEnd → Type 0) → IfEnded call.found P → IfEnded cause P
+  ended_as_found P h = fact_carries_over call.found cause (HasRisen n.faults m.faults) gives (λ c. IfEnded c P) tt tt h
 
   ends_by : (P : FleetEnd → Type 0) (c : Cause) → Took (fleet_said file) RunsAs old.files new.files c (shop_in old) (shop_in new)
       → ((f : Fleet) (end : FleetEnd) → (IsTrue old.files.observable → fleet_said file old.files.held ≡ says f) → RunsFleet f.children old.children new.children old.out new.out (Ok end) → P end) → IfEnded c P
   ends_by P c (took f own p) h = end_map c (λ end r. h f end own r) (ran_as f c (shop_in old) (shop_in new) p)
-  ends_by P c (left u same) h = unended (fleet_said file) P old.files new.files c u
+  ends_by P c (left u same) h = untaken_ends_nothing (fleet_said file) P old.files new.files c u
 
   pub fleet_runs : IsTrue old.files.observable → (f : Fleet) → fleet_said file old.files.held ≡ says f → IfEnded cause (λ end. RunsFleet f.children old.children new.children old.out new.out (Ok end))
   fleet_runs seen f e =
       let P : FleetEnd → Type 0 = λ end. RunsFleet f.children old.children new.children old.out new.out (Ok end) in
-      ended P (ends_by P call.found fleet_view (λ g end own r. subst (λ x. RunsFleet x.children old.children new.children old.out new.out (Ok end)) (says_one g f (sym (own seen) ∙ e)) r))
+      ended_as_found P (ends_by P call.found fleet_view (λ g end own r. subst (λ x. RunsFleet x.children old.children new.children old.out new.out (Ok end)) (says_one g f (sym (own seen) ∙ e)) r))
 
   pub fleet_begins : IsTrue old.files.observable → (f : Fleet) → fleet_said file old.files.held ≡ says f
       → IfEnded cause (λ end. Started (fleet_starts f.children) old.children new.children × (IsTrue old.children.observable → end ≡ fleet_end f.children (drop old.children.started old.children.statuses)))
@@ -150,12 +150,12 @@ module _ (file : List ℕ) (cause : Cause) (old new : Outside) (n m : SinkState)
   pub fleet_says : IsTrue old.files.observable → IfEnded cause (λ end. IsSaid (fleet_said file old.files.held))
   fleet_says seen =
       let P : FleetEnd → Type 0 = λ end. IsSaid (fleet_said file old.files.held) in
-      ended P (ends_by P call.found fleet_view (λ g end own r. subst IsSaid (sym (own seen)) tt))
+      ended_as_found P (ends_by P call.found fleet_view (λ g end own r. subst IsSaid (sym (own seen)) tt))
 
   pub fleet_waits : IfEnded cause (λ end. new.children.children ≡ old.children.children)
   fleet_waits =
       let P : FleetEnd → Type 0 = λ end. new.children.children ≡ old.children.children in
-      ended P (ends_by P call.found fleet_view (λ g end own r. r.did.3))
+      ended_as_found P (ends_by P call.found fleet_view (λ g end own r. r.did.3))
 
   at_most : (c : Cause) → Took (fleet_said file) RunsAs old.files new.files c (shop_in old) (shop_in new) → IsTrue old.files.observable → IsTrue old.children.observable
       → RunsAtMost (fleet_said file old.files.held) old new

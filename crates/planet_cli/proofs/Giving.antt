@@ -32,25 +32,25 @@ use Rattle.planet_cli.proofs.Ending.{ends}
 
 module _ (found given : Cause) (X : Type 0) (gives : Gives found given X) where
   -- a fact of the cause that holds of `NoMemory` and of a fault of writing
-  pub carried : (P : Cause → Type 0) → P NoMemory → P WriteFault → P found → P given
-  carried P m w h = elim gives [
+  pub fact_carries_over : (P : Cause → Type 0) → P NoMemory → P WriteFault → P found → P given
+  fact_carries_over P m w h = elim gives [
     | inl same ↦ subst P (sym same) h
     | inr other ↦ elim other [ inl none ↦ subst P (sym none) m | inr unwritten ↦ subst P (sym unwritten.0) w ]
   ]
 
   -- another cause is what was found
   pub found_so : (c : Cause) → NoMemory ≢ c → WriteFault ≢ c → given ≡ c → found ≡ c
-  found_so c m w e = carried (λ g. g ≡ c → found ≡ c) (λ n. absurd (m n)) (λ n. absurd (w n)) (λ n. n) e
+  found_so c m w e = fact_carries_over (λ g. g ≡ c → found ≡ c) (λ n. absurd (m n)) (λ n. absurd (w n)) (λ n. n) e
 
   -- where no note failed, what was found is given, or `NoMemory`
-  pub unfailed : (wanted : Cause) → (found ≡ wanted) ⊎ (found ≡ NoMemory) → Gives wanted given X
-  unfailed wanted h = elim gives [
+  pub found_is_given : (wanted : Cause) → (found ≡ wanted) ⊎ (found ≡ NoMemory) → Gives wanted given X
+  found_is_given wanted h = elim gives [
     | inl same ↦ elim h [ inl e ↦ inl (same ∙ e) | inr n ↦ inr (inl (same ∙ n)) ]
     | inr other ↦ inr other
   ]
 
   pub well : (¬ X) → (found ≡ Done) ⊎ (found ≡ NoMemory) → (given ≡ Done) ⊎ (given ≡ NoMemory)
-  well written h = elim (unfailed Done h) [
+  well written h = elim (found_is_given Done h) [
     | inl e ↦ inl e
     | inr other ↦ elim other [ inl n ↦ inr n | inr w ↦ absurd (written w.1) ]
   ]
@@ -92,14 +92,14 @@ asked_none (Some (ports file)) files e = absurd (made_asked (λ p. whole (port_o
 asked_none (Some (audit file)) files e = absurd (made_asked whole (audit_said file files) (λ v h. cc) e)
 
 module _ (q : Option Request) (cause : Cause) (old new : Outside) (n m : SinkState) (call : Calls q cause old new n m) where
-  pub given : Gives call.found cause (HasRisen n.faults m.faults)
-  given = notes_give call.found cause n m call.notes
+  pub call_gives_cause : Gives call.found cause (HasRisen n.faults m.faults)
+  call_gives_cause = notes_give call.found cause n m call.notes
 
   pub usage_asks : cause ≡ Usage → q ≡ None
-  usage_asks e = asked_none q old.files.held ((ends q call.found old new call.does).usage (found_so call.found cause (HasRisen n.faults m.faults) given Usage (λ x. cc) (λ x. cc) e))
+  usage_asks e = asked_none q old.files.held ((ends q call.found old new call.does).usage (found_so call.found cause (HasRisen n.faults m.faults) call_gives_cause Usage (λ x. cc) (λ x. cc) e))
 
   refusal : IfRefused cause (λ r. IsOwn r × ((IsTrue old.files.observable → outcome_of q old.files.held ≡ refused r) × (new.out ≡ old.out)))
-  refusal = carried call.found cause (HasRisen n.faults m.faults) given
+  refusal = fact_carries_over call.found cause (HasRisen n.faults m.faults) call_gives_cause
       (λ c. IfRefused c (λ r. IsOwn r × ((IsTrue old.files.observable → outcome_of q old.files.held ≡ refused r) × (new.out ≡ old.out)))) tt tt (ends q call.found old new call.does).refusal
 
   pub is_refused : IsTrue old.files.observable → IfRefused cause (λ r. outcome_of q old.files.held ≡ refused r)
@@ -113,10 +113,10 @@ module _ (q : Option Request) (cause : Cause) (old new : Outside) (n m : SinkSta
 
   pub is_told : IsTrue old.files.observable → (r : Refusal) → outcome_of q old.files.held ≡ refused r → ¬ (HasRisen old.files.read_faults new.files.read_faults)
       → Gives (Refused r) cause (HasRisen n.faults m.faults)
-  is_told seen r e p = unfailed call.found cause (HasRisen n.faults m.faults) given (Refused r) ((ends q call.found old new call.does).told seen r e p)
+  is_told seen r e p = found_is_given call.found cause (HasRisen n.faults m.faults) call_gives_cause (Refused r) ((ends q call.found old new call.does).told seen r e p)
 
   pub done_found : cause ≡ Done → call.found ≡ Done
-  done_found e = found_so call.found cause (HasRisen n.faults m.faults) given Done (λ x. cc) (λ x. cc) e
+  done_found e = found_so call.found cause (HasRisen n.faults m.faults) call_gives_cause Done (λ x. cc) (λ x. cc) e
 
   pub is_accepted : IsTrue old.files.observable → cause ≡ Done → IsAccepted (outcome_of q old.files.held)
   is_accepted seen e = (ends q call.found old new call.does).accepted seen (done_found e)
@@ -129,7 +129,7 @@ module _ (q : Option Request) (cause : Cause) (old new : Outside) (n m : SinkSta
 
   pub is_complete : IsTrue old.files.observable → IsWhole (outcome_of q old.files.held) → ¬ (HasRisen old.files.read_faults new.files.read_faults) → ¬ (HasRisen old.out.faults new.out.faults)
       → ¬ (HasRisen n.faults m.faults) → WhereInjected q (¬ (HasRisen old.link.faults new.link.faults)) → (cause ≡ Done) ⊎ (cause ≡ NoMemory)
-  is_complete seen w p f k l = well call.found cause (HasRisen n.faults m.faults) given k ((ends q call.found old new call.does).complete seen w p f l)
+  is_complete seen w p f k l = well call.found cause (HasRisen n.faults m.faults) call_gives_cause k ((ends q call.found old new call.does).complete seen w p f l)
 
   -- the note of the cause was written, or the notes failed in the note of what was found or of `NoMemory`
   pub is_noted : Writes n m (note_text cause) ⊎ ((cause ≡ WriteFault) × ((note : Cause) × FailsIn n m (note_text note)))
@@ -137,4 +137,4 @@ module _ (q : Option Request) (cause : Cause) (old new : Outside) (n m : SinkSta
 
 -- words that are no command
 pub usage_given : (cause : Cause) (old new : Outside) (n m : SinkState) → Calls None cause old new n m → Gives Usage cause (HasRisen n.faults m.faults)
-usage_given cause old new n m call = subst (λ f. Gives f cause (HasRisen n.faults m.faults)) call.does.0 (given None cause old new n m call)
+usage_given cause old new n m call = subst (λ f. Gives f cause (HasRisen n.faults m.faults)) call.does.0 (call_gives_cause None cause old new n m call)

@@ -9,11 +9,11 @@ use Rattle.call_causes.specs.declared.status.Cause.TheVariants.{Done, WriteFault
 use Rattle.planet_cli.specs.Requests.{Request, grow}
 use Rattle.planet_cli.specs.Calls.{Calls}
 use Rattle.planet_cli.proofs.Asking.{grown_so}
-use Rattle.planet_cli.proofs.Giving.{given}
+use Rattle.planet_cli.proofs.Giving.{call_gives_cause}
 
 pub grow_so : (seed k : ℕ) (cause : Cause) (old new : Outside) (n m : SinkState) → Calls (Some (grow seed k)) cause old new n m
     → (cause ≡ Done) ⊎ ((cause ≡ NoMemory) ⊎ ((cause ≡ WriteFault) × (HasRisen old.out.faults new.out.faults ⊎ HasRisen n.faults m.faults)))
-grow_so seed k cause old new n m call = elim (given (Some (grow seed k)) cause old new n m call) [
+grow_so seed k cause old new n m call = elim (call_gives_cause (Some (grow seed k)) cause old new n m call) [
   | inl same ↦ elim (grown_so seed k call.found old.out new.out call.does.1) [
     | inl done ↦ inl (same ∙ done)
     | inr other ↦ elim other [ inl poor ↦ inr (inl (same ∙ poor)) | inr w ↦ inr (inr (same ∙ w.0, inl w.1)) ]

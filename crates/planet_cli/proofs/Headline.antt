@@ -46,11 +46,11 @@ module _ (words : List (List ℕ)) (cause : Cause) (old new : Outside) (n m : Si
 
 -- of what was found, with its notes
 module _ (words : List (List ℕ)) (found cause : Cause) (old new : Outside) (n m : SinkState) (does : Does (request_of words) found old new) (notes : Notes found n m cause) where
-  called : Calls (request_of words) cause old new n m
-  called = record { found = found; does = does; notes = notes }
+  request_is_called : Calls (request_of words) cause old new n m
+  request_is_called = record { found = found; does = does; notes = notes }
 
   pub found_writes : (s : Schedule) → Replays words old.files s → cause ≡ Done → Writes old.out new.out (run_text s.frames s.events (opening s.topology))
-  found_writes s r done = replay_writes words cause old new n m called s r done
+  found_writes s r done = replay_writes words cause old new n m request_is_called s r done
 
   pub found_explains : Explains cause old new n m
-  found_explains = call_explains old new n m (request_of words) cause called
+  found_explains = call_explains old new n m (request_of words) cause request_is_called

@@ -30,7 +30,7 @@ use Rattle.node_model.specs.State.{NodeState, new_node}
 use Rattle.node_model.specs.Fits.{NodeFits, comes_fit}
 use Rattle.node_model.specs.declared.acts.Act.{Act}
 use Rattle.node_model.specs.declared.acts.Act.TheVariants.{Injected, Asked, SerialsSpent}
-use Rattle.node_model.specs.Node.{stepped, visited, next_serial, injected_packet, inject_step, asked_plain, asked, control_step, node_step}
+use Rattle.node_model.specs.Node.{stepped_node, visit_step, next_serial, injected_packet, inject_step, asked_plain, asked_read, control_step, node_step}
 use Rattle.node_laws.proofs.Fitting.{Taken, taken_in, step_fits}
 use Rattle.node_laws.proofs.Staying.{arrive_stays, tick_stays, take_stays}
 use Rattle.node_laws.proofs.HostLaws.{new_node_fits}
@@ -55,15 +55,15 @@ event_fits v (event.Take d) k = tt
 -- ---- no step changes a node's version
 
 inject_version : (acts : List Act) (node : NodeState) (chunk : Chunk) (bound : ℕ) (handler : Option Name) → (inject_step acts node chunk bound handler).node.version ≡ node.version
-unfolding inject_step visited
+unfolding inject_step visit_step
 inject_version acts node chunk bound handler = by (node.serial == 18446744073709551615)
   where
-    by : (t : Bool) → (cond t (stepped (acts ++ SerialsSpent ∷ []) None node)
-        (visited (acts ++ Injected (record { source = node.here; serial = node.serial }) bound ∷ []) (next_serial node) (injected_packet node chunk bound handler))).node.version ≡ node.version
+    by : (t : Bool) → (cond t (stepped_node (acts ++ SerialsSpent ∷ []) None node)
+        (visit_step (acts ++ Injected (record { source = node.here; serial = node.serial }) bound ∷ []) (next_serial node) (injected_packet node chunk bound handler))).node.version ≡ node.version
     by true = refl
     by false = refl
 
-asked_version : (node : NodeState) (r : Result PlainStamped FrameFault) → (asked node r).node.version ≡ node.version
+asked_version : (node : NodeState) (r : Result PlainStamped FrameFault) → (asked_read node r).node.version ≡ node.version
 asked_version node (Err e) = refl
 asked_version node (Ok x) = by x.frame
   where

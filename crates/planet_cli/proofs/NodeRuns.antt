@@ -23,7 +23,7 @@ use Rattle.node_io.specs.Sinks.{SinkState, Writes}
 use Rattle.node_model.specs.State.{new_node}
 use Rattle.node_model.specs.Fits.{NodeFits}
 use Rattle.node_laws.proofs.Contexts.{node_ordered}
-use Rattle.serve_model.specs.Runs.{played}
+use Rattle.serve_model.specs.Runs.{played_entries}
 use Rattle.serve_model.specs.Texts.{whole_trace}
 use Rattle.node_serve.specs.Desks.{Serving, IsSeen, desk_of}
 use Rattle.node_serve.specs.Served.{Served, Begun}
@@ -172,11 +172,11 @@ begun_keeps cfg old k l = record {
 }
 
 -- the trace of a log of this node is that of its entries
-traced : (c : NodeConfig) (missing : List PackageName) (log : Log) → log.node ≡ c → log.missing ≡ missing
-    → whole_trace c.here (played 0 (new_node c (opening_standing (present_without missing))) log.events) ≡ log_trace log
-traced c missing log e f =
-    ap (λ (x : NodeConfig). whole_trace x.here (played 0 (new_node x (opening_standing (present_without missing))) log.events)) (sym e)
-    ∙ ap (λ y. whole_trace log.node.here (played 0 (new_node log.node (opening_standing (present_without y))) log.events)) (sym f)
+trace_of_entries : (c : NodeConfig) (missing : List PackageName) (log : Log) → log.node ≡ c → log.missing ≡ missing
+    → whole_trace c.here (played_entries 0 (new_node c (opening_standing (present_without missing))) log.events) ≡ log_trace log
+trace_of_entries c missing log e f =
+    ap (λ (x : NodeConfig). whole_trace x.here (played_entries 0 (new_node x (opening_standing (present_without missing))) log.events)) (sym e)
+    ∙ ap (λ y. whole_trace log.node.here (played_entries 0 (new_node log.node (opening_standing (present_without y))) log.events)) (sym f)
 
 short_said : (limit : ℕ) (read : List ℕ → Said (List ℕ)) (bytes trace : List ℕ) → nat_lt limit (length bytes) ≡ false → read bytes ≡ says trace → said_within limit read bytes ≡ says trace
 short_said limit read bytes trace e h = ap (λ t. cond t (outside TooLong) (read bytes)) e ∙ h
@@ -186,7 +186,7 @@ left_by cfg old new r = record {
   bytes = r.bytes;
   there = r.there;
   trace = log_trace r.log;
-  wrote = r.trace ∙ ap (λ t. old.out.taken ++ t) (traced (begun_config cfg (serving_in old)).node cfg.missing r.log r.begins r.missing);
+  wrote = r.trace ∙ ap (λ t. old.out.taken ++ t) (trace_of_entries (begun_config cfg (serving_in old)).node cfg.missing r.log r.begins r.missing);
   again = λ short.
       ap (λ o. outcome_by whole (said_at schedule_limit schedule_said o)) r.there
       ∙ ap (outcome_by whole) (short_said schedule_limit schedule_said r.bytes (log_trace r.log) (le-ltb 4194304 (length r.bytes) short) (log_said r.bytes r.log r.reads));

@@ -18,7 +18,7 @@ use Rattle.node_io.specs.Clocks.{ClockState, Tells}
 use Rattle.node_serve.specs.Desks.{Serving, IsSeen, desk_of, seen_at, start_at}
 use Rattle.node_serve.specs.Shown.{run_log, Agrees}
 use Rattle.node_serve.specs.Served.{Served, AgreesEarly, Begun, Ends, run_in}
-use Rattle.node_serve.specs.Moments.{booted, Asks, ServesFrom}
+use Rattle.node_serve.specs.Moments.{booted_config, Asks, ServesFrom}
 use Rattle.node_serve.specs.declared.fault.ServeFault.{ServeFault}
 use Rattle.node_serve.specs.declared.fault.ServeFault.TheVariants as faults
 use Rattle.call_causes.specs.Causes.{Gives}
@@ -35,7 +35,7 @@ use Rattle.planet_cli.specs.Outcomes.{Outcome, whole, runs, outcome_by, outcome_
 use Rattle.planet_cli.specs.Laws.{ServesAtMost}
 use Rattle.planet_cli.proofs.Views.{says_one, Took, took, left, view}
 use Rattle.planet_cli.proofs.Fleets.{unread}
-use Rattle.planet_cli.proofs.Giving.{given, done_found, well}
+use Rattle.planet_cli.proofs.Giving.{call_gives_cause, done_found, well}
 
 -- ---- a run over files that were read before
 
@@ -99,10 +99,10 @@ asked_seen Two old new boot seen a = subst IsTrue (sym a.observable) seen
 
 -- what holds of a run from a moment on that the clock told
 from_moment : (P : ServeConfig → Serving → Type 0) (cfg : ServeConfig) (old : Serving) (boot : ℕ) (clock : ClockState) → IsTrue old.clock.observable → Asks cfg.node.version old.clock clock boot
-    → P (booted boot cfg) (record old { clock = clock }) → P (begun_config cfg old) (begun_with cfg old)
+    → P (booted_config boot cfg) (record old { clock = clock }) → P (begun_config cfg old) (begun_with cfg old)
 from_moment P cfg old boot clock seen a h =
     let e = asked_is cfg.node.version old.clock clock boot seen a in
-    subst (λ b. P (booted b cfg) (begun_with cfg old)) e.0 (subst (λ k. P (booted boot cfg) (record old { clock = k })) e.1 h)
+    subst (λ b. P (booted_config b cfg) (begun_with cfg old)) e.0 (subst (λ k. P (booted_config boot cfg) (record old { clock = k })) e.1 h)
 
 -- ---- causes
 
@@ -140,8 +140,8 @@ module _ (file : List ℕ) (turns : ℕ) (cause : Cause) (old new : Outside) (n 
         let first : Serving = record (serving_in old) { clock = s.clock } in
         subst (λ k. Served (begun_config k (serving_in old)) (own_node (begun_config k (serving_in old))) turns (begun_with k (serving_in old)) (serving_in new)) (says_one own_cfg cfg (sym (own seen.0) ∙ e))
         (from_moment (λ k a. Served k (own_node k) turns a (serving_in new)) own_cfg (serving_in old) s.boot s.clock clock s.asked
-        (served_before (booted s.boot own_cfg) (own_node (booted s.boot own_cfg)) turns first (serving_in new) call.does.1.read still_held
-        (served_well (record first { files = call.does.1.read }) (serving_in new) (booted s.boot own_cfg) turns p.result (sym p.is ∙ done)
+        (served_before (booted_config s.boot own_cfg) (own_node (booted_config s.boot own_cfg)) turns first (serving_in new) call.does.1.read still_held
+        (served_well (record first { files = call.does.1.read }) (serving_in new) (booted_config s.boot own_cfg) turns p.result (sym p.is ∙ done)
         (s.serves.runs (still_seen seen) (asked_seen own_cfg.node.version old.clock s.clock s.boot clock s.asked)))))
     served_so c cfg (left u same) e done = elim (subst (Untaken (config_said file) old.files call.does.1.read) done u) [ ]
 
@@ -155,7 +155,7 @@ module _ (file : List ℕ) (turns : ℕ) (cause : Cause) (old new : Outside) (n 
         let first : Serving = record (serving_in old) { clock = s.clock } in
         subst (λ x. ServesAtMost x turns (serving_in old) (serving_in new)) (sym (own seen.0))
         (or_none (from_moment (λ k a. Served k (own_node k) turns a (serving_in new) ⊎ Begun k (own_node k) turns a (serving_in new)) cfg (serving_in old) s.boot s.clock clock s.asked
-        (ended_before (booted s.boot cfg) (own_node (booted s.boot cfg)) turns first (serving_in new) call.does.1.read still_held p.result
+        (ended_before (booted_config s.boot cfg) (own_node (booted_config s.boot cfg)) turns first (serving_in new) call.does.1.read still_held p.result
         (s.serves.runs (still_seen seen) (asked_seen cfg.node.version old.clock s.clock s.boot clock s.asked)))))
     at_most c (left u same) =
         subst (λ s. ServesAtMost (config_said file old.files.held) turns (serving_in old) s) (sym same)
@@ -177,7 +177,7 @@ module _ (file : List ℕ) (turns : ℕ) (cause : Cause) (old new : Outside) (n 
   pub node_is_complete : IsTrue old.files.observable → (cfg : ServeConfig) → config_said file old.files.held ≡ says cfg → ¬ (HasRisen old.files.read_faults new.files.read_faults)
       → ¬ (HasRisen old.files.write_faults new.files.write_faults) → ¬ (HasRisen old.link.faults new.link.faults) → ¬ (HasRisen old.out.faults new.out.faults) → ¬ (HasRisen n.faults m.faults)
       → (cause ≡ Done) ⊎ (cause ≡ NoMemory)
-  node_is_complete seen cfg e r w l o k = well call.found cause (HasRisen n.faults m.faults) (given (Some (node file turns)) cause old new n m call) k (complete_so call.found cfg node_view seen e r w l o)
+  node_is_complete seen cfg e r w l o k = well call.found cause (HasRisen n.faults m.faults) (call_gives_cause (Some (node file turns)) cause old new n m call) k (complete_so call.found cfg node_view seen e r w l o)
 
 -- ---- files that aren't taken
 
@@ -198,20 +198,20 @@ module _ (c : Cause) (old new : Outside) (seen : IsTrue old.files.observable) wh
   node_kept file turns read held h (took cfg own p) = absurd (h (taken_so (λ x. runs) (config_said file old.files.held) cfg (own seen) tt))
   node_kept file turns read held h (left u same) = (ap (λ w. w.link) same, ap (λ w. w.clock) same, ap (λ w. w.files.held) same ∙ held)
 
-  kept : (q : Option Request) → Does q c old new → ¬ (IsAccepted (outcome_of q old.files.held)) → Kept old new
-  kept None d h = (ap (λ o. o.link) d.1, ap (λ o. o.clock) d.1, ap (λ o. o.files.held) d.1)
-  kept (Some (replay file)) d h = (ap (λ o. o.link) d.0, ap (λ o. o.clock) d.0, d.1.takes.only.held)
-  kept (Some (check file)) d h = (ap (λ o. o.link) d.0, ap (λ o. o.clock) d.0, d.1.takes.only.held)
-  kept (Some (show file)) d h = (ap (λ o. o.link) d.0, ap (λ o. o.clock) d.0, d.1.takes.only.held)
-  kept (Some (inject file)) d h = ask_kept file (ap (λ o. o.clock) d.0) d.1.takes.only.held h (view (ask_said file) AsksAs file old.files new.files c (wire_in old) (wire_in new) d.1)
-  kept (Some (fleet file)) d h = (ap (λ o. o.link) d.0, ap (λ o. o.clock) d.0, d.1.takes.only.held)
-  kept (Some (node file turns)) d h = node_kept file turns d.1.read d.1.did.takes.only.held h (view (config_said file) (ServesAs turns) file old.files d.1.read c (record (serving_in old) { files = d.1.read }) (serving_in new) d.1.did)
-  kept (Some (grow seed k)) d h = (ap (λ o. o.link) d.0, ap (λ o. o.clock) d.0, ap (λ o. o.files.held) d.0)
-  kept (Some (cut file)) d h = (ap (λ o. o.link) d.0, ap (λ o. o.clock) d.0, d.1.takes.only.held)
-  kept (Some (gather port file)) d h = (ap (λ o. o.link) d.0, ap (λ o. o.clock) d.0, d.1.takes.only.held)
-  kept (Some (ports file)) d h = (ap (λ o. o.link) d.0, ap (λ o. o.clock) d.0, d.1.takes.only.held)
-  kept (Some (audit file)) d h = (ap (λ o. o.link) d.0, ap (λ o. o.clock) d.0, d.1.only.held)
+  unaccepted_keeps_all : (q : Option Request) → Does q c old new → ¬ (IsAccepted (outcome_of q old.files.held)) → Kept old new
+  unaccepted_keeps_all None d h = (ap (λ o. o.link) d.1, ap (λ o. o.clock) d.1, ap (λ o. o.files.held) d.1)
+  unaccepted_keeps_all (Some (replay file)) d h = (ap (λ o. o.link) d.0, ap (λ o. o.clock) d.0, d.1.takes.only.held)
+  unaccepted_keeps_all (Some (check file)) d h = (ap (λ o. o.link) d.0, ap (λ o. o.clock) d.0, d.1.takes.only.held)
+  unaccepted_keeps_all (Some (show file)) d h = (ap (λ o. o.link) d.0, ap (λ o. o.clock) d.0, d.1.takes.only.held)
+  unaccepted_keeps_all (Some (inject file)) d h = ask_kept file (ap (λ o. o.clock) d.0) d.1.takes.only.held h (view (ask_said file) AsksAs file old.files new.files c (wire_in old) (wire_in new) d.1)
+  unaccepted_keeps_all (Some (fleet file)) d h = (ap (λ o. o.link) d.0, ap (λ o. o.clock) d.0, d.1.takes.only.held)
+  unaccepted_keeps_all (Some (node file turns)) d h = node_kept file turns d.1.read d.1.did.takes.only.held h (view (config_said file) (ServesAs turns) file old.files d.1.read c (record (serving_in old) { files = d.1.read }) (serving_in new) d.1.did)
+  unaccepted_keeps_all (Some (grow seed k)) d h = (ap (λ o. o.link) d.0, ap (λ o. o.clock) d.0, ap (λ o. o.files.held) d.0)
+  unaccepted_keeps_all (Some (cut file)) d h = (ap (λ o. o.link) d.0, ap (λ o. o.clock) d.0, d.1.takes.only.held)
+  unaccepted_keeps_all (Some (gather port file)) d h = (ap (λ o. o.link) d.0, ap (λ o. o.clock) d.0, d.1.takes.only.held)
+  unaccepted_keeps_all (Some (ports file)) d h = (ap (λ o. o.link) d.0, ap (λ o. o.clock) d.0, d.1.takes.only.held)
+  unaccepted_keeps_all (Some (audit file)) d h = (ap (λ o. o.link) d.0, ap (λ o. o.clock) d.0, d.1.only.held)
 
 pub none_kept : (q : Option Request) (cause : Cause) (old new : Outside) (n m : SinkState) → Calls q cause old new n m → IsTrue old.files.observable → ¬ (IsAccepted (outcome_of q old.files.held))
     → (new.link ≡ old.link) × (new.clock ≡ old.clock) × (new.files.held ≡ old.files.held)
-none_kept q cause old new n m call seen h = kept call.found old new seen q call.does h
+none_kept q cause old new n m call seen h = unaccepted_keeps_all call.found old new seen q call.does h

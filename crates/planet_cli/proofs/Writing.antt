@@ -31,15 +31,15 @@ use Rattle.planet_cli.specs.Outcomes.{Outcome, whole, outcome_by, outcome_of, Is
 use Rattle.planet_cli.proofs.Giving.{is_accepted, is_written}
 
 -- what a file says that isn't too long
-unlimited : {A : Type 0} (text : A → List ℕ) (long : Bool) (said : Said A) (v : A) (a b : SinkState) → said ≡ says v → IsAccepted (outcome_by (λ x. whole (text x)) (cond long (outside TooLong) said))
+short_text_written : {A : Type 0} (text : A → List ℕ) (long : Bool) (said : Said A) (v : A) (a b : SinkState) → said ≡ says v → IsAccepted (outcome_by (λ x. whole (text x)) (cond long (outside TooLong) said))
     → WritesOut (outcome_by (λ x. whole (text x)) (cond long (outside TooLong) said)) a b → Writes a b (text v)
-unlimited text true said v a b e h w = elim h [ ]
-unlimited text false said v a b e h w = subst (λ s. WritesOut (outcome_by (λ x. whole (text x)) s) a b) e w
+short_text_written text true said v a b e h w = elim h [ ]
+short_text_written text false said v a b e h w = subst (λ s. WritesOut (outcome_by (λ x. whole (text x)) s) a b) e w
 
 at_file : {A : Type 0} (text : A → List ℕ) (limit : ℕ) (read : List ℕ → Said A) (file : Option (List ℕ)) (bytes : List ℕ) (v : A) (a b : SinkState) → file ≡ Some bytes → read bytes ≡ says v
     → IsAccepted (outcome_by (λ x. whole (text x)) (said_at limit read file)) → WritesOut (outcome_by (λ x. whole (text x)) (said_at limit read file)) a b → Writes a b (text v)
 at_file text limit read file bytes v a b there e h w =
-    unlimited text (nat_lt limit (length bytes)) (read bytes) v a b e
+    short_text_written text (nat_lt limit (length bytes)) (read bytes) v a b e
     (subst (λ f. IsAccepted (outcome_by (λ x. whole (text x)) (said_at limit read f))) there h)
     (subst (λ f. WritesOut (outcome_by (λ x. whole (text x)) (said_at limit read f)) a b) there w)
 

@@ -22,7 +22,7 @@ use Rattle.typing_rules.specs.TypingNames.{prim_of, are_new}
 use Rattle.plan_types.specs.Kept.{IsChecked}
 use Rattle.chunk_types.specs.Chunks.{IsCheckedChunk}
 use Rattle.port_tree.specs.Programs as port
-use Rattle.port_tree.specs.Programs.{this_host_is, get_rb, deliver, delivered, port_services, port_program, data_fun, data_params, data_body, ack_fun, ack_params, ack_body, data_args, data_chunk, ack_args, ack_chunk}
+use Rattle.port_tree.specs.Programs.{this_host_is, get_rb, deliver, delivered_type, port_services, port_program, data_fun, data_params, data_body, ack_fun, ack_params, ack_body, data_args, data_chunk, ack_args, ack_chunk}
 use Rattle.port_chunks.proofs.TreeSizes.{TypeFits, host_fits, bool_fits, int_fits, blob_fits, unit_fits, delivered_fits, Fits, one_fits, two_fit, three_fit, no_parts_fit, wider, var_fits, number_fits, bytes_fit, tuple_fits, call_fits, packing_fits, choice_fits, remote_fits}
 
 -- ---- sizes and forms
@@ -30,7 +30,7 @@ use Rattle.port_chunks.proofs.TreeSizes.{TypeFits, host_fits, bool_fits, int_fit
 dest_fits : Fits port.dest 6 1
 dest_fits = var_fits (codes "dest")
 
-arrived_fits : Fits port.arrived 19 2
+arrived_fits : Fits port.arrived_test 19 2
 arrived_fits = call_fits (codes "thisHostIs") (port.dest ∷ []) 6 1 refl (one_fits port.dest 6 1 dest_fits)
 
 purse_fits : Fits port.purse 8 1
@@ -47,8 +47,8 @@ goes_on_fits k m d h =
 
 data_fits : Fits data_body 200 5
 data_fits =
-    choice_fits port.arrived port.data_delivered (port.goes_on port.data_again) 19 60 120 4
-    (wider port.arrived 19 2 19 4 arrived_fits (omega arith) (omega arith))
+    choice_fits port.arrived_test port.data_delivered (port.goes_on port.data_again) 19 60 120 4
+    (wider port.arrived_test 19 2 19 4 arrived_fits (omega arith) (omega arith))
     (wider port.data_delivered 32 3 60 4
     (delivers_fits (expr.Int (pos 1)) (expr.Tuple (port.seq ∷ port.body ∷ [])) 9 13 2 (wider (expr.Int (pos 1)) 9 1 9 2 (number_fits (pos 1)) (omega arith) (omega arith))
     (tuple_fits (port.seq ∷ port.body ∷ []) 11 1 refl (two_fit port.seq port.body 5 6 1 (var_fits (codes "seq")) (var_fits (codes "body"))))) (omega arith) (omega arith))
@@ -58,8 +58,8 @@ data_fits =
 
 ack_fits : Fits ack_body 200 5
 ack_fits =
-    choice_fits port.arrived port.ack_delivered (port.goes_on port.ack_again) 19 60 120 4
-    (wider port.arrived 19 2 19 4 arrived_fits (omega arith) (omega arith))
+    choice_fits port.arrived_test port.ack_delivered (port.goes_on port.ack_again) 19 60 120 4
+    (wider port.arrived_test 19 2 19 4 arrived_fits (omega arith) (omega arith))
     (wider port.ack_delivered 30 3 60 4
     (delivers_fits (expr.Int (pos 2)) (expr.Tuple (port.following ∷ expr.Blob [] ∷ [])) 9 11 2 (wider (expr.Int (pos 2)) 9 1 9 2 (number_fits (pos 2)) (omega arith) (omega arith))
     (tuple_fits (port.following ∷ expr.Blob [] ∷ []) 9 1 refl (two_fit port.following (expr.Blob []) 6 3 1 (var_fits (codes "next")) (bytes_fit [] (omega arith))))) (omega arith) (omega arith))
@@ -73,7 +73,7 @@ code_small =
     let whole : code_size port_program ≡ 3 + (0 + svc_size this_host_is + svc_size get_rb + svc_size deliver) + 0 + (0 + fun_size data_fun + fun_size ack_fun) = refl in
     let at : svc_size this_host_is ≡ 11 + 1 + (0 + type_size ty.Host) + type_size ty.Bool = refl in
     let left : svc_size get_rb ≡ 6 + 1 + 0 + type_size ty.Int = refl in
-    let given : svc_size deliver ≡ 8 + 1 + (0 + type_size ty.Int + type_size delivered) + type_size ty.Unit = refl in
+    let given : svc_size deliver ≡ 8 + 1 + (0 + type_size ty.Int + type_size delivered_type) + type_size ty.Unit = refl in
     let messages : fun_size data_fun ≡ 5 + 1 + (0 + (5 + type_size ty.Host) + (4 + type_size ty.Int) + (5 + type_size ty.Blob)) + type_size ty.Unit + expr_size data_body = refl in
     let acks : fun_size ack_fun ≡ 4 + 1 + (0 + (5 + type_size ty.Host) + (5 + type_size ty.Int)) + type_size ty.Unit + expr_size ack_body = refl in
     omega (arith, whole, at, left, given, messages, acks, host_fits.size, bool_fits.size, int_fits.size, blob_fits.size, unit_fits.size, delivered_fits.size, data_fits.size, ack_fits.size)
@@ -107,8 +107,8 @@ blob_formed = type_formed ty.Blob 1 1 blob_fits (omega arith)
 unit_formed : well_formed_type ty.Unit ≡ true
 unit_formed = type_formed ty.Unit 1 1 unit_fits (omega arith)
 
-pair_formed : well_formed_type delivered ≡ true
-pair_formed = type_formed delivered 4 2 delivered_fits (omega arith)
+pair_formed : well_formed_type delivered_type ≡ true
+pair_formed = type_formed delivered_type 4 2 delivered_fits (omega arith)
 
 services_formed : list_all well_formed_svc port_services ≡ true
 services_formed = λ i. ((host_formed i && true) && bool_formed i) && (int_formed i && (((int_formed i && (pair_formed i && true)) && unit_formed i) && true))
@@ -149,7 +149,7 @@ module _ (seen : ℕ) (c : Ctx) where
   Has e t = HasTy port_program seen c e t
 
   module _ (d : Has port.dest ty.Host) where
-    arrived_typed : Has port.arrived ty.Bool
+    arrived_typed : Has port.arrived_test ty.Bool
     arrived_typed = serving (codes "thisHostIs") (port.dest ∷ []) this_host_is (expr.outs-Call (codes "thisHostIs") (port.dest ∷ [])) not_prim.0 refl (and_part d no_parts) refl
 
     goes_on_typed : (k : Expr) → Has k ty.Chunk → Has (port.goes_on k) ty.Unit
@@ -166,7 +166,7 @@ module _ (seen : ℕ) (c : Ctx) where
 
 data_typed : HasTy port_program 0 data_params data_body ty.Unit
 data_typed =
-    choice port.arrived port.data_delivered (port.goes_on port.data_again) (expr.outs-If port.arrived port.data_delivered (port.goes_on port.data_again))
+    choice port.arrived_test port.data_delivered (port.goes_on port.data_again) (expr.outs-If port.arrived_test port.data_delivered (port.goes_on port.data_again))
     (arrived_typed 0 data_params the_dest)
     (delivers_typed 0 data_params (pos 1) port.seq port.body the_seq the_body)
     (goes_on_typed 0 data_params the_dest port.data_again
@@ -183,7 +183,7 @@ data_typed =
 
 ack_typed : HasTy port_program 1 ack_params ack_body ty.Unit
 ack_typed =
-    choice port.arrived port.ack_delivered (port.goes_on port.ack_again) (expr.outs-If port.arrived port.ack_delivered (port.goes_on port.ack_again))
+    choice port.arrived_test port.ack_delivered (port.goes_on port.ack_again) (expr.outs-If port.arrived_test port.ack_delivered (port.goes_on port.ack_again))
     (arrived_typed 1 ack_params the_dest)
     (delivers_typed 1 ack_params (pos 2) port.following (expr.Blob []) the_next (literal (ap literal_type (expr.outs-Blob []))))
     (goes_on_typed 1 ack_params the_dest port.ack_again

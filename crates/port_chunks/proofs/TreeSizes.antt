@@ -13,7 +13,7 @@ use Rattle.plan_base.specs.Sizes.{largest_by, type_size_level, type_size, expr_s
 use Rattle.plan_base.specs.WellFormed.{has_from_to, formed_type_level, formed_type, formed_expr_level, formed_expr, typed_expr_level, has_types}
 use Rattle.plan_base.proofs.SizeLaws.{type_size_out, type_depth_out, expr_size_out, expr_depth_out, expr_nodes_out}
 use Rattle.plan_base.proofs.FormLaws.{formed_type_out, formed_expr_out, has_types_out}
-use Rattle.port_tree.specs.Programs.{delivered}
+use Rattle.port_tree.specs.Programs.{delivered_type}
 
 -- ---- types
 
@@ -48,11 +48,11 @@ blob_fits = type_fits ty.Blob Ty-F.Blob 1 1 ty.outs-Blob one_byte one_byte refl
 pub unit_fits : TypeFits ty.Unit 1 1
 unit_fits = type_fits ty.Unit Ty-F.Unit 1 1 ty.outs-Unit one_byte one_byte refl
 
-pub delivered_fits : TypeFits delivered 4 2
+pub delivered_fits : TypeFits delivered_type 4 2
 delivered_fits =
     let size : 2 + (0 + type_size ty.Int + type_size ty.Blob) ≤ 4 = omega (arith, int_fits.size, blob_fits.size) in
     let depth : 1 + max (max 0 (type_depth ty.Int)) (type_depth ty.Blob) ≤ 2 = omega (arith, int_fits.depth, blob_fits.depth) in
-    type_fits delivered (Ty-F.Tuple (ty.Int ∷ ty.Blob ∷ [])) 4 2 (ty.outs-Tuple (ty.Int ∷ ty.Blob ∷ [])) size depth (λ i. int_fits.formed i && (blob_fits.formed i && true))
+    type_fits delivered_type (Ty-F.Tuple (ty.Int ∷ ty.Blob ∷ [])) 4 2 (ty.outs-Tuple (ty.Int ∷ ty.Blob ∷ [])) size depth (λ i. int_fits.formed i && (blob_fits.formed i && true))
 
 -- ---- expressions
 

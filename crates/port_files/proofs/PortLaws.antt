@@ -10,7 +10,7 @@ use Rattle.network_plan.specs.Hosts.{host_of, dev_of}
 use Rattle.line_files.specs.declared.fault.LineReason.TheVariants.{BadHeader, BadWord, UnknownHost, TooMany}
 use Rattle.line_files.specs.declared.fault.LineFault.{LineFault}
 use Rattle.line_files.specs.Lines.{lines}
-use Rattle.line_files.specs.Reads.{word_at, end_at, allowed, FileGives}
+use Rattle.line_files.specs.Reads.{word_at, end_at, allowed_or_reason, FileGives}
 use Rattle.line_files.specs.Numbers.{number_at}
 use Rattle.line_files.specs.HexWords.{hex_at}
 use Rattle.line_files.specs.Inside.{OnFault}
@@ -67,7 +67,7 @@ host_is : (ws : List (List ℕ)) → IfRead IsEndAt (end_host ws)
 unfolding end_host
 host_is ws =
     then_keeps IsEndAt (number_at 0 4294967295 ws) _ (λ n hn.
-    then_keeps IsEndAt (allowed (is_end n.0) UnknownHost) _ (λ u hu.
+    then_keeps IsEndAt (allowed_or_reason (is_end n.0) UnknownHost) _ (λ u hu.
     done_keeps IsEndAt (host_of n.0, n.1) (end_is n.0 (allowed_true (is_end n.0) UnknownHost u hu))))
 
 abbrev IsSmall : ℕ → Type 0
@@ -130,7 +130,7 @@ unfolding event_line
 event_keeps ws s k =
     then_keeps Keeps (word_at ws) _ (λ w hw.
     then_keeps Keeps (ok_or (event_word w.0) BadWord) _ (λ kind hk.
-    then_keeps Keeps (allowed (ltb (length s.events) 50000) TooMany) _ (λ u room.
+    then_keeps Keeps (allowed_or_reason (ltb (length s.events) 50000) TooMany) _ (λ u room.
     rest_keeps kind w.1 s k (allowed_below (length s.events) 50000 TooMany u room))))
 
 purses_keep : (ws : List (List ℕ)) (s : PortReading) → Keeps s → IfRead Keeps (purses_line ws s)

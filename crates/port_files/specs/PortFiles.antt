@@ -10,7 +10,7 @@ use Rattle.line_files.specs.declared.fault.LineReason.TheVariants.{BadHeader, Ba
 use Rattle.line_files.specs.declared.fault.LineFault.{LineFault}
 use Rattle.line_files.specs.declared.fault.LineFault.TheVariants as faults
 use Rattle.line_files.specs.Files.{Format, file_of}
-use Rattle.line_files.specs.Reads.{◌>>=◌, Part, word_at, end_at, allowed}
+use Rattle.line_files.specs.Reads.{◌>>=◌, Part, word_at, end_at, allowed_or_reason}
 use Rattle.line_files.specs.Numbers.{number_at}
 use Rattle.line_files.specs.HexWords.{hex_at}
 use Rattle.node_files.specs.Parts.{behind_word, header_line, usual_line}
@@ -35,7 +35,7 @@ is_end n = (n == 1) || (n == 2)
 unfoldable pub end_host : List (List ℕ) → Part Host
 end_host ws = do
   n ← number_at 0 4294967295 ws
-  _ ← allowed (is_end n.0) UnknownHost
+  _ ← allowed_or_reason (is_end n.0) UnknownHost
   Ok (host_of n.0, n.1)
 
 -- the number of a frame, alone
@@ -103,7 +103,7 @@ unfoldable pub event_line : List (List ℕ) → PortReading → Result PortReadi
 event_line ws s = do
   w ← word_at ws
   k ← ok_or (event_word w.0) BadWord
-  _ ← allowed (nat_lt (length s.events) 50000) TooMany
+  _ ← allowed_or_reason (nat_lt (length s.events) 50000) TooMany
   event_rest k w.1 s
 
 -- `bound B C`: the purses

@@ -26,7 +26,7 @@ use Rattle.plan_meaning.specs.declared.sent.Sent.{Sent}
 use Rattle.plan_meaning.specs.declared.stop.EvalStop.TheVariants as stop
 use Rattle.plan_meaning.specs.declared.outcome.Visit.{Visit}
 use Rattle.plan_meaning.specs.Run.{After, gave, stopped}
-use Rattle.plan_meaning.specs.Visit.{allowance, begun}
+use Rattle.plan_meaning.specs.Visit.{allowance, begun_state}
 use Rattle.node_model.specs.declared.acts.Act.{Act}
 use Rattle.node_model.specs.declared.acts.Act.TheVariants.{Arrived, Noted, Ended, Dropped, Injected, SerialsSpent, Heard, Misplaced}
 use Rattle.node_model.specs.declared.acts.Reason.TheVariants as reason
@@ -34,9 +34,9 @@ use Rattle.node_model.specs.declared.acts.Sending.{Sending}
 use Rattle.node_model.specs.declared.acts.Lane.{Lane}
 use Rattle.node_model.specs.State.{Links, Queues, NodeState, routing_of, is_host, leads_to}
 use Rattle.settled_visit.specs.declared.settling.Settled.{Settled}
-use Rattle.settled_visit.specs.Settles.{handed, telling_by, with_telling, settled}
-use Rattle.node_model.specs.Visits.{evaluated, visit_end, visit_of, services_end, services_after, around, visit_at, settled_at}
-use Rattle.node_model.specs.Node.{NodeStep, send_act, send_queues, sends_acts, sends_queues, has_room, packet_sending, visit_sends, handled_acts, visit_acts, visited, inject_step, next_serial, injected_packet, forward_by, forward_step, packet_step, advert_step, frame_step, drop_act, lane_room, mark, takes_as, stamped_as, stamped_step, tick_step, ticking, tick_sends, advert_sending, take_step, take_first, take_from, only_acts, onward, hearing}
+use Rattle.settled_visit.specs.Settles.{handed_packet, telling_by, with_telling, visit_settled}
+use Rattle.node_model.specs.Visits.{evaluated_packet, visit_end, visit_of, services_end, services_after, around, visit_at, settled_at}
+use Rattle.node_model.specs.Node.{NodeStep, send_act, send_queues, sends_acts, sends_queues, has_room, packet_sending, visit_sends, handled_acts, visit_acts, visit_step, inject_step, next_serial, injected_packet, forward_by, forward_step, packet_step, advert_step, frame_step, drop_act, lane_room, mark, takes_as, stamped_as, stamped_step, tick_step, ticking, tick_sends, advert_sending, take_step, take_first, take_from, only_acts, onward, hearing}
 use Rattle.node_model.specs.Fits.{QueuesKeep}
 use Rattle.node_laws.proofs.Keeping.{Whatever, send_keeps, sends_keep, took}
 use Rattle.port_visits.specs.Only.{Allowed, MaySend}
@@ -63,8 +63,8 @@ module _ (a : Allowed) (closed : IsClosed a) where
   end_known bound old (stopped stop.NoMemory s) o e = record { sends = tt; notes = tt; offer = o }
 
   pub visit_known : (ctx : Ctx) (services : ServiceState) (p : Packet) → services.offer ≡ a.offer → a.chunk p.chunk → VisitKnown (visit_of ctx services p) (services_after ctx services p)
-  unfolding visit_of services_after evaluated
-  visit_known ctx services p o k = end_known p.bound services (evaluated ctx services p) o (closed p.chunk k (begun allowance ctx p.family services) (record { offer = o; sends = tt; notes = tt }))
+  unfolding visit_of services_after evaluated_packet
+  visit_known ctx services p o k = end_known p.bound services (evaluated_packet ctx services p) o (closed p.chunk k (begun_state allowance ctx p.family services) (record { offer = o; sends = tt; notes = tt }))
 
   -- ---- sends
 
@@ -109,21 +109,21 @@ module _ (a : Allowed) (closed : IsClosed a) where
   notes_known (n ∷ ns) h = (h.0, notes_known ns h.1)
 
   -- the settled visit of a packet without a handler sends what the visit sent
-  handed_known : (ss : List Sent) → AllByRecursion (MaySend a) ss → AllByRecursion (MaySend a) (map (handed None) ss)
+  handed_known : (ss : List Sent) → AllByRecursion (MaySend a) ss → AllByRecursion (MaySend a) (map (handed_packet None) ss)
   handed_known [] h = tt
   handed_known (s ∷ ss) h = ((h.0.0, refl), handed_known ss h.1)
 
   told_known : (p : Packet) (ctx : Ctx) (v : Visit) (o : Option Name) → o ≡ None → AllByRecursion (MaySend a) v.outbox
       → AllByRecursion (MaySend a) (with_telling o v (telling_by p o ctx v.left v.outcome)).visit.outbox
-  told_known p ctx v None e h = all_append (MaySend a) (map (handed None) v.outbox) [] (handed_known v.outbox h) tt
+  told_known p ctx v None e h = all_append (MaySend a) (map (handed_packet None) v.outbox) [] (handed_known v.outbox h) tt
   told_known p ctx v (Some n) e h = cc
 
-  settled_known : (p : Packet) (ctx : Ctx) (v : Visit) → p.handler ≡ None → AllByRecursion (MaySend a) v.outbox → AllByRecursion (MaySend a) (settled p ctx v).visit.outbox
-  unfolding settled
+  settled_known : (p : Packet) (ctx : Ctx) (v : Visit) → p.handler ≡ None → AllByRecursion (MaySend a) v.outbox → AllByRecursion (MaySend a) (visit_settled p ctx v).visit.outbox
+  unfolding visit_settled
   settled_known p ctx v e h = told_known p ctx v p.handler e h
 
-  settled_notes : (p : Packet) (ctx : Ctx) (v : Visit) → AllByRecursion a.note v.notes → AllByRecursion a.note (settled p ctx v).visit.notes
-  unfolding settled
+  settled_notes : (p : Packet) (ctx : Ctx) (v : Visit) → AllByRecursion a.note v.notes → AllByRecursion a.note (visit_settled p ctx v).visit.notes
+  unfolding visit_settled
   settled_notes p ctx v h = h
 
   handled_known : (g : Family) (h : Option Name) (bound : ℕ) → AllByRecursion (ActKnown a) (handled_acts g h bound)
@@ -141,8 +141,8 @@ module _ (a : Allowed) (closed : IsClosed a) where
 
   -- ---- steps
 
-  pub visited_known : (acts : List Act) (node : NodeState) (p : Packet) → AllByRecursion (ActKnown a) acts → a.chunk p.chunk × (p.handler ≡ None) → NodeKnown a node → StepKnown a (visited acts node p)
-  unfolding visited visit_sends
+  pub visited_known : (acts : List Act) (node : NodeState) (p : Packet) → AllByRecursion (ActKnown a) acts → a.chunk p.chunk × (p.handler ≡ None) → NodeKnown a node → StepKnown a (visit_step acts node p)
+  unfolding visit_step visit_sends
   visited_known acts node p h k n =
       let v = visit_known (around node p) (begun_now node.services) p n.offer k.0 in
       let left = (visit_at node p).left in
@@ -162,7 +162,7 @@ module _ (a : Allowed) (closed : IsClosed a) where
   unfolding inject_step
   inject_known node c b o k n = by (node.serial == 18446744073709551615)
     where
-      by : (t : Bool) → StepKnown a (cond t (record { acts = SerialsSpent ∷ []; frame = None; node = node }) (visited (Injected (record { source = node.here; serial = node.serial }) b ∷ []) (next_serial node) (injected_packet node c b o)))
+      by : (t : Bool) → StepKnown a (cond t (record { acts = SerialsSpent ∷ []; frame = None; node = node }) (visit_step (Injected (record { source = node.here; serial = node.serial }) b ∷ []) (next_serial node) (injected_packet node c b o)))
       by true = record { node = n; acts = (tt, tt); frame = tt }
       by false = visited_known (Injected (record { source = node.here; serial = node.serial }) b ∷ []) (next_serial node) (injected_packet node c b o) (tt, tt) k (record { queues = n.queues; offer = n.offer })
 
@@ -180,7 +180,7 @@ module _ (a : Allowed) (closed : IsClosed a) where
   unfolding packet_step forward_step
   packet_known node d p k n = by (is_host p.dest node.here) (p.bound == 0)
     where
-      by : (t u : Bool) → StepKnown a (cond t (visited (Arrived d ∷ []) node p) (cond u (record { acts = Arrived d ∷ Dropped reason.NoBound p.family 0 ∷ []; frame = None; node = node }) (forward_by node d p (hop (all_routes (routing_of node)) p.route node.here p.dest))))
+      by : (t u : Bool) → StepKnown a (cond t (visit_step (Arrived d ∷ []) node p) (cond u (record { acts = Arrived d ∷ Dropped reason.NoBound p.family 0 ∷ []; frame = None; node = node }) (forward_by node d p (hop (all_routes (routing_of node)) p.route node.here p.dest))))
       by true u = visited_known (Arrived d ∷ []) node p (tt, tt) k n
       by false true = record { node = n; acts = (tt, (tt, tt)); frame = tt }
       by false false = by_known node d p (hop (all_routes (routing_of node)) p.route node.here p.dest) k n

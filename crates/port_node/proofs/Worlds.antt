@@ -17,7 +17,7 @@ use Rattle.world_model.specs.declared.lines.LinkEnd.{LinkEnd}
 use Rattle.world_model.specs.declared.lines.Wired.{Wired}
 use Rattle.world_model.specs.declared.lines.Handing.{Handing}
 use Rattle.world_model.specs.declared.lines.Handing.TheVariants.{Taking, Leaving}
-use Rattle.world_model.specs.World.{WorldState, nothing, lines_at, steps_at, step_at, step_place, steps, place_of, far_end, send_taken, send_at, send_over, send_place, sends, none_before, hand_line, as_handed, wire_after, with_wire, without_frame, wire_place, hand_at, hand_to, hand_frame, hand_place, hands, lose_frame, lose_place, loses, acted, happens}
+use Rattle.world_model.specs.World.{WorldState, nothing, lines_at, steps_at, step_at, step_place, steps, place_of, far_end, send_taken, send_at, send_over, send_place, sends, none_before, hand_line, as_handed, wire_after, with_wire, without_frame, wire_place, hand_at, hand_to, hand_frame, hand_place, hands, lose_frame, lose_place, loses, acted_event, happens}
 use Rattle.port_visits.specs.Only.{Allowed}
 use Rattle.port_node.specs.Known.{IsClosed, StampedKnown, NodeKnown, ActKnown, TakenKnown, StepKnown, WorldKnown, LineKnown, EventKnown, ComesKnown}
 use Rattle.port_node.proofs.Nodes.{all_append, inject_known, stamped_known, take_known, tick_known}
@@ -156,7 +156,7 @@ module _ (a : Allowed) (closed : IsClosed a) where
       place (Some at0) = frame at0 (slice_get w.wire at0)
 
   -- ---- all events
-  acted_known : (w : WorldState) (e : WorldEvent) → ComesKnown a e → WorldKnown a w → EventKnown a (acted w e)
+  acted_known : (w : WorldState) (e : WorldEvent) → ComesKnown a e → WorldKnown a w → EventKnown a (acted_event w e)
   acted_known w (event.Inject h c b o) q k = steps_known w h (λ node. inject_step [] node c b o) (λ node n. inject_known a closed node c b o q n) k
   acted_known w (event.Send h d) q k = sends_known w h d k
   acted_known w (event.Deliver n) q k = hands_known w Taking n k

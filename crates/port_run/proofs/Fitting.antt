@@ -39,18 +39,18 @@ module _ (v : Version) where
   nameless One k = refl
   nameless Two k = tt
 
-  injected : (k : Chunk) → IsCheckedChunk k → KeepsInjection v k price None
-  injected k h = ((omega arith, h), nameless v k)
+  injection_is_kept : (k : Chunk) → IsCheckedChunk k → KeepsInjection v k price None
+  injection_is_kept k h = ((omega arith, h), nameless v k)
 
-  made : (e : WorldEvent) (s : PortState) → event_fits v e → Fits v s → Fits v (makes e s)
-  made e s f h = record { held = h.held; events = All-push (event_fits v) s.events e h.events f }
+  made_event_fits : (e : WorldEvent) (s : PortState) → event_fits v e → Fits v s → Fits v (makes e s)
+  made_event_fits e s f h = record { held = h.held; events = All-push (event_fits v) s.events e h.events f }
 
   acks_fit : (s : PortState) → Fits v s → Fits v (acks s)
   acks_fit s h = by (nat_lt s.second price)
     where
       by : (t : Bool) → Fits v (cond t s (makes (ack_event s.receiver) (second_pays s)))
       by true = h
-      by false = made (ack_event s.receiver) (second_pays s) (injected _ (ack_checked first_host (pos (next_of s.receiver)))) (record { held = h.held; events = h.events })
+      by false = made_event_fits (ack_event s.receiver) (second_pays s) (injection_is_kept _ (ack_checked first_host (pos (next_of s.receiver)))) (record { held = h.held; events = h.events })
 
   message_fits : (o : Option (ℤ × Body)) (s : PortState) → Fits v s → Fits v (hears_message o s)
   message_fits None s h = h
@@ -78,7 +78,7 @@ module _ (v : Version) where
   hears_fit (l ∷ ls) s h = hears_fit ls (hears_line l s) (line_fits l s h)
 
   after_fits : (e : WorldEvent) (s : PortState) → event_fits v e → Fits v s → Fits v (after e s)
-  after_fits e s f h = hears_fit (happens s.world e).lines (makes e s) (made e s f h)
+  after_fits e s f h = hears_fit (happens s.world e).lines (makes e s) (made_event_fits e s f h)
 
   transmit_fits : (seq : ℕ) (o : Option Body) (s : PortState) → held_at seq s.sender ≡ o → Fits v s → Fits v (transmits seq o s)
   transmit_fits seq None s e h = h
@@ -87,7 +87,7 @@ module _ (v : Version) where
       by : (t : Bool) → Fits v (cond t s (after (message_event seq b) (first_pays s)))
       by true = h
       by false =
-          after_fits (message_event seq b) (first_pays s) (injected _ (data_checked second_host (pos seq) b (held_short seq s.sender b h.held e)))
+          after_fits (message_event seq b) (first_pays s) (injection_is_kept _ (data_checked second_host (pos seq) b (held_short seq s.sender b h.held e)))
           (record { held = h.held; events = h.events })
 
   offer_fits : (b : Body) (s : PortState) → IsShort b → Fits v s → Fits v (offers_one b s)

@@ -10,7 +10,7 @@ use Rattle.node_model.specs.Counts.{is_family, only}
 use Rattle.world_model.specs.declared.lines.Line.{Line}
 use Rattle.world_model.specs.declared.lines.Line.TheVariants as line
 use Rattle.world_model.specs.declared.lines.Entry.{Entry}
-use Rattle.world_model.specs.Counts.{granted, hops, evals, tally, line_granted}
+use Rattle.world_model.specs.Counts.{granted_sum, hops, evals, tally, line_granted}
 use Rattle.world_model.specs.World.{WorldState, happens, entries, entry_at, history_of, opening}
 use Rattle.network_plan.specs.Rules.{KeepsNetwork}
 use Rattle.world_model.specs.Sound.{EventsFit}
@@ -79,12 +79,12 @@ sum_same : {X : Type 0} (f g : X → ℕ) → ((x : X) → f x ≡ g x) → (xs 
 sum_same f g e [] = refl
 sum_same f g e (x ∷ xs) = omega (arith, e x, sum_same f g e xs)
 
-history_once : (h : List Entry) (fs : List Family) → Apart fs → sum_of (λ f. granted f h) fs ≤ tally line_bound h
-history_once [] fs k = omega (arith, sum_same (λ f. granted f []) (λ f. 0) (λ f. tally-nil (line_granted f)) fs, zeros fs)
+history_once : (h : List Entry) (fs : List Family) → Apart fs → sum_of (λ f. granted_sum f h) fs ≤ tally line_bound h
+history_once [] fs k = omega (arith, sum_same (λ f. granted_sum f []) (λ f. 0) (λ f. tally-nil (line_granted f)) fs, zeros fs)
 history_once (e ∷ es) fs k =
     omega (
       arith,
-      sum_plus (λ f. granted f (e ∷ es)) (λ f. line_granted f e.line) (λ f. granted f es) (λ f. tally-cons (line_granted f) e es) fs,
+      sum_plus (λ f. granted_sum f (e ∷ es)) (λ f. line_granted f e.line) (λ f. granted_sum f es) (λ f. tally-cons (line_granted f) e es) fs,
       line_once e.line fs k,
       history_once es fs k,
       tally-cons line_bound e es,
@@ -104,4 +104,4 @@ run_grants (e ∷ es) w h =
 pub families_pay : (t : Topology) (es : List WorldEvent) (fs : List Family) → KeepsNetwork t → EventsFit t.version es → AllByRecursion NotRaw es → Apart fs → paid_by fs (history_of es (opening t)) ≤ sum_of event_bound es
 families_pay t es fs net fits h k =
     let hs = history_of es (opening t) in
-    omega (arith, sum_le (λ f. hops f hs + evals f hs) (λ f. granted f hs) (λ f. omega (arith, (opening_balances f t es net fits).law)) fs, history_once hs fs k, run_grants es (opening t) h)
+    omega (arith, sum_le (λ f. hops f hs + evals f hs) (λ f. granted_sum f hs) (λ f. omega (arith, (opening_balances f t es net fits).law)) fs, history_once hs fs k, run_grants es (opening t) h)

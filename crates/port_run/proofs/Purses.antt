@@ -30,8 +30,8 @@ pub record Pays (w : WorldState) (n : ℕ) (s : PortState) : Type 0 where
   pub paid : sum_of event_bound s.events + s.first + s.second ≤ n
 
 module _ (w : WorldState) (n : ℕ) where
-  made : (e : WorldEvent) (s : PortState) → NotRaw e → s.world ≡ world_after s.events w → AllByRecursion NotRaw s.events → sum_of event_bound s.events + event_bound e + s.first + s.second ≤ n → Pays w n (makes e s)
-  made e s q k h p = record {
+  made_event_pays : (e : WorldEvent) (s : PortState) → NotRaw e → s.world ≡ world_after s.events w → AllByRecursion NotRaw s.events → sum_of event_bound s.events + event_bound e + s.first + s.second ≤ n → Pays w n (makes e s)
+  made_event_pays e s q k h p = record {
     world = ap (λ x. (happens x e).world) k ∙ sym (run_more s.events e w);
     wired = all_push NotRaw s.events e h q;
     paid = omega (arith, p, sum_append event_bound s.events (e ∷ []));
@@ -42,7 +42,7 @@ module _ (w : WorldState) (n : ℕ) where
     where
       by : (t : Bool) → nat_lt s.second price ≡ t → Pays w n (cond t s (makes (ack_event s.receiver) (second_pays s)))
       by true e = h
-      by false e = let l : 4 ≤ s.second = grind (arith, nat_tests) in let p = h.paid in made (ack_event s.receiver) (second_pays s) tt h.world h.wired (omega (arith, l, p))
+      by false e = let l : 4 ≤ s.second = grind (arith, nat_tests) in let p = h.paid in made_event_pays (ack_event s.receiver) (second_pays s) tt h.world h.wired (omega (arith, l, p))
 
   message_pays : (o : Option (ℤ × Body)) (s : PortState) → Pays w n s → Pays w n (hears_message o s)
   message_pays None s h = h
@@ -78,7 +78,7 @@ module _ (w : WorldState) (n : ℕ) where
       by false e =
           let l : 4 ≤ s.first = grind (arith, nat_tests) in
           let p = h.paid in
-          hears_pay (happens s.world (message_event seq b)).lines (makes (message_event seq b) (first_pays s)) (made (message_event seq b) (first_pays s) tt h.world h.wired (omega (arith, l, p)))
+          hears_pay (happens s.world (message_event seq b)).lines (makes (message_event seq b) (first_pays s)) (made_event_pays (message_event seq b) (first_pays s) tt h.world h.wired (omega (arith, l, p)))
 
   offer_pays : (b : Body) (s : PortState) → Pays w n s → Pays w n (offers_one b s)
   offer_pays b s h = by (is_full s.sender)
@@ -90,11 +90,11 @@ module _ (w : WorldState) (n : ℕ) where
   wire_pays : (e : WorldEvent) (s : PortState) → IsWire (Wire e) → Pays w n s → Pays w n (after e s)
   wire_pays (event.Inject g c b o) s q h = absurd q
   wire_pays (event.Raw g d bytes) s q h = absurd q
-  wire_pays (event.Send g d) s q h = let p = h.paid in hears_pay (happens s.world (event.Send g d)).lines (makes (event.Send g d) s) (made (event.Send g d) s tt h.world h.wired (omega (arith, p)))
-  wire_pays (event.Deliver k) s q h = let p = h.paid in hears_pay (happens s.world (event.Deliver k)).lines (makes (event.Deliver k) s) (made (event.Deliver k) s tt h.world h.wired (omega (arith, p)))
-  wire_pays (event.Repeat k) s q h = let p = h.paid in hears_pay (happens s.world (event.Repeat k)).lines (makes (event.Repeat k) s) (made (event.Repeat k) s tt h.world h.wired (omega (arith, p)))
-  wire_pays (event.Lose k) s q h = let p = h.paid in hears_pay (happens s.world (event.Lose k)).lines (makes (event.Lose k) s) (made (event.Lose k) s tt h.world h.wired (omega (arith, p)))
-  wire_pays (event.Tick g) s q h = let p = h.paid in hears_pay (happens s.world (event.Tick g)).lines (makes (event.Tick g) s) (made (event.Tick g) s tt h.world h.wired (omega (arith, p)))
+  wire_pays (event.Send g d) s q h = let p = h.paid in hears_pay (happens s.world (event.Send g d)).lines (makes (event.Send g d) s) (made_event_pays (event.Send g d) s tt h.world h.wired (omega (arith, p)))
+  wire_pays (event.Deliver k) s q h = let p = h.paid in hears_pay (happens s.world (event.Deliver k)).lines (makes (event.Deliver k) s) (made_event_pays (event.Deliver k) s tt h.world h.wired (omega (arith, p)))
+  wire_pays (event.Repeat k) s q h = let p = h.paid in hears_pay (happens s.world (event.Repeat k)).lines (makes (event.Repeat k) s) (made_event_pays (event.Repeat k) s tt h.world h.wired (omega (arith, p)))
+  wire_pays (event.Lose k) s q h = let p = h.paid in hears_pay (happens s.world (event.Lose k)).lines (makes (event.Lose k) s) (made_event_pays (event.Lose k) s tt h.world h.wired (omega (arith, p)))
+  wire_pays (event.Tick g) s q h = let p = h.paid in hears_pay (happens s.world (event.Tick g)).lines (makes (event.Tick g) s) (made_event_pays (event.Tick g) s tt h.world h.wired (omega (arith, p)))
 
   pub run_pays : (es : List PortEvent) (s : PortState) → AllByRecursion IsWire es → Pays w n s → Pays w n (port_run es s)
   run_pays [] s q h = h

@@ -30,7 +30,7 @@ use Rattle.node_model.specs.declared.acts.Lane.{Lane}
 use Rattle.node_model.specs.State.{Links, Queues, NodeState, routing_of, is_host, leads_to}
 use Rattle.settled_visit.specs.declared.settling.Settled.{Settled}
 use Rattle.node_model.specs.Visits.{visit_at, settled_at}
-use Rattle.node_model.specs.Node.{NodeStep, send_act, send_queues, sends_acts, has_room, packet_sending, visit_sends, handled_acts, visit_acts, visited, inject_step, next_serial, injected_packet, forward_by, forward_step, packet_step, advert_step, frame_step, drop_act, lane_room, mark, takes_as, stamped_as, stamped_step, take_first, tick_step, tick_sends, advert_sending, take_step, take_from, only_acts, onward, hearing}
+use Rattle.node_model.specs.Node.{NodeStep, send_act, send_queues, sends_acts, has_room, packet_sending, visit_sends, handled_acts, visit_acts, visit_step, inject_step, next_serial, injected_packet, forward_by, forward_step, packet_step, advert_step, frame_step, drop_act, lane_room, mark, takes_as, stamped_as, stamped_step, take_first, tick_step, tick_sends, advert_sending, take_step, take_from, only_acts, onward, hearing}
 use Rattle.world_model.specs.declared.lines.Line.{Line}
 use Rattle.world_model.specs.declared.lines.Line.TheVariants.{Wire}
 use Rattle.world_model.specs.declared.lines.LinkEnd.{LinkEnd}
@@ -95,15 +95,15 @@ visit_quiet m queues p left s =
       sends_quiet m queues v.outbox,
     )
 
-visited_quiet : (acts : List Act) (node : NodeState) (p : Packet) → Acts (visited acts node p).acts ≡ Acts acts
-unfolding visited
+visited_quiet : (acts : List Act) (node : NodeState) (p : Packet) → Acts (visit_step acts node p).acts ≡ Acts acts
+unfolding visit_step
 visited_quiet acts node p = omega (arith, sum_append act_bound acts (visit_acts (mark node) node.queues p (visit_at node p).left (settled_at node p)), visit_quiet (mark node) node.queues p (visit_at node p).left (settled_at node p))
 
 inject_bound : (node : NodeState) (c : Chunk) (b : ℕ) (o : Option Name) → Acts (inject_step [] node c b o).acts ≤ b
 unfolding inject_step
 inject_bound node c b o = by (node.serial == 18446744073709551615)
   where
-    by : (t : Bool) → Acts (cond t (record { acts = SerialsSpent ∷ []; frame = None; node = node }) (visited (Injected (record { source = node.here; serial = node.serial }) b ∷ []) (next_serial node) (injected_packet node c b o))).acts ≤ b
+    by : (t : Bool) → Acts (cond t (record { acts = SerialsSpent ∷ []; frame = None; node = node }) (visit_step (Injected (record { source = node.here; serial = node.serial }) b ∷ []) (next_serial node) (injected_packet node c b o))).acts ≤ b
     by true = omega arith
     by false = omega (arith, visited_quiet (Injected (record { source = node.here; serial = node.serial }) b ∷ []) (next_serial node) (injected_packet node c b o))
 
@@ -117,7 +117,7 @@ packet_quiet : (node : NodeState) (d : Dev) (p : Packet) → Acts (packet_step n
 unfolding packet_step forward_step
 packet_quiet node d p = by (is_host p.dest node.here) (p.bound == 0)
   where
-    by : (t u : Bool) → Acts (cond t (visited (Arrived d ∷ []) node p) (cond u (record { acts = Arrived d ∷ Dropped reason.NoBound p.family 0 ∷ []; frame = None; node = node }) (forward_by node d p (hop (all_routes (routing_of node)) p.route node.here p.dest)))).acts ≡ 0
+    by : (t u : Bool) → Acts (cond t (visit_step (Arrived d ∷ []) node p) (cond u (record { acts = Arrived d ∷ Dropped reason.NoBound p.family 0 ∷ []; frame = None; node = node }) (forward_by node d p (hop (all_routes (routing_of node)) p.route node.here p.dest)))).acts ≡ 0
     by true u = visited_quiet (Arrived d ∷ []) node p
     by false true = refl
     by false false = by_quiet node d p (hop (all_routes (routing_of node)) p.route node.here p.dest)

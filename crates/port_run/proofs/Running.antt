@@ -146,8 +146,8 @@ module _ (offer : Offering) where
     stays : (s : PortState) → Together s → On s s
     stays s h = record { together = h; grows = record { offers = λ seq b e. e; acks = omega arith } }
 
-    known : (s : PortState) (e : WorldEvent) → ComesKnown (port_allowed offer s.offers (next_of s.receiver)) e → Together s → EventKnown (port_allowed offer s.offers (next_of s.receiver)) (happens s.world e)
-    known s e c h = event_known (port_allowed offer s.offers (next_of s.receiver)) (port_closed s.offers (next_of s.receiver) sv) s.world e c h.world
+    event_is_known : (s : PortState) (e : WorldEvent) → ComesKnown (port_allowed offer s.offers (next_of s.receiver)) e → Together s → EventKnown (port_allowed offer s.offers (next_of s.receiver)) (happens s.world e)
+    event_is_known s e c h = event_known (port_allowed offer s.offers (next_of s.receiver)) (port_closed s.offers (next_of s.receiver) sv) s.world e c h.world
 
     acks_on : (s : PortState) → Together s → On s (acks s)
     acks_on s h = by (nat_lt s.second price)
@@ -155,7 +155,7 @@ module _ (offer : Offering) where
         by : (t : Bool) → On s (cond t s (makes (ack_event s.receiver) (second_pays s)))
         by true = stays s h
         by false = record {
-          together = record { receives = h.receives; sends = h.sends; acked = h.acked; world = (known s (ack_event s.receiver) (PortChunk.ack (next_of s.receiver) (omega arith) refl, refl) h).world };
+          together = record { receives = h.receives; sends = h.sends; acked = h.acked; world = (event_is_known s (ack_event s.receiver) (PortChunk.ack (next_of s.receiver) (omega arith) refl, refl) h).world };
           grows = record { offers = λ seq b e. e; acks = omega arith };
         }
 
@@ -201,7 +201,7 @@ module _ (offer : Offering) where
         hears_on ls t (all_weaker (LineKnown (port_allowed offer s.offers (next_of s.receiver))) (LineKnown (port_allowed offer t.offers (next_of t.receiver))) (line_grows s.offers t.offers (next_of s.receiver) (next_of t.receiver) o.grows) ls k.1) o.together
 
     after_on : (e : WorldEvent) (s : PortState) → ComesKnown (port_allowed offer s.offers (next_of s.receiver)) e → Together s → Together (after e s)
-    after_on e s c h = let k = known s e c h in hears_on (happens s.world e).lines (makes e s) k.lines (record { receives = h.receives; sends = h.sends; acked = h.acked; world = k.world })
+    after_on e s c h = let k = event_is_known s e c h in hears_on (happens s.world e).lines (makes e s) k.lines (record { receives = h.receives; sends = h.sends; acked = h.acked; world = k.world })
 
     -- ---- events
 

@@ -13,7 +13,7 @@ use Rattle.service_api.specs.Services.{Rows}
 use Rattle.service_meaning.specs.declared.service.Service.TheVariants as service
 use Rattle.service_meaning.specs.Offered.{InstalledPackages, type_of}
 use Rattle.value_rules.specs.Rules.{bad_index}
-use Rattle.service_meaning.specs.Answers.{given, noted_answer, raised, of_host, of_int, delivered}
+use Rattle.service_meaning.specs.Answers.{given_answer, noted_answer, raised_answer, of_host, of_int, delivered_answer}
 use Rattle.service_meaning.specs.Serving.{serve, serve_at, serve_offered, offer}
 use Rattle.port_tree.specs.Programs.{this_host_is, get_rb, deliver}
 use Rattle.port_visits.specs.Only.{AnswerFits}
@@ -22,22 +22,22 @@ use Rattle.port_run.specs.Allowed.{NoNote, PortServes}
 
 host_at : (o : Option Ty) (h : Host) (ctx : Ctx) (rows : Rows) → AnswerFits NoNote Any (serve_at o service.ThisHostIs (value.Host h ∷ []) ctx rows).answer
 host_at None h ctx rows = tt
-host_at (Some a) h ctx rows = subst (λ (l : ValueLayer). AnswerFits NoNote Any (of_host (λ g. given (value.Bool (g.0 == ctx.here.0)) rows) l rows).answer) (sym (value.outs-Host h)) (tt, tt)
+host_at (Some a) h ctx rows = subst (λ (l : ValueLayer). AnswerFits NoNote Any (of_host (λ g. given_answer (value.Bool (g.0 == ctx.here.0)) rows) l rows).answer) (sym (value.outs-Host h)) (tt, tt)
 
 purse_at : (o : Option Ty) (ctx : Ctx) (rows : Rows) → AnswerFits NoNote Any (serve_at o service.GetRb [] ctx rows).answer
 purse_at None ctx rows = tt
 purse_at (Some a) ctx rows = (tt, tt)
 
-port_answer_fits : (p : ℕ) (v : Value) (rows : Rows) → AnswerFits (λ n. n ≡ Port p v) Any (delivered (pos p) v rows).answer
+port_answer_fits : (p : ℕ) (v : Value) (rows : Rows) → AnswerFits (λ n. n ≡ Port p v) Any (delivered_answer (pos p) v rows).answer
 port_answer_fits p v rows = by (nat_le p 65535)
   where
-    by : (t : Bool) → AnswerFits (λ n. n ≡ Port p v) Any (cond t (noted_answer (Port p v) rows) (raised bad_index rows)).answer
+    by : (t : Bool) → AnswerFits (λ n. n ≡ Port p v) Any (cond t (noted_answer (Port p v) rows) (raised_answer bad_index rows)).answer
     by true = (refl, tt)
     by false = tt
 
 deliver_at : (o : Option Ty) (p : ℕ) (v : Value) (ctx : Ctx) (rows : Rows) → AnswerFits (λ n. n ≡ Port p v) Any (serve_at o service.Deliver (value.Int (pos p) ∷ v ∷ []) ctx rows).answer
 deliver_at None p v ctx rows = tt
-deliver_at (Some a) p v ctx rows = subst (λ (l : ValueLayer). AnswerFits (λ n. n ≡ Port p v) Any (of_int (λ z. delivered z v rows) l rows).answer) (sym (value.outs-Int (pos p))) (port_answer_fits p v rows)
+deliver_at (Some a) p v ctx rows = subst (λ (l : ValueLayer). AnswerFits (λ n. n ≡ Port p v) Any (of_int (λ z. delivered_answer z v rows) l rows).answer) (sym (value.outs-Int (pos p))) (port_answer_fits p v rows)
 
 pub registry_serves : (p : InstalledPackages) → PortServes (offer p)
 unfolding serve

@@ -22,19 +22,19 @@ abbrev pub get_rb : Svc
 get_rb = record { name = codes "getRB"; params = []; result = ty.Int }
 
 -- the type of what is delivered
-abbrev pub delivered : Ty
-delivered = ty.Tuple (ty.Int ∷ ty.Blob ∷ [])
+abbrev pub delivered_type : Ty
+delivered_type = ty.Tuple (ty.Int ∷ ty.Blob ∷ [])
 
 abbrev pub deliver : Svc
-deliver = record { name = codes "deliver"; params = ty.Int ∷ delivered ∷ []; result = ty.Unit }
+deliver = record { name = codes "deliver"; params = ty.Int ∷ delivered_type ∷ []; result = ty.Unit }
 
 -- ---- what both functions do: where the packet is at its destination it delivers, else it goes on
 
 abbrev pub dest : Expr
 dest = expr.Var (codes "dest")
 
-abbrev pub arrived : Expr
-arrived = expr.Call (codes "thisHostIs") (dest ∷ [])
+abbrev pub arrived_test : Expr
+arrived_test = expr.Call (codes "thisHostIs") (dest ∷ [])
 
 -- the bound that is left
 abbrev pub purse : Expr
@@ -64,7 +64,7 @@ abbrev pub data_again : Expr
 data_again = expr.ChunkOf (codes "data") (dest ∷ seq ∷ body ∷ [])
 
 abbrev pub data_body : Expr
-data_body = expr.If arrived data_delivered (goes_on data_again)
+data_body = expr.If arrived_test data_delivered (goes_on data_again)
 
 abbrev pub data_params : List Param
 data_params = param (codes "dest") ty.Host ∷ param (codes "seq") ty.Int ∷ param (codes "body") ty.Blob ∷ []
@@ -84,7 +84,7 @@ abbrev pub ack_again : Expr
 ack_again = expr.ChunkOf (codes "ack") (dest ∷ following ∷ [])
 
 abbrev pub ack_body : Expr
-ack_body = expr.If arrived ack_delivered (goes_on ack_again)
+ack_body = expr.If arrived_test ack_delivered (goes_on ack_again)
 
 abbrev pub ack_params : List Param
 ack_params = param (codes "dest") ty.Host ∷ param (codes "next") ty.Int ∷ []

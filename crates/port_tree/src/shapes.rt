@@ -67,7 +67,7 @@ fn is_host(t: &Ty) -> bool
 
 #[tactic(auto, using(plan_base::specs::Trees::trees))]
 fn is_delivered(t: &Ty) -> bool
-    ensures { IsTrue result → t.now ≡ spec.delivered }
+    ensures { IsTrue result → t.now ≡ spec.delivered_type }
 {
     match t {
         Ty::Tuple(parts) => match parts.as_slice() {
@@ -143,7 +143,7 @@ fn is_no_bytes(e: &Expr) -> bool
 
 #[tactic(auto, using(plan_base::specs::Trees::trees))]
 fn is_arrived(e: &Expr) -> bool
-    ensures { IsTrue result → e.now ≡ spec.arrived }
+    ensures { IsTrue result → e.now ≡ spec.arrived_test }
 {
     match e {
         Expr::Call(name, args) => match args.as_slice() {

@@ -20,19 +20,19 @@ use Rattle.service_api.specs.declared.answer.Answer.TheVariants.{Gives, Raises}
 use Rattle.service_api.specs.declared.router.Hop.{Hop}
 use Rattle.service_api.specs.declared.router.Hop.TheVariants.{To, NoService, NoRoute}
 use Rattle.service_api.specs.Routes.{hop}
-use Rattle.service_api.specs.Services.{served, called as kept_rows, Rows}
+use Rattle.service_api.specs.Services.{served_call, called_services as kept_rows, Rows}
 use Rattle.plan_meaning.specs.declared.sent.Sent.{Sent}
 use Rattle.plan_meaning.specs.declared.stop.EvalStop.{EvalStop}
 use Rattle.plan_meaning.specs.declared.stop.EvalStop.TheVariants.{Raised, WorkSpent}
 use Rattle.value_rules.specs.Rules.{too_large}
 use Rattle.plan_meaning.specs.State.{VisitState}
-use Rattle.plan_meaning.specs.Run.{After, gave, stopped, Run, ◌>>=◌, ◌>>◌, pure, stop, raise, or_wrong, spend, weighed, is_too_large, whole, serve, noted, answered, quiet, «next»}
+use Rattle.plan_meaning.specs.Run.{After, gave, stopped, Run, ◌>>=◌, ◌>>◌, pure, stop, raise, or_wrong, spend, weighed_value, is_too_large, whole, serve, notes_after, answered_call, quiet, «next»}
 use Rattle.std.specs.Prelude.{slice_get}
 use Rattle.plan_base.specs.declared.tree.Fun.{Fun}
 use Rattle.plan_base.specs.declared.tree.Expr.{Expr-F}
 use Rattle.plan_base.specs.declared.tree.Expr.TheVariants as expr
 use Rattle.typing_rules.specs.TypingNames.{place_of, service_of, prim_of}
-use Rattle.plan_meaning.specs.Meaning.{Env, Runs, is_paid, bound_of, no_bound, packet, sent_by, send_remote, values_behind, values, tuple, packed, call, called, called_by, served_or, choice, remote, as_bool, as_int, as_host, as_chunk, chunk_at, value_of, bound, entered, applied_at, visited, meaning, opened_at, opened, node, run_to}
+use Rattle.plan_meaning.specs.Meaning.{Env, Runs, is_paid, bound_of, no_bound, packet, sent_by, send_remote, values_behind, values, tuple, packed_chunk, call, called_name, called_by, served_or, choice, remote, as_bool, as_int, as_host, as_chunk, chunk_at, value_of, bound, entered_function, applied_at, visited_chunk, meaning, opened_at, opened_expression, node, run_to}
 use Rattle.port_visits.specs.Only.{Allowed, Good, AnswerFits, Serves, MaySend}
 use Rattle.port_visits.specs.Visits.{EndsGood}
 
@@ -75,8 +75,8 @@ module _ (a : Allowed) where
       by true = g
       by false = (record { offer = g.offer; sends = g.sends; notes = g.notes }, tt)
 
-  pub only_weighed : (ok : Value → Type 0) (v : Value) → ok v → Only ok (weighed v)
-  unfolding weighed
+  pub only_weighed : (ok : Value → Type 0) (v : Value) → ok v → Only ok (weighed_value v)
+  unfolding weighed_value
   only_weighed ok v h = by (is_too_large v)
     where
       by : (t : Bool) → Only ok (cond t (raise too_large) (spend (weight v) >> pure v))
@@ -85,14 +85,14 @@ module _ (a : Allowed) where
 
   pub only_whole : (ok : Value → Type 0) (p : Run Value) → Only ok p → Only ok (whole p)
   unfolding whole
-  only_whole ok p h = only_bind ok ok (spend 1 >> p) weighed (only_then (λ _. Unit {0}) ok (spend 1) p (only_spend 1) h) (only_weighed ok)
+  only_whole ok p h = only_bind ok ok (spend 1 >> p) weighed_value (only_then (λ _. Unit {0}) ok (spend 1) p (only_spend 1) h) (only_weighed ok)
 
   -- a service
   pub only_serve : (ok : Value → Type 0) (d : Svc) (args : List Value) → Serves a d args ok → Only ok (serve d args)
   unfolding serve
-  only_serve ok d args h s g = by (served s.services d args s.ctx).answer (subst (λ o. AnswerFits a.note ok (o.serve d args s.ctx s.services.rows).answer) (sym g.offer) (h s.ctx s.services.rows)) (served s.services d args s.ctx).rows
+  only_serve ok d args h s g = by (served_call s.services d args s.ctx).answer (subst (λ o. AnswerFits a.note ok (o.serve d args s.ctx s.services.rows).answer) (sym g.offer) (h s.ctx s.services.rows)) (served_call s.services d args s.ctx).rows
     where
-      by : (r : Answer) → AnswerFits a.note ok r → (rows : Rows) → EndsGood a ok (answered r (record s { services = kept_rows rows s.services }))
+      by : (r : Answer) → AnswerFits a.note ok r → (rows : Rows) → EndsGood a ok (answered_call r (record s { services = kept_rows rows s.services }))
       by (Gives v None) e rows = (record { offer = g.offer; sends = g.sends; notes = g.notes }, e.1)
       by (Gives v (Some n)) e rows = (record { offer = g.offer; sends = g.sends; notes = all_push a.note s.notes n g.notes e.0 }, e.1)
       by (Raises x) e rows = record { offer = g.offer; sends = g.sends; notes = g.notes }
@@ -113,7 +113,7 @@ module _ (a : Allowed) where
 
   -- an expression, by its level, at every depth
   pub only_level : (ok : Value → Type 0) (code : Program) (seen : ℕ) (env : Env) (e : Expr) (l : ExprLayer) → out-Expr e ≡ l → ((n : ℕ) → Only ok (opened_at (run_to n) code seen env l)) → (n : ℕ) → Only ok (run_to n code seen env e)
-  unfolding run_to node opened
+  unfolding run_to node opened_expression
   only_level ok code seen env e l q h zero = only_stop ok WorkSpent
   only_level ok code seen env e l q h (suc n) = only_whole ok (opened_at (run_to n) code seen env (out-Expr e)) (subst (λ x. Only ok (opened_at (run_to n) code seen env x)) (sym q) (h n))
 
@@ -154,8 +154,8 @@ module _ (a : Allowed) where
 
   -- the entry of a chunk: its function's place, the function and the bindings are known
   pub only_visited : (k : Chunk) (at : ℕ) (f : Fun) (env : Env) → place_of k.entry k.code.funs ≡ Some at → slice_get k.code.funs at ≡ Some f → bound f.params k.args ≡ Some env
-      → ((n : ℕ) → Only (λ _. Unit {0}) (run_to n k.code at env f.body)) → Only (λ _. Unit {0}) (visited meaning k)
-  unfolding visited entered
+      → ((n : ℕ) → Only (λ _. Unit {0}) (run_to n k.code at env f.body)) → Only (λ _. Unit {0}) (visited_chunk meaning k)
+  unfolding visited_chunk entered_function
   only_visited k at f env p q b h = subst (λ o. Only (λ _. Unit {0}) (applied_at meaning k.code o k.args)) (sym p)
       (only_bind (λ g. g ≡ f) (λ _. Unit {0}) (or_wrong (slice_get k.code.funs at)) (λ g. or_wrong (bound g.params k.args) >>= (λ env. meaning k.code at env g.body)) (only_some (λ g. g ≡ f) (slice_get k.code.funs at) f q refl)
       (λ g e. subst (λ (x : Fun). Only (λ _. Unit {0}) (or_wrong (bound x.params k.args) >>= (λ env. meaning k.code at env x.body))) (sym e)
@@ -179,17 +179,17 @@ module _ (a : Allowed) where
       (λ n. only_bind (λ ws. ws ≡ vs) (λ w. w ≡ value.Tuple vs) (values_behind (run_to n) [] code seen env es) (λ ws. pure (value.Tuple ws)) (only_values code seen env [] es vs h n) (λ ws e. only_pure (λ w. w ≡ value.Tuple vs) (value.Tuple ws) (ap value.Tuple e)))
 
   pub gives_chunk : (code : Program) (seen : ℕ) (env : Env) (f : Name) (es : List Expr) (vs : List Value) → Give_values code seen env es vs → Gives_value code seen env (expr.ChunkOf f es) (value.Chunk (record { code = code; entry = f; args = vs }))
-  unfolding packed values
+  unfolding packed_chunk values
   gives_chunk code seen env f es vs h = only_level (λ w. w ≡ value.Chunk (record { code = code; entry = f; args = vs })) code seen env (expr.ChunkOf f es) (Expr-F.ChunkOf f es) (expr.outs-ChunkOf f es)
       (λ n. only_bind (λ ws. ws ≡ vs) (λ w. w ≡ value.Chunk (record { code = code; entry = f; args = vs })) (values_behind (run_to n) [] code seen env es) (λ ws. pure (value.Chunk (record { code = code; entry = f; args = ws }))) (only_values code seen env [] es vs h n)
       (λ ws e. only_pure (λ w. w ≡ value.Chunk (record { code = code; entry = f; args = vs })) (value.Chunk (record { code = code; entry = f; args = ws })) (ap (λ xs. value.Chunk (record { code = code; entry = f; args = xs })) e)))
 
   pub calls_service : (ok : Value → Type 0) (code : Program) (seen : ℕ) (env : Env) (f : Name) (d : Svc) (es : List Expr) (vs : List Value) → prim_of f ≡ None → service_of f code.svcs ≡ Some d → Give_values code seen env es vs → Serves a d vs ok
       → (n : ℕ) → Only ok (run_to n code seen env (expr.Call f es))
-  unfolding call called values
+  unfolding call called_name values
   calls_service ok code seen env f d es vs p q h r = only_level ok code seen env (expr.Call f es) (Expr-F.Call f es) (expr.outs-Call f es)
-      (λ n. only_bind (λ ws. ws ≡ vs) ok (values_behind (run_to n) [] code seen env es) (called (run_to n) code seen f) (only_values code seen env [] es vs h n)
-      (λ ws e. subst (λ xs. Only ok (called (run_to n) code seen f xs)) (sym e)
+      (λ n. only_bind (λ ws. ws ≡ vs) ok (values_behind (run_to n) [] code seen env es) (called_name (run_to n) code seen f) (only_values code seen env [] es vs h n)
+      (λ ws e. subst (λ xs. Only ok (called_name (run_to n) code seen f xs)) (sym e)
       (subst (λ o. Only ok (called_by (run_to n) o code seen f vs)) (sym p) (subst (λ o. Only ok (served_or (run_to n) o code seen f vs)) (sym q) (only_serve ok d vs r)))))
 
   pub chooses : (code : Program) (seen : ℕ) (env : Env) (t x y : Expr) → ((n : ℕ) → Only (λ _. Unit {0}) (run_to n code seen env t)) → ((n : ℕ) → Only (λ _. Unit {0}) (run_to n code seen env x)) → ((n : ℕ) → Only (λ _. Unit {0}) (run_to n code seen env y))

@@ -8,7 +8,7 @@ use Rattle.service_api.specs.declared.answer.Note.TheVariants.{Port}
 use Rattle.service_api.specs.Services.{Offer}
 use Rattle.plan_meaning.specs.State.{VisitState}
 use Rattle.plan_meaning.specs.Run.{After, gave, stopped}
-use Rattle.plan_meaning.specs.Meaning.{meaning, visited}
+use Rattle.plan_meaning.specs.Meaning.{meaning, visited_chunk}
 use Rattle.port_tree.specs.Programs.{data_chunk, ack_chunk, this_host_is, get_rb, deliver}
 use Rattle.port_visits.specs.Only.{Allowed, Good, Serves}
 
@@ -23,7 +23,7 @@ Any v = Unit {0}
 
 -- however the visit of a chunk ends
 abbrev pub VisitIsGood : Allowed → Chunk → VisitState → Type 0
-VisitIsGood a k s = EndsGood a Any (visited meaning k s).after
+VisitIsGood a k s = EndsGood a Any (visited_chunk meaning k s).after
 
 -- the services that a port's program calls answer with what is allowed, whatever the surroundings
 pub record ServesPort (a : Allowed) (dest : Host) (port : ℤ) (message : Value) : Type 0 where

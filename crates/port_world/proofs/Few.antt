@@ -13,7 +13,7 @@ use Rattle.node_model.specs.declared.acts.Act.TheVariants as act
 use Rattle.world_model.specs.declared.lines.Line.{Line}
 use Rattle.world_model.specs.declared.lines.Line.TheVariants as line
 use Rattle.world_model.specs.World.{happens, opening}
-use Rattle.reliable_ports.specs.Ends.{Body, number_of, Sending, offered, is_full, with_offer, held_at, next_of, with_message}
+use Rattle.reliable_ports.specs.Ends.{Body, number_of, Sending, offered_count, is_full, with_offer, held_at, next_of, with_message}
 use Rattle.reliable_ports.proofs.Scripts.{prefix_length}
 use Rattle.reliable_ports.proofs.Steps.{message, Sends, held_message}
 use Rattle.port_node.specs.Known.{LineKnown, ComesKnown}
@@ -138,7 +138,7 @@ same_message : (seq : ℕ) (os : List Body) → body_numbered seq os ≡ message
 same_message zero os = refl
 same_message (suc i) os = refl
 
-sent_length : (os : List Body) (s : Sending) → Sends os s → offered s ≡ length os
+sent_length : (os : List Body) (s : Sending) → Sends os s → offered_count s ≡ length os
 sent_length os s h = omega (arith, ap length h.held, length-drop s.acked os, h.within)
 
 pub event_few : (e : Said) (s : PortState) → Keep s → length s.offers ≤ 50000 → EventFew (happening e) s

@@ -3,7 +3,7 @@ use Rattle.std.specs.Prelude.{◌≡◌, ℕ, ◌<◌, ◌^◌, List, Some, leng
 use Rattle.network_plan.specs.declared.event.WorldEvent.{WorldEvent}
 use Rattle.world_model.specs.declared.lines.Line.{Line}
 use Rattle.world_model.specs.World.{happens}
-use Rattle.reliable_ports.specs.Ends.{Body, offered, held_at}
+use Rattle.reliable_ports.specs.Ends.{Body, offered_count, held_at}
 use Rattle.port_run.specs.Ports.{PortState, PortEvent, Offer, Transmit, Wire, makes, first_pays, message_event, hears}
 
 -- fewer than 2^62 bodies are delivered after this change
@@ -20,6 +20,6 @@ WireFew e s = HearsFew (happens s.world e).lines (makes e s)
 
 -- and for an event
 abbrev pub EventFew : PortEvent → PortState → Type 0
-EventFew (Offer b) s = offered s.sender < 2 ^ 62
+EventFew (Offer b) s = offered_count s.sender < 2 ^ 62
 EventFew (Transmit seq) s = (b : Body) → held_at seq s.sender ≡ Some b → WireFew (message_event seq b) (first_pays s)
 EventFew (Wire e) s = WireFew e s

@@ -2,7 +2,7 @@
 use Rattle.std.specs.Prelude.{ℕ, ◌+◌, ◌-◌, List, [], ◌∷◌, ◌++◌, length, codes}
 use Rattle.std.specs.Fmt.{decimal}
 use Rattle.hex.specs.Hex.{encode_lower}
-use Rattle.reliable_ports.specs.Ends.{Body, offered}
+use Rattle.reliable_ports.specs.Ends.{Body, offered_count}
 use Rattle.port_files.specs.declared.file.PortFile.{PortFile}
 use Rattle.port_run.specs.Ports.{PortState, PortEvent, happens_at, port_run}
 use Rattle.port_world.specs.Told.{event_told}
@@ -44,7 +44,7 @@ ends_lines offered bodies acked a b =
 
 -- so of a state, whose purses were these at first
 abbrev pub ends_text : ℕ → ℕ → PortState → List ℕ
-ends_text b c s = ends_lines (offered s.sender) s.receiver.delivered s.sender.acked (b - s.first) (c - s.second)
+ends_text b c s = ends_lines (offered_count s.sender) s.receiver.delivered s.sender.acked (b - s.first) (c - s.second)
 
 -- the whole output of a file
 unfoldable pub port_output : PortFile → List ℕ

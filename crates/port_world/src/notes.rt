@@ -108,7 +108,7 @@ pub struct HostNote<'a> {
 }
 
 /// The note that an act is, if it is one.
-fn noted(act: &Act) -> Option<&Note>
+fn note_of_act(act: &Act) -> Option<&Note>
     ensures { option_copied result ≡ lines.act_note act.now }
 {
     match act {
@@ -130,7 +130,7 @@ pub fn note_in(line: &Line) -> Option<HostNote<'_>>
     ensures { option_map as_noted result ≡ lines.note_in line.now }
 {
     match line {
-        Line::At(host, act) => note_of(*host, noted(act)),
+        Line::At(host, act) => note_of(*host, note_of_act(act)),
         _ => None,
     }
 }

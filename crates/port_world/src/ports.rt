@@ -3,7 +3,7 @@ ghost use Rattle.link_window.specs.declared.window.Version.TheVariants.{Two};
 ghost use Rattle.network_plan.specs.declared.event.WorldEvent.TheVariants as happens;
 ghost use Rattle.world_model.specs.World.{opening, opening_services};
 ghost use Rattle.world_model.specs.Sound.{event_fits};
-ghost use Rattle.reliable_ports.specs.Ends.{IsShort, offered, held_at};
+ghost use Rattle.reliable_ports.specs.Ends.{IsShort, offered_count, held_at};
 ghost use Rattle.port_run.specs.Ports as spec;
 ghost use Rattle.port_run.specs.Ports.{PortState};
 ghost use Rattle.port_files.specs.PortRules.{KeepsEvent};
@@ -266,7 +266,7 @@ impl<S: Services> Ports<S> {
         body: &Bytes,
         text: &mut Bytes,
     ) -> Result<(), NoMemory>
-        requires few { offered self.old.sender < 2 ^ 62 }
+        requires few { offered_count self.old.sender < 2 ^ 62 }
         requires short { IsShort body.now }
         ensures goes { (s : PortState) → PortStands S.stands self.old s
             → OnOk result (Goes S.stands self.new (spec.offers_one body.now s)

@@ -16,7 +16,7 @@ use Rattle.plan_base.specs.declared.tree.Chunk.{Chunk, Chunk-F}
 use Rattle.plan_base.specs.declared.name.Name.{Name}
 use Rattle.plan_base.specs.Sizes.{weight_level, chunk_weight_level, chunk_weight}
 use Rattle.printed_forms.specs.Literals.{int_text, host_text, dev_text, string_text, blob_text}
-use Rattle.printed_forms.specs.Pieces.{listed, commas, scalar_text}
+use Rattle.printed_forms.specs.Pieces.{listed_pieces, commas, scalar_text}
 
 -- a type: base types by their words, `t list` and `(t * t)`
 abbrev pub type_text_level : {X : Type 0} → (X → List ℕ) → Ty-F X → List ℕ
@@ -30,7 +30,7 @@ type_text_level print Ty-F.Host = codes "host"
 type_text_level print Ty-F.Dev = codes "dev"
 type_text_level print Ty-F.Chunk = codes "chunk"
 type_text_level print (Ty-F.List t) = print t ++ codes " list"
-type_text_level print (Ty-F.Tuple ts) = codes "(" ++ listed (codes " * ") [] print ts ++ codes ")"
+type_text_level print (Ty-F.Tuple ts) = codes "(" ++ listed_pieces (codes " * ") [] print ts ++ codes ")"
 
 unfoldable pub type_text : Ty → List ℕ
 type_text = fold-Ty (List ℕ) (type_text_level (λ s. s))
@@ -119,7 +119,7 @@ expr_text_level print clause (Expr-F.Not a) = codes "(not " ++ print a ++ codes 
 expr_text_level print clause (Expr-F.Binary o a b) = codes "(" ++ print a ++ codes " " ++ op_text o ++ codes " " ++ print b ++ codes ")"
 expr_text_level print clause (Expr-F.Part i a) = codes "(#" ++ decimal i ++ codes " " ++ print a ++ codes ")"
 expr_text_level print clause (Expr-F.Raise x t) = raise_text x t
-expr_text_level print clause (Expr-F.Try a cs) = codes "try " ++ print a ++ codes " handle " ++ listed (codes " | ") [] clause cs ++ codes " end"
+expr_text_level print clause (Expr-F.Try a cs) = codes "try " ++ print a ++ codes " handle " ++ listed_pieces (codes " | ") [] clause cs ++ codes " end"
 expr_text_level print clause (Expr-F.Foldl f a l) = codes "foldl(" ++ f ++ codes ", " ++ print a ++ codes ", " ++ print l ++ codes ")"
 expr_text_level print clause (Expr-F.Foldr f a l) = codes "foldr(" ++ f ++ codes ", " ++ print a ++ codes ", " ++ print l ++ codes ")"
 expr_text_level print clause (Expr-F.ChunkOf f es) = codes "|" ++ f ++ codes "|(" ++ commas print es ++ codes ")"

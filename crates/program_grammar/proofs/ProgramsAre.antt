@@ -16,7 +16,7 @@ use Rattle.grammar_laws.proofs.ExprsAre.{expr_is}
 use Rattle.plan_parser.specs.declared.signature.Head.{Head}
 use Rattle.plan_parser.specs.declared.program.Gathered.{Gathered}
 use Rattle.plan_parser.specs.Signatures.{service_at, head_at}
-use Rattle.plan_parser.specs.Programs.{nothing, one_more, with_service, with_exception, judged_function, function_of, with_body, with_function, with_declaration, declarations, draft_of, finished, program_of}
+use Rattle.plan_parser.specs.Programs.{nothing, one_more, with_service, with_exception, judged_function, function_of, with_body, with_function, with_declaration, declarations, draft_of, finished_draft, program_of}
 use Rattle.program_grammar.specs.Grammar as gram
 use Rattle.program_grammar.specs.Grammar.{ServiceAt, ExceptionAt, FunctionAt, DeclarationsAt, ProgramAt}
 use Rattle.program_grammar.proofs.Starts.{Ends, service_ends, exception_ends, function_ends, end_ends}
@@ -92,7 +92,7 @@ stops (suc fuel) all f e = rw e refl
 
 finish : (tokens : List Token) (end : ℕ) (all : Gathered) → declarations (length tokens) nothing (record { tokens = tokens; end = end }) ≡ Ok all → nat_lt 0 (length all.funs) ≡ true
     → program_of tokens end ≡ Ok (draft_of all)
-unfolding program_of finished
+unfolding program_of finished_draft
 finish tokens end all whole some = rw (whole, some) refl
 
 -- a program of the grammar is read

@@ -19,7 +19,7 @@ use Rattle.grammar_laws.proofs.ExprsRead.{exprs_read}
 use Rattle.plan_parser.specs.declared.signature.Head.{Head}
 use Rattle.plan_parser.specs.declared.program.Gathered.{Gathered}
 use Rattle.plan_parser.specs.Signatures.{service_at, head_at}
-use Rattle.plan_parser.specs.Programs.{nothing, one_more, with_service, with_exception, judged_function, function_of, with_body, with_function, with_declaration, declarations, draft_of, finished, program_of}
+use Rattle.plan_parser.specs.Programs.{nothing, one_more, with_service, with_exception, judged_function, function_of, with_body, with_function, with_declaration, declarations, draft_of, finished_draft, program_of}
 use Rattle.program_grammar.specs.Grammar as gram
 use Rattle.program_grammar.specs.Grammar.{ServiceAt, HeadAt, FunctionAt, DeclarationsAt, ProgramAt}
 use Rattle.grammar_laws.proofs.Follows.{Shorter, skip, onward}
@@ -130,8 +130,8 @@ declarations_read (suc fuel) start all f d enough = go (λ x g o less. declarati
         (λ x g o. on x g o.declared (let less = o.fewer.less in omega (arith, less, enough)))
     go on false e = record { last = f; declared = d; done = none_left f.tokens (ltb-false _ _ e) }
 
-finished_read : (tokens : List Token) (end : ℕ) (all : Gathered) → Whole (record { tokens = tokens; end = end }) all → Given (ProgramAt tokens end) (finished end all)
-unfolding finished Given
+finished_read : (tokens : List Token) (end : ℕ) (all : Gathered) → Whole (record { tokens = tokens; end = end }) all → Given (ProgramAt tokens end) (finished_draft end all)
+unfolding finished_draft Given
 finished_read tokens end all w = go (Expected (wanted.Key keys.Fun) end) (nat_lt 0 (length all.funs)) refl
   where
     go : (d : ParseFault) (b : Bool) → nat_lt 0 (length all.funs) ≡ b → Given (ProgramAt tokens end) (if b then Ok (draft_of all) else Err d)

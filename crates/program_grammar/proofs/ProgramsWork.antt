@@ -17,12 +17,12 @@ use Rattle.plan_grammar.specs.Exprs.{expr_to}
 use Rattle.grammar_laws.specs.Agenda.{GrammarItem, Counted, a_name, whole, declarations as item_declarations, declaration, body, judgement, size_of, body_size, judge, another, a_service, a_function, step}
 use Rattle.grammar_laws.proofs.Ends.{nowhere, to_end, None_left, as_refused, refused_as}
 use Rattle.grammar_laws.proofs.ReadSteps.{Reads}
-use Rattle.grammar_laws.proofs.Works.{Works, Follows, goes_on, stops, begin, after, after_read, given, both, both_then, name_works, refuses_first}
+use Rattle.grammar_laws.proofs.Works.{Works, Follows, goes_on, stops, begin, after, after_read, given_works, both, both_then, name_works, refuses_first}
 use Rattle.grammar_laws.proofs.ExprsWork.{exprs_work}
 use Rattle.plan_parser.specs.declared.signature.Head.{Head}
 use Rattle.plan_parser.specs.declared.program.Gathered.{Gathered}
 use Rattle.plan_parser.specs.Signatures.{service_at, head_at}
-use Rattle.plan_parser.specs.Programs.{nothing, one_more, with_service, with_exception, judged_function, function_of, with_body, with_function, with_declaration, declarations, draft_of, finished, program_of}
+use Rattle.plan_parser.specs.Programs.{nothing, one_more, with_service, with_exception, judged_function, function_of, with_body, with_function, with_declaration, declarations, draft_of, finished_draft, program_of}
 use Rattle.program_grammar.specs.Grammar as gram
 use Rattle.program_grammar.specs.Grammar.{DeclarationsAt}
 use Rattle.program_grammar.specs.Agenda.{FirstProgramRefusal}
@@ -36,12 +36,12 @@ declared_count end all = record { svcs = length all.svcs; exns = length all.exns
 abbrev On : ℕ → List GrammarItem → Gathered → List GrammarItem
 On end rest all = item_declarations (declared_count end all) ∷ rest
 
-added : {A : Type 0} (xs ys : List A) → length (xs ++ ys) ≡ length xs + length ys
-added [] ys = omega arith
-added (x ∷ xs) ys = let e = added xs ys in omega (arith, e)
+lengths_are_added : {A : Type 0} (xs ys : List A) → length (xs ++ ys) ≡ length xs + length ys
+lengths_are_added [] ys = omega arith
+lengths_are_added (x ∷ xs) ys = let e = lengths_are_added xs ys in omega (arith, e)
 
 one_added : {A : Type 0} (xs : List A) (x : A) → length (xs ++ x ∷ []) ≡ length xs + 1
-one_added xs x = added xs (x ∷ [])
+one_added xs x = lengths_are_added xs (x ∷ [])
 
 another_follows : {B : Type 0} (count : ℕ) (limit : Limit) (items : List GrammarItem) (f : Front) (next : B → List GrammarItem) (h : Unit {0} × Front → Result (B × Front) ParseFault)
     → Works items (behind f) next (h (tt, f)) → Follows (another count limit items f) next (one_more count limit f >>= h)
@@ -76,7 +76,7 @@ module _ (end : ℕ) (rest : List GrammarItem) (all : Gathered) (f : Front) wher
       (service_works (record { svcs = length all.svcs + 1; exns = length all.exns; funs = length all.funs; exprs = length all.node_at; end = end }) rest (behind f))
       (λ s g. let more : Gathered = record all { svcs = all.svcs ++ s ∷ []; svc_at = all.svc_at ++ place f ∷ [] } in
       subst (λ n. Works (item_declarations (record { svcs = n; exns = length all.exns; funs = length all.funs; exprs = length all.node_at; end = end }) ∷ rest) g (On end rest) (Ok (more, g)))
-      (one_added all.svcs s) (given (On end rest) more g)))
+      (one_added all.svcs s) (given_works (On end rest) more g)))
 
   exception_follows : Follows (another (length all.exns) limits.Exceptions (a_name ∷ item_declarations (record { svcs = length all.svcs; exns = length all.exns + 1; funs = length all.funs; exprs = length all.node_at; end = end }) ∷ rest) f)
       (On end rest) (with_exception all f)
@@ -86,18 +86,18 @@ module _ (end : ℕ) (rest : List GrammarItem) (all : Gathered) (f : Front) wher
       (name_works (item_declarations (record { svcs = length all.svcs; exns = length all.exns + 1; funs = length all.funs; exprs = length all.node_at; end = end }) ∷ rest) (behind f) (On end rest) _
       (λ name. let more : Gathered = record all { exns = all.exns ++ name ∷ []; exn_at = all.exn_at ++ place f ∷ [] } in
       subst (λ n. Works (item_declarations (record { svcs = length all.svcs; exns = n; funs = length all.funs; exprs = length all.node_at; end = end }) ∷ rest) (behind (behind f)) (On end rest) (Ok (more, behind (behind f))))
-      (one_added all.exns name) (given (On end rest) more (behind (behind f)))))
+      (one_added all.exns name) (given_works (On end rest) more (behind (behind f)))))
 
   body_follows : (at : ℕ) (x : Head) (n : Node) (h : Front) → Follows (judge at (n.depth, length (all_at n)) (declared_count end all) rest h) (On end rest) (with_body at all x n h)
   unfolding with_body
   body_follows at x n h =
       subst (λ nodes. Follows (if nat_lt 64 n.depth then Err (TooDeep at) else if nat_lt 4096 nodes then Err (TooMany limits.Nodes at)
       else Ok (item_declarations (record { svcs = length all.svcs; exns = length all.exns; funs = length all.funs + 1; exprs = nodes; end = end }) ∷ rest, h)) (On end rest) (with_body at all x n h))
-      (added all.node_at (all_at n))
+      (lengths_are_added all.node_at (all_at n))
       (judgement_follows at n.depth (length (all.node_at ++ all_at n)) _ h (On end rest) _
       (let more : Gathered = record all { funs = all.funs ++ function_of x n ∷ []; fun_at = all.fun_at ++ at ∷ []; node_at = all.node_at ++ all_at n } in
       subst (λ k. Works (item_declarations (record { svcs = length all.svcs; exns = length all.exns; funs = k; exprs = length (all.node_at ++ all_at n); end = end }) ∷ rest) h (On end rest) (Ok (more, h)))
-      (one_added all.funs (function_of x n)) (given (On end rest) more h)))
+      (one_added all.funs (function_of x n)) (given_works (On end rest) more h)))
 
   body_works : (at : ℕ) (x : Head) (g h : Front) (n : Node) → expr_to 161 levels.Whole g ≡ Ok (n, h)
       → Works (judgement at g (declared_count end all) ∷ rest) h (On end rest) (with_body at all x n h)
@@ -132,14 +132,14 @@ module _ (end : ℕ) (rest : List GrammarItem) (all : Gathered) (f : Front) wher
 at_end : {A : Type 0} (x : A) (f : Front) → Works [] f None_left (Ok (x, nowhere))
 at_end x f = record { works = λ e. (λ h. absurd (no_fault step h), λ h. absurd (no_fault step h)) }
 
-grouped : (r : Result (Gathered × Front) ParseFault) (h : Gathered × Front → Result Gathered ParseFault) (k : Gathered → Result Draft ParseFault)
+binds_are_grouped : (r : Result (Gathered × Front) ParseFault) (h : Gathered × Front → Result Gathered ParseFault) (k : Gathered → Result Draft ParseFault)
     → (r >>= λ x. to_end (h x >>= k)) ≡ to_end ((r >>= h) >>= k)
-grouped (Ok x) h k = refl
-grouped (Err e) h k = refl
+binds_are_grouped (Ok x) h k = refl
+binds_are_grouped (Err e) h k = refl
 
 finish_follows : (end : ℕ) (all : Gathered) (f : Front)
-    → Follows (if nat_lt 0 (length all.funs) then Ok ([], f) else Err (Expected (wanted.Key keys.Fun) end)) None_left (to_end (finished end all))
-unfolding finished
+    → Follows (if nat_lt 0 (length all.funs) then Ok ([], f) else Err (Expected (wanted.Key keys.Fun) end)) None_left (to_end (finished_draft end all))
+unfolding finished_draft
 finish_follows end all f = go (nat_lt 0 (length all.funs))
   where
     go : (b : Bool) → Follows (if b then Ok ([], f) else Err (Expected (wanted.Key keys.Fun) end)) None_left (to_end (if b then Ok (draft_of all) else Err (Expected (wanted.Key keys.Fun) end)))
@@ -148,7 +148,7 @@ finish_follows end all f = go (nat_lt 0 (length all.funs))
 
 module _ (start : Front) (end : ℕ) where
   abbrev Rest : ℕ → Gathered → Front → Type 0
-  Rest fuel all f = Works (item_declarations (declared_count end all) ∷ []) f None_left (to_end (declarations fuel all f >>= finished end))
+  Rest fuel all f = Works (item_declarations (declared_count end all) ∷ []) f None_left (to_end (declarations fuel all f >>= finished_draft end))
 
   declarations_work : (fuel : ℕ) (all : Gathered) (f : Front) → DeclarationsAt start all f → length f.tokens ≤ fuel → Rest fuel all f
   unfolding declarations step
@@ -157,7 +157,7 @@ module _ (start : Front) (end : ℕ) where
     where
       go : (b : Bool) → nat_lt 0 (length f.tokens) ≡ b
           → Follows (if b then Ok (declaration (declared_count end all) ∷ [], f) else if nat_lt 0 (length all.funs) then Ok ([], f) else Err (Expected (wanted.Key keys.Fun) end)) None_left
-          (to_end (finished end all))
+          (to_end (finished_draft end all))
       go true e = let some = ltb-true _ _ e in absurd (omega (arith, some, enough))
       go false e = finish_follows end all f
   declarations_work (suc fuel) all f d enough =
@@ -165,9 +165,9 @@ module _ (start : Front) (end : ℕ) where
     where
       go : ((x : Gathered) (g : Front) → DeclarationsAt start x g → length g.tokens ≤ fuel → Rest fuel x g) → (b : Bool)
           → Follows (if b then Ok (declaration (declared_count end all) ∷ [], f) else if nat_lt 0 (length all.funs) then Ok ([], f) else Err (Expected (wanted.Key keys.Fun) end)) None_left
-          (to_end ((if b then (with_declaration all f >>= λ x. declarations fuel x.0 x.1) else Ok all) >>= finished end))
+          (to_end ((if b then (with_declaration all f >>= λ x. declarations fuel x.0 x.1) else Ok all) >>= finished_draft end))
       go on true =
-          goes_on (subst (λ r. Works (declaration (declared_count end all) ∷ []) f None_left r) (grouped (with_declaration all f) (λ x. declarations fuel x.0 x.1) (finished end))
+          goes_on (subst (λ r. Works (declaration (declared_count end all) ∷ []) f None_left r) (binds_are_grouped (with_declaration all f) (λ x. declarations fuel x.0 x.1) (finished_draft end))
           (after_read (Onward start f) (declaration (declared_count end all) ∷ []) f (On end []) None_left (with_declaration all f) _
           (declaration_works end [] all f) (declaration_adds start all f d)
           (λ x g o. on x g o.declared (let less = o.fewer.less in omega (arith, less, enough)))))

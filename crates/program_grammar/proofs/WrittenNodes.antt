@@ -21,9 +21,9 @@ use Rattle.plan_grammar.specs.declared.node.Node.{Node}
 use Rattle.plan_grammar.specs.declared.node.Bound.{Bound}
 use Rattle.plan_grammar.specs.declared.node.Caught.{Caught}
 use Rattle.plan_grammar.specs.Joints.{joined_tree}
-use Rattle.plan_grammar.specs.Nodes.{all_at, below_of, both, trees, below_all, leaf, over, over_one, over_two, over_three, over_four, over_list, joined_nodes, bracketed, bound, clauses_of, bodies, try_of}
+use Rattle.plan_grammar.specs.Nodes.{all_at, below_of, both, trees, below_all, leaf, over, over_one, over_two, over_three, over_four, over_list, joined_nodes, bracketed_nodes, bound, clauses_of, bodies, try_of}
 use Rattle.plan_grammar.specs.Exprs.{literal, literal_key}
-use Rattle.program_grammar.specs.Written.{listed, Holds}
+use Rattle.program_grammar.specs.Written.{bracketed_expressions, Holds}
 
 -- ---- sizes of a tree by its level
 
@@ -196,9 +196,9 @@ joint_is joints.Or a b = over_by (x.Or a b) (Expr-F.Or a b) _ _ (x.outs-Or a b) 
 pub joined_holds : (j : Joint) (n m : Node) (a b : Expr) → Holds n a → Holds m b → Holds (joined_nodes j n m) (joined_tree j a b)
 joined_holds j n m a b h k = two_hold (joined_tree j) n.at n m a b h k (joint_is j a b)
 
-pub bracketed_holds : (ns : List Node) (ts : List Expr) (at : ℕ) → AllHold ns ts → Holds (bracketed ns (leaf (x.Nil None) at)) (listed ts)
+pub bracketed_holds : (ns : List Node) (ts : List Expr) (at : ℕ) → AllHold ns ts → Holds (bracketed_nodes ns (leaf (x.Nil None) at)) (bracketed_expressions ts)
 bracketed_holds [] [] at h = leaf_holds (x.Nil None) at (nil_is None).0 (nil_is None).1
-bracketed_holds (n ∷ ns) (t ∷ ts) at h = joined_holds (joints.Operator ops.Cons) n (bracketed ns (leaf (x.Nil None) at)) t (listed ts) h.0 (bracketed_holds ns ts at h.1)
+bracketed_holds (n ∷ ns) (t ∷ ts) at h = joined_holds (joints.Operator ops.Cons) n (bracketed_nodes ns (leaf (x.Nil None) at)) t (bracketed_expressions ts) h.0 (bracketed_holds ns ts at h.1)
 bracketed_holds [] (t ∷ ts) at h = absurd h
 bracketed_holds (n ∷ ns) [] at h = absurd h
 

@@ -126,14 +126,14 @@ mutual
 -- ---- bodies
 
 module _ (f h : Front) (n : Node) (e : ExprAt 160 f n h) (ends : EndsExpr h) where
-  judged : body_size f ≡ (n.depth, length (all_at n))
-  judged = size_is f h n (expr_is e ends)
+  body_is_sized : body_size f ≡ (n.depth, length (all_at n))
+  body_is_sized = size_is f h n (expr_is e ends)
 
   pub deep_is : (64 < (body_size f).0) ↔ (64 < expr_depth (expr_tree e))
   deep_is =
-      let a = ap (λ z. z.0) judged in
+      let a = ap (λ z. z.0) body_is_sized in
       let d = (expr_holds e).depth in
       (λ k. omega (arith, a, d, k), λ k. omega (arith, a, d, k))
 
   pub many_is : expr_depth (expr_tree e) ≤ 64 → (body_size f).1 ≡ expr_nodes (expr_tree e)
-  many_is k = ap (λ z. z.1) judged ∙ ((expr_holds e).whole k).1
+  many_is k = ap (λ z. z.1) body_is_sized ∙ ((expr_holds e).whole k).1

@@ -15,9 +15,9 @@ use Rattle.grammar_laws.specs.Grammar.{ExprAt, LowAt, OrAt, AndAt, NotAt, CmpAt,
 use Rattle.grammar_laws.specs.Grammar as g
 
 -- items in brackets, before the empty list
-abbrev pub listed : List Expr → Expr
-listed [] = x.Nil None
-listed (e ∷ es) = x.Binary ops.Cons e (listed es)
+abbrev pub bracketed_expressions : List Expr → Expr
+bracketed_expressions [] = x.Nil None
+bracketed_expressions (e ∷ es) = x.Binary ops.Cons e (bracketed_expressions es)
 
 abbrev mutual
   pub expr_tree : {r : ℕ} {f h : Front} {n : Node} → ExprAt r f n h → Expr
@@ -69,7 +69,7 @@ abbrev mutual
   atom_tree (g.tuple _ a es _ _) = x.Tuple (expr_tree a ∷ more_trees es)
   atom_tree (g.no_items _ _) = x.Nil None
   atom_tree (g.no_items_of {t = t} _ _ _ _) = x.Nil (Some t)
-  atom_tree (g.items _ es _ _) = listed (some_trees es)
+  atom_tree (g.items _ es _ _) = bracketed_expressions (some_trees es)
   atom_tree (g.chunk {name = name} _ _ _ es) = x.ChunkOf name (args_trees es)
   atom_tree (g.let_in _ v vs _ a _) = val_tree v (vals_tree vs (expr_tree a))
   atom_tree (g.try_handle _ a _ cs _ _) = x.Try (expr_tree a) (clauses_trees cs)

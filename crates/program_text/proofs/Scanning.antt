@@ -5,7 +5,7 @@ use Rattle.plan_lexer.specs.declared.fault.LexFault.{LexFault}
 use Rattle.plan_lexer.specs.declared.token.Token.{Token}
 use Rattle.plan_lexer.specs.Scanning.{rest_at, Toks, Refuses, ends, skips, takes, here, past}
 use Rattle.plan_lexer.proofs.LawLemmas.{move_goes}
-use Rattle.program_text.specs.Scanned.{scanned, tokens_of}
+use Rattle.program_text.specs.Scanned.{scanned_tokens, tokens_of}
 
 less-left : (at next n : ℕ) (b : ℕ) (text : List ℕ) → at < next → length (b ∷ text) ≤ suc n → length (rest_at at (b ∷ text) next) ≤ n
 less-left at next n b text goes le = rw (length-drop (next - at) (b ∷ text)) (omega (arith, goes, le))
@@ -14,7 +14,7 @@ not-some : {text : List ℕ} → text ≡ [] → 0 < length text → ⊥
 not-some e h = let n = ap length e in omega (arith, h, n)
 
 -- the tokens of a text
-pub scans : (at : ℕ) (text : List ℕ) (ts : List Token) → Toks at text ts → (n : ℕ) → length text ≤ n → scanned n at text ≡ Ok ts
+pub scans : (at : ℕ) (text : List ℕ) (ts : List Token) → Toks at text ts → (n : ℕ) → length text ≤ n → scanned_tokens n at text ≡ Ok ts
 scans _ _ _ (ends at) zero le = refl
 scans _ _ _ (ends at) (suc n) le = refl
 scans _ _ _ (skips at [] ts next some m h) n le = absurd (not-some refl some)
@@ -27,7 +27,7 @@ scans _ _ _ (takes at (b ∷ text) ts k next some m h) (suc n) le =
     rw m (rw (scans next (rest_at at (b ∷ text) next) ts h n (less-left at next n b text (move_goes at (b ∷ text) (Some k) next m) le)) refl)
 
 -- its first refusal
-pub stops : (e : LexFault) (at : ℕ) (text : List ℕ) → Refuses e at text → (n : ℕ) → length text ≤ n → scanned n at text ≡ Err e
+pub stops : (e : LexFault) (at : ℕ) (text : List ℕ) → Refuses e at text → (n : ℕ) → length text ≤ n → scanned_tokens n at text ≡ Err e
 stops e _ _ (here at [] some m) n le = absurd (not-some refl some)
 stops e _ _ (here at (b ∷ text) some m) zero le = absurd (omega (arith, le))
 stops e _ _ (here at (b ∷ text) some m) (suc n) le = rw m refl

@@ -41,8 +41,8 @@ level v h w k (Expr-F.OnRemote a b c x) = let p = h a in let q = h b in let r = 
 level v h w k (Expr-F.OnNeighbor a b c d) = let p = h a in let q = h b in let r = h c in let s = h d in omega (arith, p, q, r, s)
 level v h w k _ = omega arith
 
-rolled : (x : Expr-F Expr Clause) → expr_nodes_level expr_nodes clause_nodes x ≤ expr_size_level expr_size clause_size x → expr_nodes (roll-Expr x) ≤ expr_size (roll-Expr x)
-rolled x h =
+size_by_level : (x : Expr-F Expr Clause) → expr_nodes_level expr_nodes clause_nodes x ≤ expr_size_level expr_size clause_size x → expr_nodes (roll-Expr x) ≤ expr_size (roll-Expr x)
+size_by_level x h =
     rw (expr_nodes_out (roll-Expr x), expr_size_out (roll-Expr x), out-roll-Expr x) h
 
 caught : (c : Clause) → expr_nodes c.body ≤ expr_size c.body → clause_nodes c ≤ clause_size c
@@ -51,7 +51,7 @@ caught c h = omega (arith, h)
 -- an expression has no more expressions than its code has bytes
 pub nodes_under : (e : Expr) → expr_nodes e ≤ expr_size e
 nodes_under = ind-Expr (λ e. expr_nodes e ≤ expr_size e) (λ c. clause_nodes c ≤ clause_size c)
-    (λ x y e. rolled x (let P : Expr-F Expr Clause → Type 0 = λ z. expr_nodes_level expr_nodes clause_nodes z ≤ expr_size_level expr_size clause_size z in subst P e (level (λ q. q.0) (λ q. q.1) (λ q. q.0) (λ q. q.1) y)))
+    (λ x y e. size_by_level x (let P : Expr-F Expr Clause → Type 0 = λ z. expr_nodes_level expr_nodes clause_nodes z ≤ expr_size_level expr_size clause_size z in subst P e (level (λ q. q.0) (λ q. q.1) (λ q. q.0) (λ q. q.1) y)))
     (λ x y e. caught (roll-Clause x) (let P : Clause-F Expr Clause → Type 0 = λ z. expr_nodes z.body ≤ expr_size z.body in subst P (sym (out-roll-Clause x)) (subst P e y.body.1)))
 
 fun_under : (f : Fun) → expr_nodes f.body ≤ fun_size f

@@ -9,7 +9,7 @@ use Rattle.plan_base.specs.declared.tree.Program.{Program}
 use Rattle.plan_base.specs.declared.tree.Value.{Value}
 use Rattle.typing_rules.specs.Typing.{Typed}
 use Rattle.typing_rules.specs.TypingFills.{Fills}
-use Rattle.typing_rules.specs.TypingOrder.{annotated}
+use Rattle.typing_rules.specs.TypingOrder.{annotated_program}
 use Rattle.plan_lexer.specs.Scanning.{Toks}
 use Rattle.plan_lexer.specs.declared.fault.LexFault.{LexFault}
 use Rattle.plan_lexer.specs.declared.token.Token.{Token}
@@ -38,12 +38,12 @@ byte_of decls nodes (ill.TypeTooDeep p) = byte_at decls nodes p
 byte_of decls nodes _ = 0
 
 -- a draft that is typed, or the first refusal with its byte
-abbrev pub placed : List ℕ → List ℕ → Result Program TypeFault → Result Program TextFault
-placed decls nodes (Ok code) = Ok code
-placed decls nodes (Err f) = Err (fault.Ty f (byte_of decls nodes f))
+abbrev pub placed_result : List ℕ → List ℕ → Result Program TypeFault → Result Program TextFault
+placed_result decls nodes (Ok code) = Ok code
+placed_result decls nodes (Err f) = Err (fault.Ty f (byte_of decls nodes f))
 
 abbrev pub typed_of : Result Draft ParseFault → Result Program TextFault
-typed_of (Ok d) = placed d.decl_at d.node_at (annotated d.program)
+typed_of (Ok d) = placed_result d.decl_at d.node_at (annotated_program d.program)
 typed_of (Err f) = Err (fault.Parse f)
 
 abbrev pub parsed_of : ℕ → Result (List Token) LexFault → Result Program TextFault

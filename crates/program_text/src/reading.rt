@@ -1,13 +1,13 @@
 ghost use Rattle.std.specs.Prelude.{◌≡◌, ◌≤◌, ◌⊎◌, List, length, Ok, Err, IfOk, IfErr, MatchResult};
 ghost use Rattle.typing_rules.specs.Typing.{Typed};
 ghost use Rattle.typing_rules.specs.TypingFills.{Fills};
-ghost use Rattle.typing_rules.specs.TypingOrder.{annotated};
+ghost use Rattle.typing_rules.specs.TypingOrder.{annotated_program};
 ghost use Rattle.plan_base.specs.WellFormed.{IsWellFormedProgram};
 ghost use Rattle.plan_base.specs.declared.tree.Program.{Program};
 ghost use Rattle.plan_lexer.specs.Scanning.{Toks};
 ghost use Rattle.plan_lexer.specs.TokenRules.{AreTokens};
 ghost use Rattle.plan_parser.specs.Programs as parsed;
-ghost use Rattle.program_text.specs.Texts.{byte_at, byte_of, placed, typed_of, program_of, IsProgram, Says, args_of_text};
+ghost use Rattle.program_text.specs.Texts.{byte_at, byte_of, placed_result, typed_of, program_of, IsProgram, Says, args_of_text};
 
 use crate::fault::TextFault;
 use plan_base::{Draft, NoMemory, Place, Places, Values};
@@ -47,12 +47,12 @@ fn byte_of(decls: &Places, nodes: &Places, fault: &TypeFault) -> u32
 }
 
 /// A well-formed draft with the types that are missing in it, or the first refusal with its byte.
-fn typed(alloc: Global, draft: Draft) -> Result<Checked, TextFault>
+fn fill_types(alloc: Global, draft: Draft) -> Result<Checked, TextFault>
     requires { IsWellFormedProgram draft.program }
-    ensures found { IfOk result (λ k. placed draft.decl_at draft.node_at (annotated draft.program) ≡ Ok k) }
+    ensures found { IfOk result (λ k. placed_result draft.decl_at draft.node_at (annotated_program draft.program) ≡ Ok k) }
     ensures fills { IfOk result (λ k. Fills draft.program k × Typed k) }
     ensures all { (p : Program) → Fills draft.program p → Typed p → MatchResult result (λ k. k ≡ p) (λ e. e ≡ TextFault.NoMemory) }
-    ensures fault { IfErr result (λ e. (e ≡ TextFault.NoMemory) ⊎ (placed draft.decl_at draft.node_at (annotated draft.program) ≡ Err e)) }
+    ensures fault { IfErr result (λ e. (e ≡ TextFault.NoMemory) ⊎ (placed_result draft.decl_at draft.node_at (annotated_program draft.program) ≡ Err e)) }
 {
     let Draft {
         program,
@@ -84,7 +84,7 @@ fn program_in(alloc: Global, tokens: &Tokens, len: u32) -> Result<Checked, TextF
     ensures fault { IfErr result (λ e. (e ≡ TextFault.NoMemory) ⊎ (typed_of (parsed.program_of tokens.now len) ≡ Err e)) }
 {
     match parse(alloc, tokens, len) {
-        Ok(draft) => typed(alloc, draft),
+        Ok(draft) => fill_types(alloc, draft),
         Err(ParseFault::NoMemory) => Err(TextFault::NoMemory),
         Err(fault) => Err(TextFault::Parse(fault)),
     }

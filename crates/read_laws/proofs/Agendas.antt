@@ -50,10 +50,10 @@ module _ {I S E : Type 0} (step : I → List I → S → Result (List I × S) E)
   one_step i more f next (Err e) h = (here i more f h, λ d k. faults_here k h)
 
   -- what was read is made into something
-  pub made : {A B : Type 0} (make : A → B) (now : List I) (f : S) (next : List I) (r : Result (A × S) E)
+  pub making_goes_on : {A B : Type 0} (make : A → B) (now : List I) (f : S) (next : List I) (r : Result (A × S) E)
       → Goes now f (λ _. next) r → Goes now f (λ _. next) (r >>= λ x. Ok (make x.0, x.1))
-  made make now f next (Ok x) k = k
-  made make now f next (Err e) k = k
+  making_goes_on make now f next (Ok x) k = k
+  making_goes_on make now f next (Err e) k = k
 
   -- n readings for n items
   pub many_goes : {A : Type 0} (item : I) (one : S → Result (A × S) E) → ((more : List I) (f : S) → Goes (item ∷ more) f (λ _. more) (one f))
@@ -62,7 +62,7 @@ module _ {I S E : Type 0} (step : I → List I → S → Result (List I × S) E)
   many_goes {A} item one k zero more f = idle {A = List A} more f []
   many_goes item one k (suc n) more f =
       chain (item ∷ times n item more) f (λ _. times n item more) (λ _. more) (one f) _ (k (times n item more) f)
-      (λ x _. made (λ xs. x.0 ∷ xs) (times n item more) x.1 more (many one n x.1) (many_goes item one k n more x.1))
+      (λ x _. making_goes_on (λ xs. x.0 ∷ xs) (times n item more) x.1 more (many one n x.1) (many_goes item one k n more x.1))
 
   -- a reading that succeeds leaves no fault before what is left
   pub goes_ok : {A : Type 0} (now : List I) (f : S) (next : A → List I) (r : Result (A × S) E) (x : A × S) → r ≡ Ok x → Goes now f next r

@@ -4,7 +4,7 @@ use Rattle.std.specs.Prelude.{nat_lt, nat_le, nat_eq}
 use Rattle.std.proofs.lemmas.Bool.Decides.{nat_tests}
 use Rattle.reliable_ports.specs.declared.sender.Ack.TheVariants as ack
 use Rattle.reliable_ports.specs.declared.receiver.Came.TheVariants as came
-use Rattle.reliable_ports.specs.Ends.{Body, Sending, Receiving, next_of, ready, kept, with_next, with_early, with_message, came_as, with_fewer, with_ack, ack_of, is_awaited, is_news, offered}
+use Rattle.reliable_ports.specs.Ends.{Body, Sending, Receiving, next_of, ready, kept_bodies, with_next, with_early, with_message, came_as, with_fewer, with_ack, ack_of, is_awaited, is_news, offered_count}
 
 -- ---- the receiver
 
@@ -77,15 +77,15 @@ pub still_low : (next : ℕ) (s : Sending) → next < 1 → s ≡ with_ack next 
 unfolding with_ack
 still_low next s h = let a : is_awaited next s ≡ false = grind (arith, nat_tests) in rw a refl
 
-pub stranger_high : (next n : ℕ) (s : Sending) → n ≡ offered s → n + 1 < next → ack.Stranger ≡ ack_of next s
+pub stranger_high : (next n : ℕ) (s : Sending) → n ≡ offered_count s → n + 1 < next → ack.Stranger ≡ ack_of next s
 unfolding ack_of
 stranger_high next n s e h = let a : is_awaited next s ≡ false = grind (arith, nat_tests) in rw a refl
 
-pub still_high : (next n : ℕ) (s : Sending) → n ≡ offered s → n + 1 < next → s ≡ with_ack next s
+pub still_high : (next n : ℕ) (s : Sending) → n ≡ offered_count s → n + 1 < next → s ≡ with_ack next s
 unfolding with_ack
 still_high next n s e h = let a : is_awaited next s ≡ false = grind (arith, nat_tests) in rw a refl
 
-pub ack_old : (next n : ℕ) (s : Sending) → n ≡ offered s → 1 ≤ next → next ≤ n + 1 → next ≤ s.acked + 1 → ack.Old ≡ ack_of next s
+pub ack_old : (next n : ℕ) (s : Sending) → n ≡ offered_count s → 1 ≤ next → next ≤ n + 1 → next ≤ s.acked + 1 → ack.Old ≡ ack_of next s
 unfolding ack_of
 ack_old next n s e l h g =
     let a : is_awaited next s ≡ true = grind (arith, nat_tests) in
@@ -100,14 +100,14 @@ still_old next s g = by (is_awaited next s) (grind (arith, nat_tests))
     by true b = rw b refl
     by false b = refl
 
-pub ack_moved : (next n : ℕ) (s : Sending) → n ≡ offered s → 1 ≤ next → next ≤ n + 1 → s.acked + 1 < next → ack.Moved ≡ ack_of next s
+pub ack_moved : (next n : ℕ) (s : Sending) → n ≡ offered_count s → 1 ≤ next → next ≤ n + 1 → s.acked + 1 < next → ack.Moved ≡ ack_of next s
 unfolding ack_of
 ack_moved next n s e l h g =
     let a : is_awaited next s ≡ true = grind (arith, nat_tests) in
     let b : is_news next s ≡ true = grind (arith, nat_tests) in
     rw (a, b) refl
 
-pub acked_on : (next n k : ℕ) (s : Sending) → n ≡ offered s → 1 ≤ next → next ≤ n + 1 → s.acked + 1 < next → k ≡ next - 1 - s.acked → with_fewer k s ≡ with_ack next s
+pub acked_on : (next n k : ℕ) (s : Sending) → n ≡ offered_count s → 1 ≤ next → next ≤ n + 1 → s.acked + 1 < next → k ≡ next - 1 - s.acked → with_fewer k s ≡ with_ack next s
 unfolding with_ack
 acked_on next n k s e l h g m =
     let a : is_awaited next s ≡ true = grind (arith, nat_tests) in

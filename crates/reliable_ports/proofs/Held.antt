@@ -6,7 +6,7 @@ use Rattle.std.specs.Option.{option_copied}
 use Rattle.std.proofs.Common.{Bor}
 use Rattle.std.proofs.lemmas.Bool.Decides.{nat_tests}
 use Rattle.plan_meaning.specs.Meaning.{is_paid}
-use Rattle.reliable_ports.specs.Ends.{Body, Sending, offered, held_at, is_held, IsShort, AllShort}
+use Rattle.reliable_ports.specs.Ends.{Body, Sending, offered_count, held_at, is_held, IsShort, AllShort}
 
 pub old_none : (seq : ℕ) (s : Sending) → seq ≤ s.acked → None ≡ held_at seq s
 unfolding held_at
@@ -36,24 +36,24 @@ pub none_not_held : (seq : ℕ) (s : Sending) → held_at seq s ≡ None → is_
 unfolding held_at is_held
 none_not_held seq s e = by (nat_lt s.acked seq) refl e
   where
-    by : (t : Bool) → nat_lt s.acked seq ≡ t → (if t then slice_get s.held (seq - suc s.acked) else None) ≡ None → (t && nat_le seq (offered s)) ≡ false
+    by : (t : Bool) → nat_lt s.acked seq ≡ t → (if t then slice_get s.held (seq - suc s.acked) else None) ≡ None → (t && nat_le seq (offered_count s)) ≡ false
     by false k e = refl
     by true k e =
         let l : s.acked < seq = grind (arith, nat_tests) in
         let m = none_past s.held (seq - suc s.acked) e in
-        let n : offered s < seq = omega (arith, l, m) in
+        let n : offered_count s < seq = omega (arith, l, m) in
         grind (arith, nat_tests)
 
 pub some_held : (seq : ℕ) (s : Sending) (b : Body) → held_at seq s ≡ Some b → is_held seq s ≡ true
 unfolding held_at is_held
 some_held seq s b e = by (nat_lt s.acked seq) refl e
   where
-    by : (t : Bool) → nat_lt s.acked seq ≡ t → (if t then slice_get s.held (seq - suc s.acked) else None) ≡ Some b → (t && nat_le seq (offered s)) ≡ true
+    by : (t : Bool) → nat_lt s.acked seq ≡ t → (if t then slice_get s.held (seq - suc s.acked) else None) ≡ Some b → (t && nat_le seq (offered_count s)) ≡ true
     by false k e = absurd cc
     by true k e =
         let l : s.acked < seq = grind (arith, nat_tests) in
         let m = some_within s.held (seq - suc s.acked) b e in
-        let n : seq ≤ offered s = omega (arith, l, m) in
+        let n : seq ≤ offered_count s = omega (arith, l, m) in
         grind (arith, nat_tests)
 
 pub held_short : (seq : ℕ) (s : Sending) (b : Body) → AllShort s.held → held_at seq s ≡ Some b → IsShort b
@@ -64,7 +64,7 @@ held_short seq s b h e = by (nat_lt s.acked seq) e
     by false e = absurd cc
     by true e = short_at s.held (seq - suc s.acked) b h e
 
-pub held_few : (seq : ℕ) (s : Sending) → is_held seq s ≡ true → seq ≤ offered s
+pub held_few : (seq : ℕ) (s : Sending) → is_held seq s ≡ true → seq ≤ offered_count s
 unfolding is_held
 held_few seq s e = grind (arith, nat_tests)
 

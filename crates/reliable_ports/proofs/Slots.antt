@@ -2,7 +2,7 @@
 use Rattle.std.proofs.Common.{◌≡◌, ℕ, zero, suc, ◌+◌, ◌≤◌, ◌<◌, List, [], ◌∷◌, ◌++◌, length, drop, Option, Some, None, refl, sym, ap, subst, ◌∙◌, arith}
 use Rattle.std.specs.Prelude.{slice_get}
 use Rattle.std.proofs.lemmas.List.{append_assoc}
-use Rattle.reliable_ports.specs.Ends.{Body, ready, behind, kept}
+use Rattle.reliable_ports.specs.Ends.{Body, ready, behind, kept_bodies}
 
 -- each body that came early is the one offered at its place
 abbrev pub Agrees : List (Option Body) → List Body → Type 0
@@ -33,7 +33,7 @@ none_some e = absurd cc
 some_same : {A : Type 0} {x y : A} → Some x ≡ Some y → x ≡ y
 some_same e = cc
 
-pub kept_agrees : (i : ℕ) (b : Body) (xs : List (Option Body)) (os : List Body) → Agrees xs os → slice_get os i ≡ Some b → Agrees (kept i b xs) os
+pub kept_agrees : (i : ℕ) (b : Body) (xs : List (Option Body)) (os : List Body) → Agrees xs os → slice_get os i ≡ Some b → Agrees (kept_bodies i b xs) os
 kept_agrees i b xs [] a h = none_some h
 kept_agrees zero b [] (o ∷ os) a h = (sym (some_same h), tt)
 kept_agrees zero b (None ∷ xs) (o ∷ os) a h = (sym (some_same h), a)

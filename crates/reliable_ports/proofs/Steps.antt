@@ -4,7 +4,7 @@ use Rattle.std.specs.Prelude.{slice_get, nat_lt, nat_le, nat_eq}
 use Rattle.std.proofs.lemmas.List.{append_assoc, drop-append-le, drop-drop}
 use Rattle.std.proofs.lemmas.Bool.Decides.{nat_tests}
 use Rattle.std.proofs.lemmas.Option.{slice_get_within}
-use Rattle.reliable_ports.specs.Ends.{Body, Sending, Receiving, next_of, ready, kept, with_next, with_early, with_message, with_offer, with_ack, held_at, is_awaited, is_news, offered}
+use Rattle.reliable_ports.specs.Ends.{Body, Sending, Receiving, next_of, ready, kept_bodies, with_next, with_early, with_message, with_offer, with_ack, held_at, is_awaited, is_news, offered_count}
 use Rattle.reliable_ports.proofs.Slots.{Agrees, ready_goes, kept_agrees, more_agrees_behind, get_behind, get_dropped, get_more}
 
 -- the message with a number, from 1
@@ -48,7 +48,7 @@ receives_next b os r h m = at h.rest h.prefix h.agrees (sym (get_behind r.delive
         }
 
 -- one that comes early
-receives_early : (i : ℕ) (b : Body) (os : List Body) (r : Receiving) → (h : Receives os r) → message (suc (i + next_of r)) os ≡ Some b → Receives os (record { delivered = r.delivered; early = kept i b r.early })
+receives_early : (i : ℕ) (b : Body) (os : List Body) (r : Receiving) → (h : Receives os r) → message (suc (i + next_of r)) os ≡ Some b → Receives os (record { delivered = r.delivered; early = kept_bodies i b r.early })
 receives_early i b os r h m = record {
   rest = h.rest;
   prefix = h.prefix;

@@ -37,8 +37,8 @@ abbrev pub no_offers : Sending
 no_offers = record { acked = 0; held = [] }
 
 -- how many were offered
-abbrev pub offered : Sending → ℕ
-offered s = s.acked + length s.held
+abbrev pub offered_count : Sending → ℕ
+offered_count s = s.acked + length s.held
 
 -- whether 64 messages are offered and not acknowledged
 abbrev pub is_full : Sending → Bool
@@ -54,7 +54,7 @@ held_at seq s = if nat_lt s.acked seq then slice_get s.held (seq - suc s.acked) 
 
 -- whether a message with this number is offered and not acknowledged
 unfoldable pub is_held : ℕ → Sending → Bool
-is_held seq s = nat_lt s.acked seq && nat_le seq (offered s)
+is_held seq s = nat_lt s.acked seq && nat_le seq (offered_count s)
 
 -- a message is held, and a purse holds less than the 4 that its sending takes
 abbrev pub IsUnpaid : ℕ → ℕ → Sending → Type 0
@@ -66,7 +66,7 @@ Carries seq dest s chunk = (body : Body) → held_at seq s ≡ Some body → chu
 
 -- whether a receiver can await this number: that of an offered message or the one after the last
 abbrev pub is_awaited : ℕ → Sending → Bool
-is_awaited next s = nat_le 1 next && nat_le next (suc (offered s))
+is_awaited next s = nat_le 1 next && nat_le next (suc (offered_count s))
 
 -- whether awaiting it acknowledges more than is acknowledged already
 abbrev pub is_news : ℕ → Sending → Bool
@@ -118,16 +118,16 @@ behind (None ∷ xs) = xs
 behind (Some b ∷ xs) = behind xs
 
 -- a body at its place, unless one is there
-abbrev pub kept : ℕ → Body → List (Option Body) → List (Option Body)
-kept zero b [] = Some b ∷ []
-kept zero b (None ∷ xs) = Some b ∷ xs
-kept zero b (Some c ∷ xs) = Some c ∷ xs
-kept (suc i) b [] = None ∷ kept i b []
-kept (suc i) b (x ∷ xs) = x ∷ kept i b xs
+abbrev pub kept_bodies : ℕ → Body → List (Option Body) → List (Option Body)
+kept_bodies zero b [] = Some b ∷ []
+kept_bodies zero b (None ∷ xs) = Some b ∷ xs
+kept_bodies zero b (Some c ∷ xs) = Some c ∷ xs
+kept_bodies (suc i) b [] = None ∷ kept_bodies i b []
+kept_bodies (suc i) b (x ∷ xs) = x ∷ kept_bodies i b xs
 
 -- so many places, the last ones without a body
-abbrev pub padded : ℕ → List (Option Body) → List (Option Body)
-padded n xs = xs ++ replicate (n - length xs) None
+abbrev pub padded_bodies : ℕ → List (Option Body) → List (Option Body)
+padded_bodies n xs = xs ++ replicate (n - length xs) None
 
 -- the receiver after the awaited message came
 abbrev pub with_next : Body → Receiving → Receiving
@@ -135,7 +135,7 @@ with_next body r = record { delivered = r.delivered ++ body ∷ ready r.early; e
 
 -- the receiver after a message came early, at this place
 abbrev pub with_early : ℕ → Body → Receiving → Receiving
-with_early i body r = record { delivered = r.delivered; early = kept i body r.early }
+with_early i body r = record { delivered = r.delivered; early = kept_bodies i body r.early }
 
 -- what hearing a message answers: it has this number
 unfoldable pub came_as : ℕ → Receiving → Came

@@ -60,7 +60,7 @@ pub fn move_ready(early: &mut VecDeque<Option<Bytes>>, delivered: &mut Vec<Bytes
 fn pad(early: &mut VecDeque<Option<Bytes>>, place: usize)
     requires within { length early.old.items ≤ place }
     requires room { place ≤ deque_capacity early.old }
-    ensures items { early.new.items ≡ spec.padded place early.old.items }
+    ensures items { early.new.items ≡ spec.padded_bodies place early.old.items }
     ensures len { length early.new.items ≡ place }
     ensures room { deque_capacity early.new ≡ deque_capacity early.old }
 {
@@ -73,7 +73,7 @@ fn pad(early: &mut VecDeque<Option<Bytes>>, place: usize)
 #[tactic(auto, using(crate::proofs::Counts::kept_here, crate::proofs::Counts::kept_there, crate::proofs::Counts::kept_past))]
 pub fn keep(early: &mut VecDeque<Option<Bytes>>, place: usize, body: Bytes) -> Result<(), NoMemory>
     requires { place < 63 }
-    ensures ok { OnOk result (early.new.items ≡ spec.kept place body early.old.items) }
+    ensures ok { OnOk result (early.new.items ≡ spec.kept_bodies place body early.old.items) }
     ensures err { OnErr result (early.new.items ≡ early.old.items) }
 {
     let places = early.len();

@@ -90,7 +90,7 @@ impl Receiver {
     }
 
     /// The number of the awaited message.
-    fn awaited(&self) -> u64
+    fn awaited_number(&self) -> u64
         requires { length self.now.delivered < 2 ^ 62 }
         ensures { result ≡ spec.next_of self.now }
     {
@@ -124,7 +124,7 @@ impl Receiver {
         ensures err { OnErr result (self.new ≡ self.old) }
     {
         let seq = number_of(seq);
-        let next = self.awaited();
+        let next = self.awaited_number();
         if seq < next {
             return Ok(Came::Old);
         }
@@ -169,7 +169,7 @@ impl Receiver {
         let Some(bound) = purse.bound_for(PRICE) else {
             return Err(AckFault::NoBound);
         };
-        let chunk = ack_chunk(alloc, &self.code, dest, self.awaited())?;
+        let chunk = ack_chunk(alloc, &self.code, dest, self.awaited_number())?;
         purse.take(bound);
         Ok(chunk)
     }

@@ -100,7 +100,7 @@ impl Sender {
 
     /// How many messages were offered. Takes no memory.
     pub fn offered(&self) -> u64
-        ensures value { result ≡ spec.offered self.now }
+        ensures value { result ≡ spec.offered_count self.now }
         ensures few { result ≤ 2 ^ 62 }
     {
         self.acked + self.held.len() as u64
@@ -119,9 +119,9 @@ impl Sender {
     /// bytes.
     #[tactic(auto, using(crate::proofs::Held::short_push))]
     pub fn offer(&mut self, alloc: Global, body: &Bytes) -> Result<u64, OfferFault>
-        requires few { spec.offered self.old < 2 ^ 62 }
+        requires few { spec.offered_count self.old < 2 ^ 62 }
         requires short { spec.IsShort body.now }
-        ensures number { IfOk result (λ n. n ≡ spec.offered self.old + 1) }
+        ensures number { IfOk result (λ n. n ≡ spec.offered_count self.old + 1) }
         ensures ok { OnOk result (self.new ≡ spec.with_offer body.now self.old) }
         ensures full { (result ≡ Err OfferFault.Full) ↔ (spec.is_full self.old ≡ true) }
         ensures err { OnErr result (self.new ≡ self.old) }

@@ -80,12 +80,12 @@ through r (z ∷ zs) rows y n h =
     through r zs (put_row z rows) y (not_later row_key (row_key r) z zs n) (found_put_other row_key (row_key r) z rows o ∙ h) ∙ ap (put_all zs) (exchange r z rows o y h)
 
 -- the later of two puts of one key stays
-replaced : (r x : Row) (rows : List Row) → ◌≡◌ {A = Key} (row_key x) (row_key r) → put_row r (put_row x rows) ≡ put_row r rows
-replaced r x [] e = put_here row_key r x [] e
-replaced r x (z ∷ zs) e = elim (same_or_not (row_key z) (row_key x)) [
+later_put_stays : (r x : Row) (rows : List Row) → ◌≡◌ {A = Key} (row_key x) (row_key r) → put_row r (put_row x rows) ≡ put_row r rows
+later_put_stays r x [] e = put_here row_key r x [] e
+later_put_stays r x (z ∷ zs) e = elim (same_or_not (row_key z) (row_key x)) [
   | inl f ↦ ap (put_row r) (put_here row_key x z zs f) ∙ put_here row_key r x zs e ∙ sym (put_here row_key r z zs (f ∙ e))
   | inr n ↦ let m = λ (f : ◌≡◌ {A = Key} (row_key z) (row_key r)). n (f ∙ sym e) in
-      ap (put_row r) (put_on row_key x z zs n) ∙ put_on row_key r z (put_row x zs) m ∙ ap (λ ys. z ∷ ys) (replaced r x zs e) ∙ sym (put_on row_key r z zs m)
+      ap (put_row r) (put_on row_key x z zs n) ∙ put_on row_key r z (put_row x zs) m ∙ ap (λ ys. z ∷ ys) (later_put_stays r x zs e) ∙ sym (put_on row_key r z zs m)
 ]
 
 found_same : (r x : Row) (rows : List Row) → ◌≡◌ {A = Key} (row_key x) (row_key r) → found_row (row_key r) (put_row x rows) ≡ Some x
@@ -94,7 +94,7 @@ found_same r x rows e = subst (λ (j : Key). found_row j (put_row x rows) ≡ So
 pub put_among : (r : Row) (puts rows : List Row) → IsUnique row_key puts → put_all (put_row r puts) rows ≡ put_row r (put_all puts rows)
 put_among r [] rows u = refl
 put_among r (x ∷ xs) rows u = elim (same_or_not (row_key x) (row_key r)) [
-  | inl e ↦ ap (λ ys. put_all ys rows) (put_here row_key r x xs e) ∙ ap (put_all xs) (sym (replaced r x rows e))
+  | inl e ↦ ap (λ ys. put_all ys rows) (put_here row_key r x xs e) ∙ ap (put_all xs) (sym (later_put_stays r x rows e))
       ∙ sym (through r xs (put_row x rows) x (subst (λ (j : Key). found_row j xs ≡ None) e u.0) (found_same r x rows e))
   | inr n ↦ ap (λ ys. put_all ys rows) (put_on row_key r x xs n) ∙ put_among r xs (put_row x rows) u.1
 ]

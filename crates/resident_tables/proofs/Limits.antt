@@ -52,5 +52,5 @@ committed_by : (base : List Row) (o : Layer) (k : Option Counts) (b : ℕ) → b
 committed_by base o (Some c) b e f h = (ap (λ (x : Counts). x.bytes) h.0, subst (λ (x : Counts). within x ≡ true) h.0 h.1)
 committed_by base o None b e f h = let n = none_over base o h in (e ∙ ap rows_size (sym n), subst (λ xs. fits xs ≡ true) (sym n) f)
 
-pub committed : (base : List Row) (o : Layer) (b : ℕ) → b ≡ rows_size base → fits base ≡ true → IsOver base o → (bytes_after o.counted b ≡ rows_size (over base o)) × (fits (over base o) ≡ true)
-committed base o b e f h = committed_by base o o.counted b e f h
+pub committed_rows_fit : (base : List Row) (o : Layer) (b : ℕ) → b ≡ rows_size base → fits base ≡ true → IsOver base o → (bytes_after o.counted b ≡ rows_size (over base o)) × (fits (over base o) ≡ true)
+committed_rows_fit base o b e f h = committed_by base o o.counted b e f h

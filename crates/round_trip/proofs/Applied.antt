@@ -19,8 +19,8 @@ use Rattle.plan_grammar.specs.Ahead.{Front, Reader, behind, place, is_symbol_kin
 use Rattle.plan_grammar.specs.Begins.{kind_begins, begins_expr}
 use Rattle.plan_grammar.specs.Types.{more}
 use Rattle.plan_grammar.specs.Nodes.{all_at, leaf, below_all, trees, over_list}
-use Rattle.plan_grammar.specs.Exprs.{need_open, items_from, arguments_behind, arguments, call, name_operand, chunk, tuple, grouped, parens_behind, parens, symbol_form, operand_kind, operand, expr_to}
-use Rattle.printed_forms.specs.Pieces.{listed}
+use Rattle.plan_grammar.specs.Exprs.{need_open, items_from, arguments_behind, arguments, call, name_operand, chunk, tuple, grouped_expression, parens_behind, parens, symbol_form, operand_kind, operand, expr_to}
+use Rattle.printed_forms.specs.Pieces.{listed_pieces}
 use Rattle.text_laws.specs.PrintedTokens.{Kinds, mark, expr_kinds}
 use Rattle.round_trip.specs.Reads.{kinds_at, Took, first_kind, IsNode, Ends}
 use Rattle.round_trip.proofs.Steps.{took, then_took, took_by, weaker, behind_is, symbol_is, take_symbol, take_name, take_open, AllRead, AllGood, more_took}
@@ -102,7 +102,7 @@ all_read : (room most : ℕ) → 2 * most + 8 ≤ room → (limit : Limit) (es :
 all_read room most n limit [] h = tt
 all_read room most n limit (e ∷ es) h = (λ f rest k w. level_took e h.0 room (omega (arith, n, h.1)) levels.Whole f rest k w, all_read room most n limit es h.2)
 
-tail_ends : (es : List Expr) (rest : Kinds) → FollowsExpr (listed (mark symbols.Comma) (mark symbols.Comma) expr_kinds es ++ (kind.Symbol symbols.ParenClose ∷ rest))
+tail_ends : (es : List Expr) (rest : Kinds) → FollowsExpr (listed_pieces (mark symbols.Comma) (mark symbols.Comma) expr_kinds es ++ (kind.Symbol symbols.ParenClose ∷ rest))
 tail_ends [] rest = ends_paren
 tail_ends (e ∷ es) rest = ends_comma
 
@@ -114,7 +114,7 @@ to_nodes one begins limit (e ∷ es) [] g = absurd g
 
 -- further expressions behind commas, up to the closing bracket
 further_took : (room most : ℕ) → 2 * most + 8 ≤ room → (limit : Limit) (left : ℕ) (es : List Expr) → AreRead most es → length es ≤ left → (e : Expr) (n : Node) → IsNode e n → (f : Front) (rest : Kinds)
-    → kinds_at f ≡ listed (mark symbols.Comma) (mark symbols.Comma) expr_kinds es ++ (kind.Symbol symbols.ParenClose ∷ rest)
+    → kinds_at f ≡ listed_pieces (mark symbols.Comma) (mark symbols.Comma) expr_kinds es ++ (kind.Symbol symbols.ParenClose ∷ rest)
     → Took (more (expr_to room levels.Whole) begins_expr symbols.Comma limit wanted.AnExpr left (n ∷ []) f) (kind.Symbol symbols.ParenClose ∷ rest) (AllNodes (e ∷ es))
 further_took room most m limit left es r l e n g f rest h =
     weaker (more_took (expr_to room levels.Whole) begins_expr symbols.Comma limit wanted.AnExpr expr_kinds IsNode FollowsExpr (kind.Symbol symbols.ParenClose ∷ rest) refl (λ s. ends_comma) ends_paren
@@ -123,12 +123,12 @@ further_took room most m limit left es r l e n g f rest h =
 
 -- arguments behind their bracket
 args_took : (room most : ℕ) → 2 * most + 8 ≤ room → (es : List Expr) → AreRead most es → length es ≤ 8 → (f : Front) (rest : Kinds)
-    → kinds_at f ≡ listed (mark symbols.Comma) [] expr_kinds es ++ (kind.Symbol symbols.ParenClose ∷ rest) → Took (arguments_behind (expr_to room) room f) rest (AllNodes es)
+    → kinds_at f ≡ listed_pieces (mark symbols.Comma) [] expr_kinds es ++ (kind.Symbol symbols.ParenClose ∷ rest) → Took (arguments_behind (expr_to room) room f) rest (AllNodes es)
 unfolding arguments_behind items_from
 args_took room most m [] r l f rest h = rw (symbol_is symbols.ParenClose f (kind.Symbol symbols.ParenClose ∷ rest) h) (took [] (behind f) (behind_is f (kind.Symbol symbols.ParenClose) rest h) tt)
 args_took room most m (e ∷ es) r l f rest h =
-    let tail : Kinds = listed (mark symbols.Comma) (mark symbols.Comma) expr_kinds es ++ (kind.Symbol symbols.ParenClose ∷ rest) in
-    let hs : kinds_at f ≡ expr_kinds e ++ tail = h ∙ append_assoc (expr_kinds e) (listed (mark symbols.Comma) (mark symbols.Comma) expr_kinds es) (kind.Symbol symbols.ParenClose ∷ rest) in
+    let tail : Kinds = listed_pieces (mark symbols.Comma) (mark symbols.Comma) expr_kinds es ++ (kind.Symbol symbols.ParenClose ∷ rest) in
+    let hs : kinds_at f ≡ expr_kinds e ++ tail = h ∙ append_assoc (expr_kinds e) (listed_pieces (mark symbols.Comma) (mark symbols.Comma) expr_kinds es) (kind.Symbol symbols.ParenClose ∷ rest) in
     let s : Starts (expr_kinds e) = r.0.starts in
     let c = symbol_is symbols.ParenClose f (s.first ∷ (s.others ++ tail)) (hs ∙ ap (λ l. l ++ tail) s.are) ∙ no_close s.first s.begin in
     rw c (rw (begins_starts f (expr_kinds e) tail hs s)
@@ -142,10 +142,10 @@ take_need_open room f ks n h = rw (symbol_is symbols.ParenOpen f (kind.Symbol sy
     (then_took _ (take_open room f (kind.Symbol symbols.ParenOpen ∷ ks) n h) (λ u g h1 q1. took tt (behind f) (behind_is f (kind.Symbol symbols.ParenOpen) ks h) tt))
 
 bracketed_args : (room most : ℕ) → 2 * most + 8 ≤ room → (es : List Expr) → AreRead most es → length es ≤ 8 → (f : Front) (rest : Kinds)
-    → kinds_at f ≡ kind.Symbol symbols.ParenOpen ∷ (listed (mark symbols.Comma) [] expr_kinds es ++ (kind.Symbol symbols.ParenClose ∷ rest)) → Took (arguments (expr_to room) room f) rest (AllNodes es)
+    → kinds_at f ≡ kind.Symbol symbols.ParenOpen ∷ (listed_pieces (mark symbols.Comma) [] expr_kinds es ++ (kind.Symbol symbols.ParenClose ∷ rest)) → Took (arguments (expr_to room) room f) rest (AllNodes es)
 unfolding arguments
 bracketed_args room most m es r l f rest h =
-    then_took _ (take_need_open room f (listed (mark symbols.Comma) [] expr_kinds es ++ (kind.Symbol symbols.ParenClose ∷ rest)) (omega (arith, m)) h) (λ u g h1 q1. args_took room most m es r l g rest h1)
+    then_took _ (take_need_open room f (listed_pieces (mark symbols.Comma) [] expr_kinds es ++ (kind.Symbol symbols.ParenClose ∷ rest)) (omega (arith, m)) h) (λ u g h1 q1. args_took room most m es r l g rest h1)
 
 -- a node over a list of others
 over_good : (e tree : Expr) (at : ℕ) (es : List Expr) (ns : List Node) → tree ≡ e → Measured e (1 + largest_by expr_depth es) (1 + sum_by expr_nodes es) → expr_depth e ≤ 64 → AllNodes es ns → IsNode e (over_list tree at ns)
@@ -153,21 +153,21 @@ over_good e tree at es ns t d most g = let z = depths_are es ns 0 g in let y = p
 
 named_call : (room most : ℕ) → 2 * most + 9 ≤ room → (name : Name) (es : List Expr) → AreRead most es → length es ≤ 8 → (f : Front) (rest : Kinds) (e : Expr) → x.Call name es ≡ e
     → Measured e (1 + largest_by expr_depth es) (1 + sum_by expr_nodes es) → expr_depth e ≤ 64
-    → kinds_at f ≡ kind.Word name ∷ kind.Symbol symbols.ParenOpen ∷ (listed (mark symbols.Comma) [] expr_kinds es ++ (kind.Symbol symbols.ParenClose ∷ rest)) → Took (name_operand (expr_to room) room f) rest (IsNode e)
+    → kinds_at f ≡ kind.Word name ∷ kind.Symbol symbols.ParenOpen ∷ (listed_pieces (mark symbols.Comma) [] expr_kinds es ++ (kind.Symbol symbols.ParenClose ∷ rest)) → Took (name_operand (expr_to room) room f) rest (IsNode e)
 unfolding name_operand call
 named_call room most m name es r l f rest e t d shallow h =
-    let args : Kinds = kind.Symbol symbols.ParenOpen ∷ (listed (mark symbols.Comma) [] expr_kinds es ++ (kind.Symbol symbols.ParenClose ∷ rest)) in
+    let args : Kinds = kind.Symbol symbols.ParenOpen ∷ (listed_pieces (mark symbols.Comma) [] expr_kinds es ++ (kind.Symbol symbols.ParenClose ∷ rest)) in
     then_took _ (take_name name f args h) (λ v g h1 q1. rw (symbol_is symbols.ParenOpen g args h1)
     (then_took _ (bracketed_args room most (omega (arith, m)) es r l g rest h1) (λ ns g2 h2 q2.
     took _ g2 h2 (over_good e (x.Call v (trees ns)) (place f) es ns (ap (λ z. x.Call z (trees ns)) q1 ∙ (ap (x.Call name) (trees_are es ns q2) ∙ t)) d shallow q2))))
 
 chunk_took : (room most : ℕ) → 2 * most + 9 ≤ room → (name : Name) (es : List Expr) → AreRead most es → length es ≤ 8 → (f : Front) (rest : Kinds) (e : Expr) → x.ChunkOf name es ≡ e
     → Measured e (1 + largest_by expr_depth es) (1 + sum_by expr_nodes es) → expr_depth e ≤ 64
-    → kinds_at f ≡ kind.Symbol symbols.Bar ∷ kind.Word name ∷ kind.Symbol symbols.Bar ∷ kind.Symbol symbols.ParenOpen ∷ (listed (mark symbols.Comma) [] expr_kinds es ++ (kind.Symbol symbols.ParenClose ∷ rest))
+    → kinds_at f ≡ kind.Symbol symbols.Bar ∷ kind.Word name ∷ kind.Symbol symbols.Bar ∷ kind.Symbol symbols.ParenOpen ∷ (listed_pieces (mark symbols.Comma) [] expr_kinds es ++ (kind.Symbol symbols.ParenClose ∷ rest))
     → Took (symbol_form (expr_to room) room symbols.Bar f) rest (IsNode e)
 unfolding symbol_form chunk
 chunk_took room most m name es r l f rest e t d shallow h =
-    let args : Kinds = kind.Symbol symbols.ParenOpen ∷ (listed (mark symbols.Comma) [] expr_kinds es ++ (kind.Symbol symbols.ParenClose ∷ rest)) in
+    let args : Kinds = kind.Symbol symbols.ParenOpen ∷ (listed_pieces (mark symbols.Comma) [] expr_kinds es ++ (kind.Symbol symbols.ParenClose ∷ rest)) in
     then_took _ (take_name name (behind f) (kind.Symbol symbols.Bar ∷ args) (behind_is f (kind.Symbol symbols.Bar) _ h)) (λ v g h1 q1.
     then_took _ (take_symbol symbols.Bar g args h1) (λ u g2 h2 q2.
     then_took _ (bracketed_args room most (omega (arith, m)) es r l g2 rest h2) (λ ns g3 h3 q3.
@@ -175,11 +175,11 @@ chunk_took room most m name es r l f rest e t d shallow h =
 
 tuple_took : (room most : ℕ) → 2 * most + 9 ≤ room → (a b : Expr) (es : List Expr) → AreRead most (a ∷ b ∷ es) → length es ≤ 6 → (f : Front) (rest : Kinds) (e : Expr) → x.Tuple (a ∷ b ∷ es) ≡ e
     → Measured e (1 + largest_by expr_depth (a ∷ b ∷ es)) (1 + sum_by expr_nodes (a ∷ b ∷ es)) → expr_depth e ≤ 64
-    → kinds_at f ≡ kind.Symbol symbols.ParenOpen ∷ (expr_kinds a ++ (listed (mark symbols.Comma) (mark symbols.Comma) expr_kinds (b ∷ es) ++ (kind.Symbol symbols.ParenClose ∷ rest)))
+    → kinds_at f ≡ kind.Symbol symbols.ParenOpen ∷ (expr_kinds a ++ (listed_pieces (mark symbols.Comma) (mark symbols.Comma) expr_kinds (b ∷ es) ++ (kind.Symbol symbols.ParenClose ∷ rest)))
     → Took (symbol_form (expr_to room) room symbols.ParenOpen f) rest (IsNode e)
-unfolding symbol_form parens parens_behind grouped tuple
+unfolding symbol_form parens parens_behind grouped_expression tuple
 tuple_took room most m a b es r l f rest e t d shallow h =
-    let tail : Kinds = listed (mark symbols.Comma) (mark symbols.Comma) expr_kinds (b ∷ es) ++ (kind.Symbol symbols.ParenClose ∷ rest) in
+    let tail : Kinds = listed_pieces (mark symbols.Comma) (mark symbols.Comma) expr_kinds (b ∷ es) ++ (kind.Symbol symbols.ParenClose ∷ rest) in
     let hs : kinds_at (behind f) ≡ expr_kinds a ++ tail = behind_is f (kind.Symbol symbols.ParenOpen) (expr_kinds a ++ tail) h in
     let s : Starts (expr_kinds a) = r.0.starts in
     let c = symbol_is symbols.ParenClose (behind f) (s.first ∷ (s.others ++ tail)) (hs ∙ ap (λ l. l ++ tail) s.are) ∙ no_close s.first s.begin in
@@ -193,41 +193,41 @@ tuple_took room most m a b es r l f rest e t d shallow h =
 
 -- a call
 pub call_read : (e : Expr) (name : Name) (es : List Expr) → x.Call name es ≡ e → Measured e (1 + largest_by expr_depth es) (1 + sum_by expr_nodes es) → expr_depth e ≤ 64 → AreRead (largest_by expr_depth es) es → length es ≤ 8
-    → expr_kinds e ≡ kind.Word name ∷ kind.Symbol symbols.ParenOpen ∷ (listed (mark symbols.Comma) [] expr_kinds es ++ (kind.Symbol symbols.ParenClose ∷ [])) → IsRead e
+    → expr_kinds e ≡ kind.Word name ∷ kind.Symbol symbols.ParenOpen ∷ (listed_pieces (mark symbols.Comma) [] expr_kinds es ++ (kind.Symbol symbols.ParenClose ∷ [])) → IsRead e
 call_read e name es t d most r l ks = record {
   starts = record { first = kind.Word name; others = _; are = ks; begin = refl };
   shallow = most;
-  operand = λ room n f rest h w. call_took room n f rest (h ∙ (ap (λ l. l ++ rest) ks ∙ behind_one _ (behind_one _ (nest (listed (mark symbols.Comma) [] expr_kinds es) _ rest refl))));
+  operand = λ room n f rest h w. call_took room n f rest (h ∙ (ap (λ l. l ++ rest) ks ∙ behind_one _ (behind_one _ (nest (listed_pieces (mark symbols.Comma) [] expr_kinds es) _ rest refl))));
 }
   where
     call_took : (room : ℕ) → 2 * expr_depth e + 7 ≤ room → (f : Front) (rest : Kinds)
-        → kinds_at f ≡ kind.Word name ∷ kind.Symbol symbols.ParenOpen ∷ (listed (mark symbols.Comma) [] expr_kinds es ++ (kind.Symbol symbols.ParenClose ∷ rest)) → Took (operand (expr_to room) room f) rest (IsNode e)
+        → kinds_at f ≡ kind.Word name ∷ kind.Symbol symbols.ParenOpen ∷ (listed_pieces (mark symbols.Comma) [] expr_kinds es ++ (kind.Symbol symbols.ParenClose ∷ rest)) → Took (operand (expr_to room) room f) rest (IsNode e)
     call_took room n f rest h = took_by (operand_is (expr_to room) room f _ h) (named_call room (largest_by expr_depth es) (omega (arith, n, d.depth)) name es r l f rest e t d most h)
 
 -- a chunk of the program
 pub chunk_read : (e : Expr) (name : Name) (es : List Expr) → x.ChunkOf name es ≡ e → Measured e (1 + largest_by expr_depth es) (1 + sum_by expr_nodes es) → expr_depth e ≤ 64 → AreRead (largest_by expr_depth es) es → length es ≤ 8
-    → expr_kinds e ≡ kind.Symbol symbols.Bar ∷ kind.Word name ∷ kind.Symbol symbols.Bar ∷ kind.Symbol symbols.ParenOpen ∷ (listed (mark symbols.Comma) [] expr_kinds es ++ (kind.Symbol symbols.ParenClose ∷ [])) → IsRead e
+    → expr_kinds e ≡ kind.Symbol symbols.Bar ∷ kind.Word name ∷ kind.Symbol symbols.Bar ∷ kind.Symbol symbols.ParenOpen ∷ (listed_pieces (mark symbols.Comma) [] expr_kinds es ++ (kind.Symbol symbols.ParenClose ∷ [])) → IsRead e
 chunk_read e name es t d most r l ks = record {
   starts = record { first = kind.Symbol symbols.Bar; others = _; are = ks; begin = refl };
   shallow = most;
-  operand = λ room n f rest h w. chunk_operand room n f rest (h ∙ (ap (λ l. l ++ rest) ks ∙ behind_one _ (behind_one _ (behind_one _ (behind_one _ (nest (listed (mark symbols.Comma) [] expr_kinds es) _ rest refl))))));
+  operand = λ room n f rest h w. chunk_operand room n f rest (h ∙ (ap (λ l. l ++ rest) ks ∙ behind_one _ (behind_one _ (behind_one _ (behind_one _ (nest (listed_pieces (mark symbols.Comma) [] expr_kinds es) _ rest refl))))));
 }
   where
     chunk_operand : (room : ℕ) → 2 * expr_depth e + 7 ≤ room → (f : Front) (rest : Kinds)
-        → kinds_at f ≡ kind.Symbol symbols.Bar ∷ kind.Word name ∷ kind.Symbol symbols.Bar ∷ kind.Symbol symbols.ParenOpen ∷ (listed (mark symbols.Comma) [] expr_kinds es ++ (kind.Symbol symbols.ParenClose ∷ rest))
+        → kinds_at f ≡ kind.Symbol symbols.Bar ∷ kind.Word name ∷ kind.Symbol symbols.Bar ∷ kind.Symbol symbols.ParenOpen ∷ (listed_pieces (mark symbols.Comma) [] expr_kinds es ++ (kind.Symbol symbols.ParenClose ∷ rest))
         → Took (operand (expr_to room) room f) rest (IsNode e)
     chunk_operand room n f rest h = took_by (operand_is (expr_to room) room f _ h) (chunk_took room (largest_by expr_depth es) (omega (arith, n, d.depth)) name es r l f rest e t d most h)
 
 -- a tuple
 pub tuple_read : (e a b : Expr) (es : List Expr) → x.Tuple (a ∷ b ∷ es) ≡ e → Measured e (1 + largest_by expr_depth (a ∷ b ∷ es)) (1 + sum_by expr_nodes (a ∷ b ∷ es)) → expr_depth e ≤ 64 → AreRead (largest_by expr_depth (a ∷ b ∷ es)) (a ∷ b ∷ es) → length es ≤ 6
-    → expr_kinds e ≡ kind.Symbol symbols.ParenOpen ∷ (expr_kinds a ++ (listed (mark symbols.Comma) (mark symbols.Comma) expr_kinds (b ∷ es) ++ (kind.Symbol symbols.ParenClose ∷ []))) → IsRead e
+    → expr_kinds e ≡ kind.Symbol symbols.ParenOpen ∷ (expr_kinds a ++ (listed_pieces (mark symbols.Comma) (mark symbols.Comma) expr_kinds (b ∷ es) ++ (kind.Symbol symbols.ParenClose ∷ []))) → IsRead e
 tuple_read e a b es t d most r l ks = record {
   starts = starts_by (expr_kinds e) _ ks (paren_starts _);
   shallow = most;
-  operand = λ room n f rest h w. tuple_operand room n f rest (h ∙ (ap (λ l. l ++ rest) ks ∙ behind_one _ (nest (expr_kinds a) _ rest (nest (listed (mark symbols.Comma) (mark symbols.Comma) expr_kinds (b ∷ es)) _ rest refl))));
+  operand = λ room n f rest h w. tuple_operand room n f rest (h ∙ (ap (λ l. l ++ rest) ks ∙ behind_one _ (nest (expr_kinds a) _ rest (nest (listed_pieces (mark symbols.Comma) (mark symbols.Comma) expr_kinds (b ∷ es)) _ rest refl))));
 }
   where
     tuple_operand : (room : ℕ) → 2 * expr_depth e + 7 ≤ room → (f : Front) (rest : Kinds)
-        → kinds_at f ≡ kind.Symbol symbols.ParenOpen ∷ (expr_kinds a ++ (listed (mark symbols.Comma) (mark symbols.Comma) expr_kinds (b ∷ es) ++ (kind.Symbol symbols.ParenClose ∷ rest)))
+        → kinds_at f ≡ kind.Symbol symbols.ParenOpen ∷ (expr_kinds a ++ (listed_pieces (mark symbols.Comma) (mark symbols.Comma) expr_kinds (b ∷ es) ++ (kind.Symbol symbols.ParenClose ∷ rest)))
         → Took (operand (expr_to room) room f) rest (IsNode e)
     tuple_operand room n f rest h = took_by (operand_is (expr_to room) room f _ h) (tuple_took room (largest_by expr_depth (a ∷ b ∷ es)) (omega (arith, n, d.depth)) a b es r l f rest e t d most h)

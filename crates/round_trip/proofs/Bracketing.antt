@@ -13,8 +13,8 @@ use Rattle.plan_grammar.specs.declared.joint.Joint.TheVariants as joints
 use Rattle.plan_grammar.specs.declared.node.Node.{Node}
 use Rattle.plan_grammar.specs.Ahead.{Front, Reader, behind, place, is_key}
 use Rattle.plan_grammar.specs.Begins.{kind_begins, begins_operand, begins_expr}
-use Rattle.plan_grammar.specs.Nodes.{below_of, both, consed}
-use Rattle.plan_grammar.specs.Exprs.{opens_at, operand, addition, before_list, listed, negation, negated, condition, low, before_next, whole, at_level, expr_to, picked}
+use Rattle.plan_grammar.specs.Nodes.{below_of, both, consed_nodes}
+use Rattle.plan_grammar.specs.Exprs.{opens_at, operand, addition, before_list, listed_operands, negation, negated_operand, condition, low, before_next, whole, at_level, expr_to, picked_part}
 use Rattle.text_laws.specs.PrintedTokens.{Kinds, expr_kinds}
 use Rattle.round_trip.specs.Reads.{kinds_at, Took, IsNode, Ends}
 use Rattle.round_trip.proofs.Steps.{took, then_took, took_by, weaker, next_is, behind_is, symbol_is, key_is, take_key, take_open}
@@ -125,8 +125,8 @@ sequence_read e a b t d most ra rb ks = record {
 -- ---- not
 
 negation_took : (e a : Expr) → x.Not a ≡ e → Measured e (1 + expr_depth a) (1 + expr_nodes a) → expr_depth e ≤ 64 → IsRead a → (room : ℕ) → 2 * expr_depth e + 6 ≤ room → (g : Front) (rest : Kinds)
-    → kinds_at g ≡ kind.Key keys.Not ∷ (expr_kinds a ++ (kind.Symbol symbols.ParenClose ∷ rest)) → Took (negated (expr_to room) room g) (kind.Symbol symbols.ParenClose ∷ rest) (IsNode e)
-unfolding negated negation
+    → kinds_at g ≡ kind.Key keys.Not ∷ (expr_kinds a ++ (kind.Symbol symbols.ParenClose ∷ rest)) → Took (negated_operand (expr_to room) room g) (kind.Symbol symbols.ParenClose ∷ rest) (IsNode e)
+unfolding negated_operand negation
 negation_took e a t d most ra room n g rest h =
     let close : Kinds = kind.Symbol symbols.ParenClose ∷ rest in
     rw (key_is keys.Not g (kind.Key keys.Not ∷ (expr_kinds a ++ close)) h)
@@ -155,8 +155,8 @@ not_read e a t d most ra ks = record {
 
 cons_took : (e a b : Expr) → AreJoined e (joints.Operator op.Cons) a b → expr_depth e ≤ 64 → IsRead a → IsRead b
     → (room : ℕ) → 2 * expr_depth e + 6 ≤ room → (g : Front) (rest : Kinds) → kinds_at g ≡ expr_kinds a ++ (kind.Symbol symbols.DoubleColon ∷ (expr_kinds b ++ (kind.Symbol symbols.ParenClose ∷ rest)))
-    → Took (listed (expr_to room) room g) (kind.Symbol symbols.ParenClose ∷ rest) (Joins (joints.Operator op.Cons) (IsNode a) (IsNode b))
-unfolding listed before_list opens_at
+    → Took (listed_operands (expr_to room) room g) (kind.Symbol symbols.ParenClose ∷ rest) (Joins (joints.Operator op.Cons) (IsNode a) (IsNode b))
+unfolding listed_operands before_list opens_at
 cons_took e a b m most ra rb room n g rest h =
     let close : Kinds = kind.Symbol symbols.ParenClose ∷ rest in
     let second : Kinds = kind.Symbol symbols.DoubleColon ∷ (expr_kinds b ++ close) in
@@ -165,7 +165,7 @@ cons_took e a b m most ra rb room n g rest h =
     then_took _ first (λ na g1 h1 q1. rw (symbol_is symbols.DoubleColon g1 second h1) (rw (operand_starts (behind g1) (expr_kinds b) close (behind_is g1 (kind.Symbol symbols.DoubleColon) (expr_kinds b ++ close) h1) rb.starts)
     (then_took _ (take_open room (behind g1) (expr_kinds b ++ close) (omega (arith, n)) (behind_is g1 (kind.Symbol symbols.DoubleColon) (expr_kinds b ++ close) h1)) (λ u2 g2 h2 q2.
     then_took _ (level_took b rb room (omega (arith, n, m.size.depth)) levels.Listed (behind g1) close (behind_is g1 (kind.Symbol symbols.DoubleColon) (expr_kinds b ++ close) h1) ends_paren) (λ nb g3 h3 q3.
-    took (consed na nb) g3 h3 (na, nb, q1, q3, refl))))))
+    took (consed_nodes na nb) g3 h3 (na, nb, q1, q3, refl))))))
 
 pub cons_read : (e a b : Expr) → AreJoined e (joints.Operator op.Cons) a b → expr_depth e ≤ 64 → IsRead a → IsRead b
     → expr_kinds e ≡ kind.Symbol symbols.ParenOpen ∷ (expr_kinds a ++ (kind.Symbol symbols.DoubleColon ∷ (expr_kinds b ++ (kind.Symbol symbols.ParenClose ∷ [])))) → IsRead e
@@ -192,7 +192,7 @@ cons_read e a b m most ra rb ks = record {
 
 picked_took : (e a : Expr) (i : ℕ) → x.Part i a ≡ e → Measured e (1 + expr_depth a) (1 + expr_nodes a) → expr_depth e ≤ 64 → IsRead a → (room : ℕ) → 2 * expr_depth e + 6 ≤ room → (g : Front) (rest : Kinds)
     → kinds_at g ≡ kind.Part i ∷ (expr_kinds a ++ (kind.Symbol symbols.ParenClose ∷ rest)) → Took (operand (expr_to room) room g) (kind.Symbol symbols.ParenClose ∷ rest) (IsNode e)
-unfolding picked
+unfolding picked_part
 picked_took e a i t d most ra room n g rest h =
     let close : Kinds = kind.Symbol symbols.ParenClose ∷ rest in
     took_by (operand_is (expr_to room) room g (kind.Part i ∷ (expr_kinds a ++ close)) h)

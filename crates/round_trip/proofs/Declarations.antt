@@ -20,8 +20,8 @@ use Rattle.plan_grammar.specs.declared.level.Level.TheVariants as levels
 use Rattle.plan_grammar.specs.Ahead.{Front, place, behind}
 use Rattle.plan_grammar.specs.Nodes.{all_at}
 use Rattle.plan_parser.specs.declared.program.Gathered.{Gathered}
-use Rattle.plan_parser.specs.Programs.{nothing, one_more, with_service, with_exception, judged_function, with_body, with_function, with_declaration, declarations, draft_of, finished, program_of}
-use Rattle.printed_forms.specs.Pieces.{listed}
+use Rattle.plan_parser.specs.Programs.{nothing, one_more, with_service, with_exception, judged_function, with_body, with_function, with_declaration, declarations, draft_of, finished_draft, program_of}
+use Rattle.printed_forms.specs.Pieces.{listed_pieces}
 use Rattle.text_laws.specs.Lexes.{kinds_of}
 use Rattle.text_laws.specs.PrintedTokens.{Kinds, mark, type_kinds, param_kinds, expr_kinds, svc_kinds, exn_kinds, fun_kinds, program_kinds}
 use Rattle.text_laws.specs.Proper.{AllProper, IsProperSvc, IsProperFun, IsProperProgram}
@@ -70,8 +70,8 @@ service_grew : (s : Svc) → IsProperSvc s → length s.params ≤ 8 → (g : Ga
     → Took (with_declaration g f) rest (Grew g (s ∷ []) [] [] 0)
 unfolding with_declaration with_service
 service_grew s p l g n f rest h w =
-    let ks : kinds_at f ≡ kind.Key keys.Svc ∷ kind.Word s.name ∷ kind.Symbol symbols.Colon ∷ kind.Symbol symbols.ParenOpen ∷ (listed (mark symbols.Comma) [] type_kinds s.params ++ (kind.Symbol symbols.ParenClose ∷ kind.Symbol symbols.Arrow ∷ (type_kinds s.result ++ rest)))
-    = h ∙ ap (λ l. kind.Key keys.Svc ∷ kind.Word s.name ∷ kind.Symbol symbols.Colon ∷ kind.Symbol symbols.ParenOpen ∷ l) (svc_regroup (listed (mark symbols.Comma) [] type_kinds s.params) (type_kinds s.result) rest (kind.Symbol symbols.ParenClose) (kind.Symbol symbols.Arrow)) in
+    let ks : kinds_at f ≡ kind.Key keys.Svc ∷ kind.Word s.name ∷ kind.Symbol symbols.Colon ∷ kind.Symbol symbols.ParenOpen ∷ (listed_pieces (mark symbols.Comma) [] type_kinds s.params ++ (kind.Symbol symbols.ParenClose ∷ kind.Symbol symbols.Arrow ∷ (type_kinds s.result ++ rest)))
+    = h ∙ ap (λ l. kind.Key keys.Svc ∷ kind.Word s.name ∷ kind.Symbol symbols.Colon ∷ kind.Symbol symbols.ParenOpen ∷ l) (svc_regroup (listed_pieces (mark symbols.Comma) [] type_kinds s.params) (type_kinds s.result) rest (kind.Symbol symbols.ParenClose) (kind.Symbol symbols.Arrow)) in
     rw (key_is keys.Svc f _ ks)
     (then_took _ (take_more (length g.svcs) Limit.Services f _ n ks) (λ u0 g0 k0 q0.
     then_took _ (service_took s p l (behind f) rest (behind_is f (kind.Key keys.Svc) _ ks) w) (λ v g1 k1 q1.
@@ -90,8 +90,8 @@ function_grew : (d : Fun) → IsProperFun d → IsShortFun d → (g : Gathered) 
 unfolding with_declaration with_function with_body
 function_grew d p s g n many f rest h w =
     let body : Kinds = expr_kinds d.body ++ rest in
-    let ks : kinds_at f ≡ kind.Key keys.Fun ∷ kind.Word d.name ∷ kind.Symbol symbols.ParenOpen ∷ (listed (mark symbols.Comma) [] param_kinds d.params ++ (kind.Symbol symbols.ParenClose ∷ kind.Symbol symbols.Colon ∷ (type_kinds d.result ++ (kind.Symbol symbols.Equal ∷ body))))
-    = h ∙ ap (λ l. kind.Key keys.Fun ∷ kind.Word d.name ∷ kind.Symbol symbols.ParenOpen ∷ l) (fun_regroup (listed (mark symbols.Comma) [] param_kinds d.params) (type_kinds d.result) (expr_kinds d.body) rest (kind.Symbol symbols.ParenClose) (kind.Symbol symbols.Colon) (kind.Symbol symbols.Equal)) in
+    let ks : kinds_at f ≡ kind.Key keys.Fun ∷ kind.Word d.name ∷ kind.Symbol symbols.ParenOpen ∷ (listed_pieces (mark symbols.Comma) [] param_kinds d.params ++ (kind.Symbol symbols.ParenClose ∷ kind.Symbol symbols.Colon ∷ (type_kinds d.result ++ (kind.Symbol symbols.Equal ∷ body))))
+    = h ∙ ap (λ l. kind.Key keys.Fun ∷ kind.Word d.name ∷ kind.Symbol symbols.ParenOpen ∷ l) (fun_regroup (listed_pieces (mark symbols.Comma) [] param_kinds d.params) (type_kinds d.result) (expr_kinds d.body) rest (kind.Symbol symbols.ParenClose) (kind.Symbol symbols.Colon) (kind.Symbol symbols.Equal)) in
     let small = s.1 in
     rw (key_is keys.Svc f _ ks) (rw (key_is keys.Exception f _ ks) (rw (key_is keys.Fun f _ ks)
     (then_took _ (take_more (length g.funs) Limit.Functions f _ n ks) (λ u0 g0 k0 q0.
@@ -226,7 +226,7 @@ pub record ReadsProgram (p : Program) (r : Result Draft ParseFault) : Type 0 whe
   pub same : draft.program ≡ p
 
 pub program_reads : (p : Program) (ts : List Token) (end : ℕ) → IsProperProgram p → IsWithinLimits p → kinds_of ts ≡ program_kinds p → ReadsProgram p (program_of ts end)
-unfolding program_of finished program_kinds program_nodes
+unfolding program_of finished_draft program_kinds program_nodes
 program_reads p ts end h w k =
     let f : Front = record { tokens = ts; end = end } in
     let ks : kinds_at f ≡ flat_map svc_kinds p.svcs ++ (flat_map exn_kinds p.exns ++ flat_map fun_kinds p.funs) = k ∙ append_assoc (flat_map svc_kinds p.svcs) (flat_map exn_kinds p.exns) (flat_map fun_kinds p.funs) in

@@ -20,12 +20,12 @@ use Rattle.plan_grammar.specs.Ahead.{Front, Reader, behind, is_symbol_kind, is_k
 use Rattle.plan_grammar.specs.Begins.{kind_begins, begins_operand, begins_negated, begins_expr}
 use Rattle.plan_grammar.specs.Joints.{joint_of, joined_tree}
 use Rattle.plan_grammar.specs.Nodes.{over, below_of, both, joined_nodes}
-use Rattle.plan_grammar.specs.Exprs.{operand_kind, operand, product, addition, listed, compared, comparison, negated, conjunction, disjunction, whole, at_level, expr_to, single, grouped, parens_behind, parens, symbol_form}
+use Rattle.plan_grammar.specs.Exprs.{operand_kind, operand, product, addition, listed_operands, compared_operands, comparison, negated_operand, conjunction, disjunction, whole, at_level, expr_to, single, grouped_expression, parens_behind, parens, symbol_form}
 use Rattle.text_laws.specs.PrintedTokens.{Kinds, expr_kinds_level, clause_kinds, expr_kinds}
 use Rattle.text_laws.proofs.ExprTokens.{expr_kinds_out}
 use Rattle.round_trip.specs.Reads.{kinds_at, Took, first_kind, IsNode, Ends}
 use Rattle.round_trip.proofs.Steps.{took, then_took, took_by, weaker, next_is, behind_is, symbol_is, take_symbol, take_open}
-use Rattle.round_trip.proofs.Ladder.{Starts, paired, Joins, up_product, up_addition, up_listed, up_comparison, up_negated, up_conjunction, up_disjunction, up_low, up_whole, isnt_not, isnt_if, at_every_level}
+use Rattle.round_trip.proofs.Ladder.{Starts, two_are_joined, Joins, up_product, up_addition, up_listed, up_comparison, up_negated, up_conjunction, up_disjunction, up_low, up_whole, isnt_not, isnt_if, at_every_level}
 
 -- ---- nodes
 
@@ -46,8 +46,8 @@ pub record Measured (e : Expr) (deep many : ℕ) : Type 0 where
 pub made_of : (e : Expr) (l : Expr-F Expr Clause) → out-Expr e ≡ l → e ≡ roll-Expr l
 made_of e l o = sym (roll-out-Expr e) ∙ ap roll-Expr o
 
-pub measured : (e : Expr) (l : Expr-F Expr Clause) → out-Expr e ≡ l → Measured e (expr_depth_level expr_depth clause_depth l) (expr_nodes_level expr_nodes clause_nodes l)
-measured e l o = record { depth = expr_depth_out e ∙ ap (expr_depth_level expr_depth clause_depth) o; nodes = expr_nodes_out e ∙ ap (expr_nodes_level expr_nodes clause_nodes) o }
+pub measured_by_level : (e : Expr) (l : Expr-F Expr Clause) → out-Expr e ≡ l → Measured e (expr_depth_level expr_depth clause_depth l) (expr_nodes_level expr_nodes clause_nodes l)
+measured_by_level e l o = record { depth = expr_depth_out e ∙ ap (expr_depth_level expr_depth clause_depth) o; nodes = expr_nodes_out e ∙ ap (expr_nodes_level expr_nodes clause_nodes) o }
 
 pub kinds_are : (e : Expr) (l : Expr-F Expr Clause) → out-Expr e ≡ l → expr_kinds e ≡ expr_kinds_level expr_kinds clause_kinds l
 kinds_are e l o = expr_kinds_out e ∙ ap (expr_kinds_level expr_kinds clause_kinds) o
@@ -97,7 +97,7 @@ operand_is inner room f ks h = ap (operand_kind inner room f) (next_is f ks h)
 pub parens_took : (room : ℕ) (f : Front) (k : TokenKind) (ks rest : Kinds) {Q : Node → Type 0} → 0 < room → kinds_at f ≡ kind.Symbol symbols.ParenOpen ∷ k ∷ ks
     → is_symbol_kind symbols.ParenClose (Some k) ≡ false → expr_begins (Some k) ≡ true
     → ((g : Front) → kinds_at g ≡ k ∷ ks → Took (expr_to room levels.Whole g) (kind.Symbol symbols.ParenClose ∷ rest) Q) → Took (operand (expr_to room) room f) rest Q
-unfolding symbol_form parens parens_behind grouped single
+unfolding symbol_form parens parens_behind grouped_expression single
 parens_took room f k ks rest n h shut begin r =
     let g : Front = behind f in
     let hg : kinds_at g ≡ k ∷ ks = behind_is f (kind.Symbol symbols.ParenOpen) (k ∷ ks) h in
@@ -133,7 +133,7 @@ module _ (inner : Level → Reader Node) (room : ℕ) (f : Front) (ka mid rest :
   unfolding product
   product_pair e t r =
       let c : Kinds = kind.Symbol symbols.ParenClose ∷ rest in
-      let p : Took (product inner room f) c (Joins j P Q) = paired inner room (operand inner room) chains.Product f j k mid c e refl t r in
+      let p : Took (product inner room f) c (Joins j P Q) = two_are_joined inner room (operand inner room) chains.Product f j k mid c e refl t r in
       up_whole inner room f c refl (up_low inner room f c (isnt_if inner room f ka (k ∷ mid) at s) (up_disjunction inner room f c refl (up_conjunction inner room f c refl
       (up_negated inner room f c (isnt_not inner room f ka (k ∷ mid) at s) (up_comparison inner room f c refl (up_listed inner room f c refl (up_addition inner room f c refl p)))))))
 
@@ -143,29 +143,29 @@ module _ (inner : Level → Reader Node) (room : ℕ) (f : Front) (ka mid rest :
   unfolding addition
   sum_pair e t r =
       let c : Kinds = kind.Symbol symbols.ParenClose ∷ rest in
-      let p : Took (addition inner room f) c (Joins j P Q) = paired inner room (product inner room) chains.Sum f j k mid c e refl t r in
+      let p : Took (addition inner room f) c (Joins j P Q) = two_are_joined inner room (product inner room) chains.Sum f j k mid c e refl t r in
       up_whole inner room f c refl (up_low inner room f c (isnt_if inner room f ka (k ∷ mid) at s) (up_disjunction inner room f c refl (up_conjunction inner room f c refl
       (up_negated inner room f c (isnt_not inner room f ka (k ∷ mid) at s) (up_comparison inner room f c refl (up_listed inner room f c refl p))))))
 
   -- operands of a comparison
-  comparison_pair : joint_of chains.Comparison (Some k) ≡ Some j → Took (listed inner room f) (k ∷ mid) P → ((g : Front) → kinds_at g ≡ mid → Took (listed inner room g) (kind.Symbol symbols.ParenClose ∷ rest) Q)
+  comparison_pair : joint_of chains.Comparison (Some k) ≡ Some j → Took (listed_operands inner room f) (k ∷ mid) P → ((g : Front) → kinds_at g ≡ mid → Took (listed_operands inner room g) (kind.Symbol symbols.ParenClose ∷ rest) Q)
       → Took (whole inner room f) (kind.Symbol symbols.ParenClose ∷ rest) (Joins j P Q)
   unfolding comparison
   comparison_pair e t r =
       let c : Kinds = kind.Symbol symbols.ParenClose ∷ rest in
       let p : Took (comparison inner room f) c (Joins j P Q) = then_took _ t (λ a g h p.
-      took_by (ap (compared inner room a g) (ap (joint_of chains.Comparison) (next_is g (k ∷ mid) h) ∙ e))
+      took_by (ap (compared_operands inner room a g) (ap (joint_of chains.Comparison) (next_is g (k ∷ mid) h) ∙ e))
       (then_took _ (r (behind g) (behind_is g k mid h)) (λ b m hm q. took (joined_nodes j a b) m hm (a, b, p, q, refl)))) in
       up_whole inner room f c refl (up_low inner room f c (isnt_if inner room f ka (k ∷ mid) at s) (up_disjunction inner room f c refl (up_conjunction inner room f c refl
       (up_negated inner room f c (isnt_not inner room f ka (k ∷ mid) at s) p))))
 
   -- operands of `and`
-  both_pair : joint_of chains.And (Some k) ≡ Some j → Took (negated inner room f) (k ∷ mid) P → ((g : Front) → kinds_at g ≡ mid → Took (negated inner room g) (kind.Symbol symbols.ParenClose ∷ rest) Q)
+  both_pair : joint_of chains.And (Some k) ≡ Some j → Took (negated_operand inner room f) (k ∷ mid) P → ((g : Front) → kinds_at g ≡ mid → Took (negated_operand inner room g) (kind.Symbol symbols.ParenClose ∷ rest) Q)
       → Took (whole inner room f) (kind.Symbol symbols.ParenClose ∷ rest) (Joins j P Q)
   unfolding conjunction
   both_pair e t r =
       let c : Kinds = kind.Symbol symbols.ParenClose ∷ rest in
-      let p : Took (conjunction inner room f) c (Joins j P Q) = paired inner room (negated inner room) chains.And f j k mid c e refl t r in
+      let p : Took (conjunction inner room f) c (Joins j P Q) = two_are_joined inner room (negated_operand inner room) chains.And f j k mid c e refl t r in
       up_whole inner room f c refl (up_low inner room f c (isnt_if inner room f ka (k ∷ mid) at s) (up_disjunction inner room f c refl p))
 
   -- operands of `or`
@@ -174,7 +174,7 @@ module _ (inner : Level → Reader Node) (room : ℕ) (f : Front) (ka mid rest :
   unfolding disjunction
   either_pair e t r =
       let c : Kinds = kind.Symbol symbols.ParenClose ∷ rest in
-      let p : Took (disjunction inner room f) c (Joins j P Q) = paired inner room (conjunction inner room) chains.Or f j k mid c e refl t r in
+      let p : Took (disjunction inner room f) c (Joins j P Q) = two_are_joined inner room (conjunction inner room) chains.Or f j k mid c e refl t r in
       up_whole inner room f c refl (up_low inner room f c (isnt_if inner room f ka (k ∷ mid) at s) p)
 
 -- ---- two expressions in brackets with a joint between them

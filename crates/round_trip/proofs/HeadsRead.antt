@@ -12,7 +12,7 @@ use Rattle.plan_grammar.specs.Ahead.{Front, behind, is_word}
 use Rattle.plan_grammar.specs.Begins.{begins_type, begins_name}
 use Rattle.plan_parser.specs.declared.signature.Head.{Head}
 use Rattle.plan_parser.specs.Signatures.{outer_type, inner_type, arguments_from, arguments_behind, service_at, param_at, params_from, params_behind, head_at}
-use Rattle.printed_forms.specs.Pieces.{listed}
+use Rattle.printed_forms.specs.Pieces.{listed_pieces}
 use Rattle.text_laws.specs.PrintedTokens.{Kinds, mark, type_kinds, param_kinds}
 use Rattle.text_laws.specs.Proper.{IsReadableType, IsProperParam, IsProperSvc, IsProperFun, AllProper}
 use Rattle.round_trip.specs.Reads.{kinds_at, Took, FollowsType}
@@ -54,17 +54,17 @@ param_begins : (p : Param) (f : Front) (rest : Kinds) → kinds_at f ≡ param_k
 unfolding begins_name
 param_begins p f rest k = ap is_word (next_is f (param_kinds p ++ rest) k)
 
-param_tail : (ps : List Param) (rest : Kinds) → FollowsType (listed (mark symbols.Comma) (mark symbols.Comma) param_kinds ps ++ (kind.Symbol symbols.ParenClose ∷ rest))
+param_tail : (ps : List Param) (rest : Kinds) → FollowsType (listed_pieces (mark symbols.Comma) (mark symbols.Comma) param_kinds ps ++ (kind.Symbol symbols.ParenClose ∷ rest))
 param_tail [] rest = refl
 param_tail (p ∷ ps) rest = refl
 
 params_took : (ps : List Param) → AllProper IsProperParam ps → length ps ≤ 8 → (f : Front) (rest : Kinds)
-    → kinds_at f ≡ listed (mark symbols.Comma) [] param_kinds ps ++ (kind.Symbol symbols.ParenClose ∷ rest) → Took (params_behind f) rest (λ qs. qs ≡ ps)
+    → kinds_at f ≡ listed_pieces (mark symbols.Comma) [] param_kinds ps ++ (kind.Symbol symbols.ParenClose ∷ rest) → Took (params_behind f) rest (λ qs. qs ≡ ps)
 unfolding params_behind params_from
 params_took [] h l f rest k = rw (symbol_is symbols.ParenClose f (kind.Symbol symbols.ParenClose ∷ rest) k) (took [] (behind f) (behind_is f (kind.Symbol symbols.ParenClose) rest k) refl)
 params_took (p ∷ ps) h l f rest k =
-    let tail : Kinds = listed (mark symbols.Comma) (mark symbols.Comma) param_kinds ps ++ (kind.Symbol symbols.ParenClose ∷ rest) in
-    let ks : kinds_at f ≡ param_kinds p ++ tail = k ∙ append_assoc (param_kinds p) (listed (mark symbols.Comma) (mark symbols.Comma) param_kinds ps) (kind.Symbol symbols.ParenClose ∷ rest) in
+    let tail : Kinds = listed_pieces (mark symbols.Comma) (mark symbols.Comma) param_kinds ps ++ (kind.Symbol symbols.ParenClose ∷ rest) in
+    let ks : kinds_at f ≡ param_kinds p ++ tail = k ∙ append_assoc (param_kinds p) (listed_pieces (mark symbols.Comma) (mark symbols.Comma) param_kinds ps) (kind.Symbol symbols.ParenClose ∷ rest) in
     rw (symbol_is symbols.ParenClose f (param_kinds p ++ tail) ks) (rw (param_begins p f tail ks)
     (then_took _ (param_took p h.0 f tail ks (param_tail ps rest)) (λ q g1 k1 q1.
     then_took _ (more_took param_at begins_name symbols.Comma limits.Parameters wanted.AName param_kinds SameParam FollowsType (kind.Symbol symbols.ParenClose ∷ rest) refl (λ s. refl) refl ps (params_read ps h.1) 7 (omega (arith, l)) (q ∷ []) g1 k1) (λ all g2 k2 q2.
@@ -83,17 +83,17 @@ same_types (t ∷ ts) (u ∷ us) g = (λ i. g.0 i ∷ same_types ts us g.1 i)
 same_types [] (u ∷ us) g = absurd g
 same_types (t ∷ ts) [] g = absurd g
 
-type_tail : (ts : List Ty) (rest : Kinds) → FollowsType (listed (mark symbols.Comma) (mark symbols.Comma) type_kinds ts ++ (kind.Symbol symbols.ParenClose ∷ rest))
+type_tail : (ts : List Ty) (rest : Kinds) → FollowsType (listed_pieces (mark symbols.Comma) (mark symbols.Comma) type_kinds ts ++ (kind.Symbol symbols.ParenClose ∷ rest))
 type_tail [] rest = refl
 type_tail (t ∷ ts) rest = refl
 
 types_took : (ts : List Ty) → AllProper IsReadableType ts → length ts ≤ 8 → (f : Front) (rest : Kinds)
-    → kinds_at f ≡ listed (mark symbols.Comma) [] type_kinds ts ++ (kind.Symbol symbols.ParenClose ∷ rest) → Took (arguments_behind f) rest (λ us. us ≡ ts)
+    → kinds_at f ≡ listed_pieces (mark symbols.Comma) [] type_kinds ts ++ (kind.Symbol symbols.ParenClose ∷ rest) → Took (arguments_behind f) rest (λ us. us ≡ ts)
 unfolding arguments_behind arguments_from
 types_took [] h l f rest k = rw (symbol_is symbols.ParenClose f (kind.Symbol symbols.ParenClose ∷ rest) k) (took [] (behind f) (behind_is f (kind.Symbol symbols.ParenClose) rest k) refl)
 types_took (t ∷ ts) h l f rest k =
-    let tail : Kinds = listed (mark symbols.Comma) (mark symbols.Comma) type_kinds ts ++ (kind.Symbol symbols.ParenClose ∷ rest) in
-    let ks : kinds_at f ≡ type_kinds t ++ tail = k ∙ append_assoc (type_kinds t) (listed (mark symbols.Comma) (mark symbols.Comma) type_kinds ts) (kind.Symbol symbols.ParenClose ∷ rest) in
+    let tail : Kinds = listed_pieces (mark symbols.Comma) (mark symbols.Comma) type_kinds ts ++ (kind.Symbol symbols.ParenClose ∷ rest) in
+    let ks : kinds_at f ≡ type_kinds t ++ tail = k ∙ append_assoc (type_kinds t) (listed_pieces (mark symbols.Comma) (mark symbols.Comma) type_kinds ts) (kind.Symbol symbols.ParenClose ∷ rest) in
     let s = type_starts t h.0.0 f tail ks in
     rw s.0 (rw s.1
     (then_took _ (inner_took t h.0 f tail ks (type_tail ts rest)) (λ u g1 k1 q1.
@@ -104,7 +104,7 @@ types_took (t ∷ ts) h l f rest k =
 -- ---- heads
 
 pub service_took : (s : Svc) → IsProperSvc s → length s.params ≤ 8 → (f : Front) (rest : Kinds)
-    → kinds_at f ≡ kind.Word s.name ∷ kind.Symbol symbols.Colon ∷ kind.Symbol symbols.ParenOpen ∷ (listed (mark symbols.Comma) [] type_kinds s.params ++ (kind.Symbol symbols.ParenClose ∷ kind.Symbol symbols.Arrow ∷ (type_kinds s.result ++ rest)))
+    → kinds_at f ≡ kind.Word s.name ∷ kind.Symbol symbols.Colon ∷ kind.Symbol symbols.ParenOpen ∷ (listed_pieces (mark symbols.Comma) [] type_kinds s.params ++ (kind.Symbol symbols.ParenClose ∷ kind.Symbol symbols.Arrow ∷ (type_kinds s.result ++ rest)))
     → FollowsType rest → Took (service_at f) rest (λ q. q ≡ s)
 unfolding service_at
 service_took s h l f rest k w =
@@ -122,7 +122,7 @@ pub record IsHead (f : Fun) (h : Head) : Type 0 where
   pub result : h.result ≡ f.result
 
 pub head_took : (d : Fun) → IsProperFun d → length d.params ≤ 8 → (f : Front) (rest : Kinds)
-    → kinds_at f ≡ kind.Word d.name ∷ kind.Symbol symbols.ParenOpen ∷ (listed (mark symbols.Comma) [] param_kinds d.params ++ (kind.Symbol symbols.ParenClose ∷ kind.Symbol symbols.Colon ∷ (type_kinds d.result ++ (kind.Symbol symbols.Equal ∷ rest))))
+    → kinds_at f ≡ kind.Word d.name ∷ kind.Symbol symbols.ParenOpen ∷ (listed_pieces (mark symbols.Comma) [] param_kinds d.params ++ (kind.Symbol symbols.ParenClose ∷ kind.Symbol symbols.Colon ∷ (type_kinds d.result ++ (kind.Symbol symbols.Equal ∷ rest))))
     → Took (head_at f) rest (IsHead d)
 unfolding head_at
 head_took d h l f rest k =

@@ -15,7 +15,7 @@ use Rattle.plan_grammar.specs.Ahead.{Front, Reader, ◌>>=◌, behind, next_kind
 use Rattle.plan_grammar.specs.Begins.{kind_begins}
 use Rattle.plan_grammar.specs.Joints.{joint_of}
 use Rattle.plan_grammar.specs.Nodes.{joined_nodes}
-use Rattle.plan_grammar.specs.Exprs.{chain_from, operand, chained, product, addition, listed, compared, comparison, negated, conjunction, disjunction, low, whole, at_level}
+use Rattle.plan_grammar.specs.Exprs.{chain_from, operand, chained_operands, product, addition, listed_operands, compared_operands, comparison, negated_operand, conjunction, disjunction, low, whole, at_level}
 use Rattle.text_laws.specs.Lexes.{kinds_of}
 use Rattle.text_laws.specs.PrintedTokens.{Kinds}
 use Rattle.round_trip.specs.Reads.{kinds_at, Took, first_kind, Ends}
@@ -58,15 +58,15 @@ some_left (t ∷ ts) k ks h = omega arith
 
 module _ (inner : Level → Reader Node) (room : ℕ) where
   -- an operand without a joint behind it
-  pub alone : (one : Reader Node) (chain : Chain) (f : Front) (rest : Kinds) {Q : Node → Type 0} → joint_of chain (first_kind rest) ≡ None → Took (one f) rest Q → Took (chained inner room one chain f) rest Q
-  unfolding chained
+  pub alone : (one : Reader Node) (chain : Chain) (f : Front) (rest : Kinds) {Q : Node → Type 0} → joint_of chain (first_kind rest) ≡ None → Took (one f) rest Q → Took (chained_operands inner room one chain f) rest Q
+  unfolding chained_operands
   alone one chain f rest e t = then_took _ t (λ a g h q. took_by (chain_none one chain (length g.tokens) a g (ap (joint_of chain) (next_is g rest h) ∙ e)) (took a g h q))
 
   -- two operands with a joint between them
-  pub paired : (one : Reader Node) (chain : Chain) (f : Front) (joint : Joint) (k : TokenKind) (mid rest : Kinds) {P Q : Node → Type 0} → joint_of chain (Some k) ≡ Some joint → joint_of chain (first_kind rest) ≡ None
-      → Took (one f) (k ∷ mid) P → ((g : Front) → kinds_at g ≡ mid → Took (one g) rest Q) → Took (chained inner room one chain f) rest (Joins joint P Q)
-  unfolding chained
-  paired one chain f joint k mid rest {P = P} {Q = Q} j n t r =
+  pub two_are_joined : (one : Reader Node) (chain : Chain) (f : Front) (joint : Joint) (k : TokenKind) (mid rest : Kinds) {P Q : Node → Type 0} → joint_of chain (Some k) ≡ Some joint → joint_of chain (first_kind rest) ≡ None
+      → Took (one f) (k ∷ mid) P → ((g : Front) → kinds_at g ≡ mid → Took (one g) rest Q) → Took (chained_operands inner room one chain f) rest (Joins joint P Q)
+  unfolding chained_operands
+  two_are_joined one chain f joint k mid rest {P = P} {Q = Q} j n t r =
       then_took _ t (λ a g h p. one_more one chain joint k mid rest P Q j n r a p g h (length g.tokens) (some_left g.tokens k mid h))
 
   pub up_product : (f : Front) (rest : Kinds) {Q : Node → Type 0} → joint_of chains.Product (first_kind rest) ≡ None → Took (operand inner room f) rest Q → Took (product inner room f) rest Q
@@ -77,21 +77,21 @@ module _ (inner : Level → Reader Node) (room : ℕ) where
   unfolding addition
   up_addition f rest e t = alone (product inner room) chains.Sum f rest e t
 
-  pub up_listed : (f : Front) (rest : Kinds) {Q : Node → Type 0} → is_symbol_kind symbols.DoubleColon (first_kind rest) ≡ false → Took (addition inner room f) rest Q → Took (listed inner room f) rest Q
-  unfolding listed
+  pub up_listed : (f : Front) (rest : Kinds) {Q : Node → Type 0} → is_symbol_kind symbols.DoubleColon (first_kind rest) ≡ false → Took (addition inner room f) rest Q → Took (listed_operands inner room f) rest Q
+  unfolding listed_operands
   up_listed f rest e t = then_took _ t (λ a g h q. rw (symbol_is symbols.DoubleColon g rest h ∙ e) (took a g h q))
 
-  pub up_comparison : (f : Front) (rest : Kinds) {Q : Node → Type 0} → joint_of chains.Comparison (first_kind rest) ≡ None → Took (listed inner room f) rest Q → Took (comparison inner room f) rest Q
+  pub up_comparison : (f : Front) (rest : Kinds) {Q : Node → Type 0} → joint_of chains.Comparison (first_kind rest) ≡ None → Took (listed_operands inner room f) rest Q → Took (comparison inner room f) rest Q
   unfolding comparison
-  up_comparison f rest e t = then_took _ t (λ a g h q. took_by (ap (compared inner room a g) (ap (joint_of chains.Comparison) (next_is g rest h) ∙ e)) (took a g h q))
+  up_comparison f rest e t = then_took _ t (λ a g h q. took_by (ap (compared_operands inner room a g) (ap (joint_of chains.Comparison) (next_is g rest h) ∙ e)) (took a g h q))
 
-  pub up_negated : (f : Front) (rest : Kinds) {Q : Node → Type 0} → is_key keys.Not f ≡ false → Took (comparison inner room f) rest Q → Took (negated inner room f) rest Q
-  unfolding negated
+  pub up_negated : (f : Front) (rest : Kinds) {Q : Node → Type 0} → is_key keys.Not f ≡ false → Took (comparison inner room f) rest Q → Took (negated_operand inner room f) rest Q
+  unfolding negated_operand
   up_negated f rest e t = rw e t
 
-  pub up_conjunction : (f : Front) (rest : Kinds) {Q : Node → Type 0} → joint_of chains.And (first_kind rest) ≡ None → Took (negated inner room f) rest Q → Took (conjunction inner room f) rest Q
+  pub up_conjunction : (f : Front) (rest : Kinds) {Q : Node → Type 0} → joint_of chains.And (first_kind rest) ≡ None → Took (negated_operand inner room f) rest Q → Took (conjunction inner room f) rest Q
   unfolding conjunction
-  up_conjunction f rest e t = alone (negated inner room) chains.And f rest e t
+  up_conjunction f rest e t = alone (negated_operand inner room) chains.And f rest e t
 
   pub up_disjunction : (f : Front) (rest : Kinds) {Q : Node → Type 0} → joint_of chains.Or (first_kind rest) ≡ None → Took (conjunction inner room f) rest Q → Took (disjunction inner room f) rest Q
   unfolding disjunction

@@ -14,7 +14,7 @@ use Rattle.plan_grammar.specs.declared.fault.Wanted.{Wanted}
 use Rattle.plan_grammar.specs.Codes.{key_code, symbol_code}
 use Rattle.plan_grammar.specs.Ahead.{Front, Reader, ◌>>=◌, behind, kind_in, next_kind, is_symbol_kind, is_symbol, is_key_kind, is_key, need_symbol, need_key, name_kind, name_at}
 use Rattle.plan_grammar.specs.Types.{opens, more}
-use Rattle.printed_forms.specs.Pieces.{listed}
+use Rattle.printed_forms.specs.Pieces.{listed_pieces}
 use Rattle.text_laws.specs.Lexes.{kinds_of}
 use Rattle.round_trip.specs.Reads.{kinds_at, Took, first_kind}
 use Rattle.text_laws.specs.PrintedTokens.{Kinds, mark}
@@ -116,17 +116,17 @@ module _ {X A : Type 0} (one : Reader A) (begins : Front → Bool) (sep : Symbol
   more_next left done f e = rw e refl
 
   module _ (close : Kinds) (shut : is_symbol_kind sep (first_kind close) ≡ false) (sep_follows : (r : Kinds) → follows (kind.Symbol sep ∷ r)) (close_follows : follows close) where
-    follows_item : (xs : List X) → follows (listed (mark sep) (mark sep) kinds xs ++ close)
+    follows_item : (xs : List X) → follows (listed_pieces (mark sep) (mark sep) kinds xs ++ close)
     follows_item [] = close_follows
-    follows_item (x ∷ xs) = sep_follows ((kinds x ++ listed (mark sep) (mark sep) kinds xs) ++ close)
+    follows_item (x ∷ xs) = sep_follows ((kinds x ++ listed_pieces (mark sep) (mark sep) kinds xs) ++ close)
 
     pub more_took : (xs : List X) → AllRead xs → (left : ℕ) → length xs ≤ left → (done : List A) (f : Front)
-        → kinds_at f ≡ listed (mark sep) (mark sep) kinds xs ++ close → Took (more one begins sep limit what left done f) close (Added xs done)
+        → kinds_at f ≡ listed_pieces (mark sep) (mark sep) kinds xs ++ close → Took (more one begins sep limit what left done f) close (Added xs done)
     more_took [] r left n done f h = took_by (more_none left done f (symbol_is sep f close h ∙ shut)) (took done f h ([], sym (append-nil done), tt))
     more_took (x ∷ xs) r zero n done f h = absurd (omega (arith, n))
     more_took (x ∷ xs) r (suc left) n done f h =
-        let tail : Kinds = listed (mark sep) (mark sep) kinds xs ++ close in
-        let ks : kinds_at f ≡ kind.Symbol sep ∷ (kinds x ++ tail) = h ∙ ap (λ s. kind.Symbol sep ∷ s) (append_assoc (kinds x) (listed (mark sep) (mark sep) kinds xs) close) in
+        let tail : Kinds = listed_pieces (mark sep) (mark sep) kinds xs ++ close in
+        let ks : kinds_at f ≡ kind.Symbol sep ∷ (kinds x ++ tail) = h ∙ ap (λ s. kind.Symbol sep ∷ s) (append_assoc (kinds x) (listed_pieces (mark sep) (mark sep) kinds xs) close) in
         took_by (more_next left done f (symbol_is sep f (kind.Symbol sep ∷ (kinds x ++ tail)) ks ∙ same_number (symbol_code sep)))
         (then_took (λ y. more one begins sep limit what left (done ++ y.0 ∷ []) y.1) (r.0 (behind f) tail (behind_is f (kind.Symbol sep) (kinds x ++ tail) ks) (follows_item xs))
         (λ a g k q. weaker (more_took xs r.1 left (omega (arith, n)) (done ++ a ∷ []) g k)

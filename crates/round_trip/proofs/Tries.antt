@@ -16,7 +16,7 @@ use Rattle.plan_grammar.specs.declared.node.Caught.{Caught}
 use Rattle.plan_grammar.specs.Ahead.{Front, behind, place, is_symbol}
 use Rattle.plan_grammar.specs.Nodes.{all_at, below_of, both, below_all, clauses_of, bodies, try_of}
 use Rattle.plan_grammar.specs.Exprs.{catch_at, clause_follows, clause, clauses_from, try_form, key_form, expr_to}
-use Rattle.printed_forms.specs.Pieces.{listed}
+use Rattle.printed_forms.specs.Pieces.{listed_pieces}
 use Rattle.text_laws.specs.PrintedTokens.{Kinds, mark, catch_kinds, expr_kinds, clause_kinds}
 use Rattle.round_trip.specs.Reads.{kinds_at, Took, first_kind, IsNode, Ends}
 use Rattle.round_trip.proofs.Steps.{took, then_took, weaker, behind_is, symbol_is, take_symbol, take_key, take_name, take_open}
@@ -71,7 +71,7 @@ unfolding clause_follows
 one_more n f s e = rw (s, e) refl
 
 clauses_took : (room most : ℕ) → 2 * most + 8 ≤ room → (c : Clause) (cs : List Clause) → ClausesRead most (c ∷ cs) → (left : ℕ) → length cs < left → (done : List Caught) (f : Front) (rest : Kinds)
-    → kinds_at f ≡ clause_kinds c ++ (listed (mark symbols.Bar) (mark symbols.Bar) clause_kinds cs ++ (kind.Key keys.End ∷ rest))
+    → kinds_at f ≡ clause_kinds c ++ (listed_pieces (mark symbols.Bar) (mark symbols.Bar) clause_kinds cs ++ (kind.Key keys.End ∷ rest))
     → Took (clauses_from (expr_to room) room left done f) (kind.Key keys.End ∷ rest) (CaughtMore (c ∷ cs) done)
 unfolding clauses_from
 clauses_took room most m c cs r zero l done f rest h = absurd (omega (arith, l))
@@ -79,8 +79,8 @@ clauses_took room most m c [] r (suc left) l done f rest h =
     then_took _ (clause_took room c r.0 (omega (arith, m, r.1)) f (kind.Key keys.End ∷ rest) h ends_end) (λ k g h1 q1.
     rw (no_more k.name g (symbol_is symbols.Bar g (kind.Key keys.End ∷ rest) h1)) (took (done ++ k ∷ []) g h1 (k ∷ [], refl, (q1, tt))))
 clauses_took room most m c (d ∷ ds) r (suc left) l done f rest h =
-    let tail : Kinds = clause_kinds d ++ (listed (mark symbols.Bar) (mark symbols.Bar) clause_kinds ds ++ (kind.Key keys.End ∷ rest)) in
-    let hs : kinds_at f ≡ clause_kinds c ++ (kind.Symbol symbols.Bar ∷ tail) = h ∙ ap (λ s. clause_kinds c ++ (kind.Symbol symbols.Bar ∷ s)) (append_assoc (clause_kinds d) (listed (mark symbols.Bar) (mark symbols.Bar) clause_kinds ds) (kind.Key keys.End ∷ rest)) in
+    let tail : Kinds = clause_kinds d ++ (listed_pieces (mark symbols.Bar) (mark symbols.Bar) clause_kinds ds ++ (kind.Key keys.End ∷ rest)) in
+    let hs : kinds_at f ≡ clause_kinds c ++ (kind.Symbol symbols.Bar ∷ tail) = h ∙ ap (λ s. clause_kinds c ++ (kind.Symbol symbols.Bar ∷ s)) (append_assoc (clause_kinds d) (listed_pieces (mark symbols.Bar) (mark symbols.Bar) clause_kinds ds) (kind.Key keys.End ∷ rest)) in
     then_took _ (clause_took room c r.0 (omega (arith, m, r.1)) f (kind.Symbol symbols.Bar ∷ tail) hs ends_bar) (λ k g h1 q1.
     rw (one_more k.name g (ap is_some q1.name ∙ r.2) (symbol_is symbols.Bar g (kind.Symbol symbols.Bar ∷ tail) h1))
     (weaker (clauses_took room most m d ds r.3 left (omega (arith, l)) (done ++ k ∷ []) (behind g) rest (behind_is g (kind.Symbol symbols.Bar) tail h1))
@@ -106,11 +106,11 @@ caught_places (c ∷ cs) [] g = absurd g
 
 try_took : (room : ℕ) (e a : Expr) (c : Clause) (cs : List Clause) → x.Try a (c ∷ cs) ≡ e → Measured e (1 + max (expr_depth a) (largest_by clause_depth (c ∷ cs))) (1 + expr_nodes a + sum_by clause_nodes (c ∷ cs)) → expr_depth e ≤ 64 → IsRead a
     → ClausesRead (largest_by clause_depth (c ∷ cs)) (c ∷ cs) → length cs ≤ 7 → 2 * expr_depth e + 7 ≤ room → (f : Front) (rest : Kinds)
-    → kinds_at f ≡ kind.Key keys.Try ∷ (expr_kinds a ++ (kind.Key keys.Handle ∷ (clause_kinds c ++ (listed (mark symbols.Bar) (mark symbols.Bar) clause_kinds cs ++ (kind.Key keys.End ∷ rest)))))
+    → kinds_at f ≡ kind.Key keys.Try ∷ (expr_kinds a ++ (kind.Key keys.Handle ∷ (clause_kinds c ++ (listed_pieces (mark symbols.Bar) (mark symbols.Bar) clause_kinds cs ++ (kind.Key keys.End ∷ rest)))))
     → Took (key_form (expr_to room) room keys.Try f) rest (IsNode e)
 unfolding key_form try_form
 try_took room e a c cs t d most ra r l n f rest h =
-    let ks : Kinds = clause_kinds c ++ (listed (mark symbols.Bar) (mark symbols.Bar) clause_kinds cs ++ (kind.Key keys.End ∷ rest)) in
+    let ks : Kinds = clause_kinds c ++ (listed_pieces (mark symbols.Bar) (mark symbols.Bar) clause_kinds cs ++ (kind.Key keys.End ∷ rest)) in
     then_took _ (take_open room f _ (omega (arith, n)) h) (λ u0 g0 h0 q0.
     then_took _ (level_took a ra room (omega (arith, n, d.depth)) levels.Whole (behind f) (kind.Key keys.Handle ∷ ks) (behind_is f (kind.Key keys.Try) _ h) ends_handle) (λ na g1 h1 q1.
     then_took _ (take_key keys.Handle g1 ks h1) (λ u2 g2 h2 q2.
@@ -124,7 +124,7 @@ try_took room e a c cs t d most ra r l n f rest h =
 
 pub try_read : (e a : Expr) (c : Clause) (cs : List Clause) → x.Try a (c ∷ cs) ≡ e → Measured e (1 + max (expr_depth a) (largest_by clause_depth (c ∷ cs))) (1 + expr_nodes a + sum_by clause_nodes (c ∷ cs)) → expr_depth e ≤ 64 → IsRead a
     → ClausesRead (largest_by clause_depth (c ∷ cs)) (c ∷ cs) → length cs ≤ 7
-    → expr_kinds e ≡ kind.Key keys.Try ∷ (expr_kinds a ++ (kind.Key keys.Handle ∷ (clause_kinds c ++ (listed (mark symbols.Bar) (mark symbols.Bar) clause_kinds cs ++ (kind.Key keys.End ∷ [])))))
+    → expr_kinds e ≡ kind.Key keys.Try ∷ (expr_kinds a ++ (kind.Key keys.Handle ∷ (clause_kinds c ++ (listed_pieces (mark symbols.Bar) (mark symbols.Bar) clause_kinds cs ++ (kind.Key keys.End ∷ [])))))
     → IsRead e
 try_read e a c cs t d most ra r l ks = by_operand e _ _ refl most ks (λ room n f rest h. try_took room e a c cs t d most ra r l n f rest
-    (h ∙ behind_one _ (nest (expr_kinds a) _ rest (behind_one _ (nest (clause_kinds c) _ rest (nest (listed (mark symbols.Bar) (mark symbols.Bar) clause_kinds cs) _ rest refl))))))
+    (h ∙ behind_one _ (nest (expr_kinds a) _ rest (behind_one _ (nest (clause_kinds c) _ rest (nest (listed_pieces (mark symbols.Bar) (mark symbols.Bar) clause_kinds cs) _ rest refl))))))

@@ -20,7 +20,7 @@ use Rattle.plan_grammar.specs.declared.fault.Wanted.TheVariants as wanted
 use Rattle.plan_grammar.specs.Ahead.{Front, Reader, behind, place, is_symbol, is_symbol_kind, is_key_kind}
 use Rattle.plan_grammar.specs.Begins.{simple_type, kind_type, begins_type}
 use Rattle.plan_grammar.specs.Types.{type_or_fault, after_lists, is_list_word, list_words, behind_lists, lists_of, judged_type, tuple_type, group_type, base_type, whole_type, type_to}
-use Rattle.printed_forms.specs.Pieces.{listed}
+use Rattle.printed_forms.specs.Pieces.{listed_pieces}
 use Rattle.text_laws.specs.Lexes.{kinds_of}
 use Rattle.text_laws.specs.PrintedTokens.{Kinds, mark, word, type_kinds_level, type_kinds}
 use Rattle.text_laws.specs.Proper.{base_key, IsProperType, AreProperTypes}
@@ -177,7 +177,7 @@ all_same one begins (x ∷ xs) [] g = absurd g
 
 -- the parts of a tuple type behind the first, and its bracket
 parts_took : (most : ℕ) (x y : Ty) (zs : List Ty) → length (y ∷ zs) ≤ 7 → AllRead (type_to most) begins_type symbols.Star limits.Parts wanted.AType type_kinds same_type FollowsType (y ∷ zs)
-    → (a : Ty) → a ≡ x → (g : Front) (rest : Kinds) → kinds_at g ≡ listed (mark symbols.Star) (mark symbols.Star) type_kinds (y ∷ zs) ++ (kind.Symbol symbols.ParenClose ∷ rest)
+    → (a : Ty) → a ≡ x → (g : Front) (rest : Kinds) → kinds_at g ≡ listed_pieces (mark symbols.Star) (mark symbols.Star) type_kinds (y ∷ zs) ++ (kind.Symbol symbols.ParenClose ∷ rest)
     → (room : ℕ) → Took (tuple_type (type_to most) room a g) rest (same_type (made.Tuple (x ∷ y ∷ zs)))
 unfolding tuple_type
 parts_took most x y zs n r a e g rest h room =
@@ -186,11 +186,11 @@ parts_took most x y zs n r a e g rest h room =
     (λ u k2 h2 q2. took (made.Tuple all) k2 h2 (ap made.Tuple (q.1 ∙ (ap (λ v. v ∷ q.0) e ∙ ap (λ vs. x ∷ vs) (all_same (type_to most) begins_type (y ∷ zs) q.0 q.2))))))
 
 group_took : (room : ℕ) (x y : Ty) (zs : List Ty) → 0 < room → length (y ∷ zs) ≤ 7 → AllRead (type_to room) begins_type symbols.Star limits.Parts wanted.AType type_kinds same_type FollowsType (x ∷ y ∷ zs)
-    → (f : Front) (rest : Kinds) → kinds_at f ≡ kind.Symbol symbols.ParenOpen ∷ (type_kinds x ++ (listed (mark symbols.Star) (mark symbols.Star) type_kinds (y ∷ zs) ++ (kind.Symbol symbols.ParenClose ∷ rest)))
+    → (f : Front) (rest : Kinds) → kinds_at f ≡ kind.Symbol symbols.ParenOpen ∷ (type_kinds x ++ (listed_pieces (mark symbols.Star) (mark symbols.Star) type_kinds (y ∷ zs) ++ (kind.Symbol symbols.ParenClose ∷ rest)))
     → Took (base_type (type_to room) room f) rest (same_type (made.Tuple (x ∷ y ∷ zs)))
 unfolding base_type group_type
 group_took room x y zs n len r f rest h =
-    let tail : Kinds = listed (mark symbols.Star) (mark symbols.Star) type_kinds (y ∷ zs) ++ (kind.Symbol symbols.ParenClose ∷ rest) in
+    let tail : Kinds = listed_pieces (mark symbols.Star) (mark symbols.Star) type_kinds (y ∷ zs) ++ (kind.Symbol symbols.ParenClose ∷ rest) in
     let ks : Kinds = kind.Symbol symbols.ParenOpen ∷ (type_kinds x ++ tail) in
     rw (symbol_is symbols.ParenOpen f ks h)
     (then_took _ (take_open room f ks n h)
@@ -204,9 +204,9 @@ tuple_base t [] o two most room n r m ks f h = absurd (omega (arith, two))
 tuple_base t (x ∷ []) o two most room n r m ks f h = absurd (omega (arith, two))
 tuple_base t (x ∷ y ∷ zs) o two most room n r m ks f h =
     let is : t ≡ made.Tuple (x ∷ y ∷ zs) = sym (roll-out-Ty t) ∙ (ap roll-Ty o ∙ made.rolls-Tuple (x ∷ y ∷ zs)) in
-    let K : type_kinds t ≡ mark symbols.ParenOpen ++ ((type_kinds x ++ listed (mark symbols.Star) (mark symbols.Star) type_kinds (y ∷ zs)) ++ mark symbols.ParenClose) = type_kinds_out t ∙ ap (type_kinds_level type_kinds) o in
+    let K : type_kinds t ≡ mark symbols.ParenOpen ++ ((type_kinds x ++ listed_pieces (mark symbols.Star) (mark symbols.Star) type_kinds (y ∷ zs)) ++ mark symbols.ParenClose) = type_kinds_out t ∙ ap (type_kinds_level type_kinds) o in
     let b = group_took room x y zs n (omega (arith, most)) r f (lists m ++ ks)
-    (h ∙ (ap (λ s. s ++ (lists m ++ ks)) K ∙ ap (λ s. kind.Symbol symbols.ParenOpen ∷ s) (regroup (type_kinds x) (listed (mark symbols.Star) (mark symbols.Star) type_kinds (y ∷ zs)) (kind.Symbol symbols.ParenClose) (lists m ++ ks)))) in
+    (h ∙ (ap (λ s. s ++ (lists m ++ ks)) K ∙ ap (λ s. kind.Symbol symbols.ParenOpen ∷ s) (regroup (type_kinds x) (listed_pieces (mark symbols.Star) (mark symbols.Star) type_kinds (y ∷ zs)) (kind.Symbol symbols.ParenClose) (lists m ++ ks)))) in
     by_took b is
   where
     by_took : Took (base_type (type_to room) room f) (lists m ++ ks) (same_type (made.Tuple (x ∷ y ∷ zs))) → t ≡ made.Tuple (x ∷ y ∷ zs) → BaseTook (base_type (type_to room) room f) m ks t

@@ -25,8 +25,8 @@ use Rattle.plan_grammar.specs.declared.fault.Wanted.TheVariants as wanted
 use Rattle.plan_grammar.specs.Ahead.{Front, Reader, ◌>>=◌, place, behind, next_kind, is_symbol, is_symbol_kind}
 use Rattle.plan_grammar.specs.Types.{opens, more, type_to}
 use Rattle.plan_parser.specs.declared.item.TypedValue.{TypedValue}
-use Rattle.plan_parser.specs.Values.{typed, literal, literal_from, begins_value, tuple_of, list_of, judged_item, fits, tuple_from, tuple, grouped, parens, like, listing, typed_nil, brackets, value_at, value_to, ended, value_of}
-use Rattle.printed_forms.specs.Pieces.{listed}
+use Rattle.plan_parser.specs.Values.{typed_value, literal, literal_from, begins_value, tuple_of, list_of, judged_item, fits, tuple_from, tuple, grouped_value, parens, like, listing, typed_nil, brackets, value_at, value_to, nothing_follows, value_of}
+use Rattle.printed_forms.specs.Pieces.{listed_pieces}
 use Rattle.text_laws.specs.Lexes.{kinds_of}
 use Rattle.text_laws.specs.PrintedTokens.{Kinds, mark, bool_kinds, type_kinds, value_kinds_level, value_kinds}
 use Rattle.text_laws.specs.Proper.{IsReadableType}
@@ -43,8 +43,8 @@ record IsItem (w : Value) (t : Ty) (i : TypedValue) : Type 0 where
   value : i.value ≡ w
   type : i.ty ≡ t
 
-made : (w : Value) (x : Value-F Value Chunk) → out-Value w ≡ x → w ≡ roll-Value x
-made w x o = sym (roll-out-Value w) ∙ ap roll-Value o
+value_is_rolled : (w : Value) (x : Value-F Value Chunk) → out-Value w ≡ x → w ≡ roll-Value x
+value_is_rolled w x o = sym (roll-out-Value w) ∙ ap roll-Value o
 
 kinds_are : (w : Value) (x : Value-F Value Chunk) → out-Value w ≡ x → value_kinds w ≡ value_kinds_level value_kinds x
 kinds_are w x o = value_kinds_out w ∙ ap (value_kinds_level value_kinds) o
@@ -74,20 +74,20 @@ isnt b f w rest h s e = symbol_is b f (s.first ∷ (s.others ++ rest)) (h ∙ ap
 
 -- ---- literals
 
-literal_took : (outside room : ℕ) (w : Value) (t : Ty) (k : TokenKind) (x : Value) → x ≡ w → literal (Some k) ≡ Some (typed x t) → is_symbol_kind symbols.ParenOpen (Some k) ≡ false → is_symbol_kind symbols.BracketOpen (Some k) ≡ false
+literal_took : (outside room : ℕ) (w : Value) (t : Ty) (k : TokenKind) (x : Value) → x ≡ w → literal (Some k) ≡ Some (typed_value x t) → is_symbol_kind symbols.ParenOpen (Some k) ≡ false → is_symbol_kind symbols.BracketOpen (Some k) ≡ false
     → (f : Front) (rest : Kinds) → kinds_at f ≡ k ∷ rest → Took (value_to outside (suc room) f) rest (IsItem w t)
 unfolding value_to value_at
 literal_took outside room w t k x e l p b f rest h =
     rw (symbol_is symbols.ParenOpen f (k ∷ rest) h ∙ p) (rw (symbol_is symbols.BracketOpen f (k ∷ rest) h ∙ b)
-    (took_by (ap (λ o. literal_from f (literal o)) (next_is f (k ∷ rest) h) ∙ ap (literal_from f) l) (took (typed x t) (behind f) (behind_is f k rest h) (record { value = e; type = refl }))))
+    (took_by (ap (λ o. literal_from f (literal o)) (next_is f (k ∷ rest) h) ∙ ap (literal_from f) l) (took (typed_value x t) (behind f) (behind_is f k rest h) (record { value = e; type = refl }))))
 
 some_begins : (o : Option TypedValue) (i : TypedValue) (b c : Bool) → o ≡ Some i → (is_some o || (b || c)) ≡ true
 some_begins o i b c e = rw e refl
 
-literal_read : (outside room : ℕ) (w : Value) (t : Ty) (k : TokenKind) (x : Value) → x ≡ w → literal (Some k) ≡ Some (typed x t) → is_symbol_kind symbols.ParenOpen (Some k) ≡ false → is_symbol_kind symbols.BracketOpen (Some k) ≡ false
+literal_read : (outside room : ℕ) (w : Value) (t : Ty) (k : TokenKind) (x : Value) → x ≡ w → literal (Some k) ≡ Some (typed_value x t) → is_symbol_kind symbols.ParenOpen (Some k) ≡ false → is_symbol_kind symbols.BracketOpen (Some k) ≡ false
     → is_symbol_kind symbols.ParenClose (Some k) ≡ false → is_symbol_kind symbols.Colon (Some k) ≡ false → value_kinds w ≡ k ∷ [] → ValueRead outside (suc room) w t
 literal_read outside room w t k x e l p b c d ks = record {
-  starts = record { first = k; others = []; are = ks; begin = some_begins (literal (Some k)) (typed x t) (is_symbol_kind symbols.ParenOpen (Some k)) (is_symbol_kind symbols.BracketOpen (Some k)) l; paren = c; colon = d };
+  starts = record { first = k; others = []; are = ks; begin = some_begins (literal (Some k)) (typed_value x t) (is_symbol_kind symbols.ParenOpen (Some k)) (is_symbol_kind symbols.BracketOpen (Some k)) l; paren = c; colon = d };
   reads = λ f rest h. literal_took outside room w t k x e l p b f rest (h ∙ ap (λ l. l ++ rest) ks);
 }
 
@@ -104,7 +104,7 @@ unfolding value_to value_at parens
 unit_took outside room w e f rest h =
     let hs : kinds_at (behind f) ≡ kind.Symbol symbols.ParenClose ∷ rest = behind_is f (kind.Symbol symbols.ParenOpen) _ h in
     rw (symbol_is symbols.ParenOpen f _ h) (rw (symbol_is symbols.ParenClose (behind f) _ hs)
-    (took (typed v.Unit ty.Unit) (behind (behind f)) (behind_is (behind f) (kind.Symbol symbols.ParenClose) rest hs) (record { value = e; type = refl })))
+    (took (typed_value v.Unit ty.Unit) (behind (behind f)) (behind_is (behind f) (kind.Symbol symbols.ParenClose) rest hs) (record { value = e; type = refl })))
 
 fits_ok : (room at : ℕ) (t : Ty) → type_depth t ≤ room → fits room at t ≡ Ok tt
 unfolding fits
@@ -152,12 +152,12 @@ all_values one [] (y ∷ ys) g = absurd g
 all_values one (x ∷ xs) [] g = absurd g
 
 listing_took : (outside room : ℕ) (t : Ty) (w : Value) (ws : List Value) → length ws ≤ 62 → ValueRead outside room w t → AllOfType outside room ws t → (f : Front) (rest : Kinds)
-    → kinds_at f ≡ value_kinds w ++ (listed (mark symbols.Comma) (mark symbols.Comma) value_kinds ws ++ (kind.Symbol symbols.BracketClose ∷ rest))
+    → kinds_at f ≡ value_kinds w ++ (listed_pieces (mark symbols.Comma) (mark symbols.Comma) value_kinds ws ++ (kind.Symbol symbols.BracketClose ∷ rest))
     → Took (listing (value_to outside room) outside room f) rest (IsItem (v.List t (w ∷ ws)) (ty.List t))
 unfolding listing
 listing_took outside room t w ws n r rs f rest h =
     let close : Kinds = kind.Symbol symbols.BracketClose ∷ rest in
-    then_took _ (r.reads f (listed (mark symbols.Comma) (mark symbols.Comma) value_kinds ws ++ close) h) (λ i g hg q.
+    then_took _ (r.reads f (listed_pieces (mark symbols.Comma) (mark symbols.Comma) value_kinds ws ++ close) h) (λ i g hg q.
     then_took _ (more_took (like (value_to outside room) outside room i.ty) begins_value symbols.Comma limits.Items wanted.AValue value_kinds same_value anything close refl (λ s. tt) tt ws
     (items_read outside room t ws rs i.ty q.type) 62 n (i.value ∷ []) g hg) (λ all k hk p.
     then_took _ (take_symbol symbols.BracketClose k rest hk) (λ u k2 h2 q2.
@@ -168,11 +168,11 @@ listing_took outside room t w ws n r rs f rest h =
     }))))
 
 list_took : (outside room : ℕ) (t : Ty) (w : Value) (ws : List Value) → 0 < room → length ws ≤ 62 → ValueRead outside room w t → AllOfType outside room ws t → (f : Front) (rest : Kinds)
-    → kinds_at f ≡ kind.Symbol symbols.BracketOpen ∷ (value_kinds w ++ (listed (mark symbols.Comma) (mark symbols.Comma) value_kinds ws ++ (kind.Symbol symbols.BracketClose ∷ rest)))
+    → kinds_at f ≡ kind.Symbol symbols.BracketOpen ∷ (value_kinds w ++ (listed_pieces (mark symbols.Comma) (mark symbols.Comma) value_kinds ws ++ (kind.Symbol symbols.BracketClose ∷ rest)))
     → Took (value_to outside (suc room) f) rest (IsItem (v.List t (w ∷ ws)) (ty.List t))
 unfolding value_to value_at brackets
 list_took outside room t w ws n len r rs f rest h =
-    let tail : Kinds = listed (mark symbols.Comma) (mark symbols.Comma) value_kinds ws ++ (kind.Symbol symbols.BracketClose ∷ rest) in
+    let tail : Kinds = listed_pieces (mark symbols.Comma) (mark symbols.Comma) value_kinds ws ++ (kind.Symbol symbols.BracketClose ∷ rest) in
     let hs : kinds_at (behind f) ≡ value_kinds w ++ tail = behind_is f (kind.Symbol symbols.BracketOpen) _ h in
     rw (symbol_is symbols.ParenOpen f _ h) (rw (symbol_is symbols.BracketOpen f _ h)
     (then_took _ (take_open room f _ n h) (λ u0 g0 h0 q0.
@@ -201,12 +201,12 @@ parts_are one (y ∷ ys) (i ∷ is) g =
 parts_are one [] (i ∷ is) g = absurd g
 parts_are one (y ∷ ys) [] g = absurd g
 
-pairs_listed : (ys : Pairs) → listed (mark symbols.Comma) (mark symbols.Comma) pair_kinds ys ≡ listed (mark symbols.Comma) (mark symbols.Comma) value_kinds (map (λ y. y.0) ys)
+pairs_listed : (ys : Pairs) → listed_pieces (mark symbols.Comma) (mark symbols.Comma) pair_kinds ys ≡ listed_pieces (mark symbols.Comma) (mark symbols.Comma) value_kinds (map (λ y. y.0) ys)
 pairs_listed [] = refl
 pairs_listed (y ∷ ys) = ap (λ s. mark symbols.Comma ++ (value_kinds y.0 ++ s)) (pairs_listed ys)
 
 tuple_from_took : (outside room : ℕ) (a : Value) (t : Ty) (ys : Pairs) → length ys ≤ 7 → PartsRead outside room ys → (i : TypedValue) → IsItem a t i → (g : Front) (rest : Kinds)
-    → kinds_at g ≡ listed (mark symbols.Comma) (mark symbols.Comma) pair_kinds ys ++ (kind.Symbol symbols.ParenClose ∷ rest)
+    → kinds_at g ≡ listed_pieces (mark symbols.Comma) (mark symbols.Comma) pair_kinds ys ++ (kind.Symbol symbols.ParenClose ∷ rest)
     → Took (tuple_from (value_to outside room) outside room i g) rest (IsItem (v.Tuple (a ∷ map (λ y. y.0) ys)) (ty.Tuple (t ∷ map (λ y. y.1) ys)))
 unfolding tuple_from
 tuple_from_took outside room a t ys n rs i p g rest h =
@@ -219,11 +219,11 @@ tuple_from_took outside room a t ys n rs i p g rest h =
     })))
 
 tuple_took : (outside room : ℕ) (a : Value) (t : Ty) (y : Value × Ty) (ys : Pairs) → 0 < room → length (y ∷ ys) ≤ 7 → ValueRead outside room a t → PartsRead outside room (y ∷ ys) → (f : Front) (rest : Kinds)
-    → kinds_at f ≡ kind.Symbol symbols.ParenOpen ∷ (value_kinds a ++ (listed (mark symbols.Comma) (mark symbols.Comma) pair_kinds (y ∷ ys) ++ (kind.Symbol symbols.ParenClose ∷ rest)))
+    → kinds_at f ≡ kind.Symbol symbols.ParenOpen ∷ (value_kinds a ++ (listed_pieces (mark symbols.Comma) (mark symbols.Comma) pair_kinds (y ∷ ys) ++ (kind.Symbol symbols.ParenClose ∷ rest)))
     → Took (value_to outside (suc room) f) rest (IsItem (v.Tuple (a ∷ map (λ y. y.0) (y ∷ ys))) (ty.Tuple (t ∷ map (λ y. y.1) (y ∷ ys))))
-unfolding value_to value_at parens grouped tuple
+unfolding value_to value_at parens grouped_value tuple
 tuple_took outside room a t y ys n len r rs f rest h =
-    let tail : Kinds = listed (mark symbols.Comma) (mark symbols.Comma) pair_kinds (y ∷ ys) ++ (kind.Symbol symbols.ParenClose ∷ rest) in
+    let tail : Kinds = listed_pieces (mark symbols.Comma) (mark symbols.Comma) pair_kinds (y ∷ ys) ++ (kind.Symbol symbols.ParenClose ∷ rest) in
     let hs : kinds_at (behind f) ≡ value_kinds a ++ tail = behind_is f (kind.Symbol symbols.ParenOpen) _ h in
     rw (symbol_is symbols.ParenOpen f _ h) (rw (isnt symbols.ParenClose (behind f) a tail hs r.starts r.starts.paren) (rw (begins_is (behind f) a tail hs r.starts) (rw (not_zero room n)
     (then_took _ (r.reads (behind f) tail hs) (λ i g hg q. rw (symbol_is symbols.Comma g tail hg) (tuple_from_took outside room a t (y ∷ ys) len rs i q g rest hg))))))
@@ -249,23 +249,23 @@ nil_read outside room few w t e n p d ks = record {
 }
 
 list_read : (outside room : ℕ) (w : Value) (t : Ty) (a : Value) (ws : List Value) → v.List t (a ∷ ws) ≡ w → 0 < room → length ws ≤ 62 → ValueRead outside room a t → AllOfType outside room ws t
-    → value_kinds w ≡ kind.Symbol symbols.BracketOpen ∷ ((value_kinds a ++ listed (mark symbols.Comma) (mark symbols.Comma) value_kinds ws) ++ (kind.Symbol symbols.BracketClose ∷ []))
+    → value_kinds w ≡ kind.Symbol symbols.BracketOpen ∷ ((value_kinds a ++ listed_pieces (mark symbols.Comma) (mark symbols.Comma) value_kinds ws) ++ (kind.Symbol symbols.BracketClose ∷ []))
     → ValueRead outside (suc room) w (ty.List t)
 list_read outside room w t a ws e n len r rs ks = record {
   starts = square_starts (value_kinds w) _ ks;
   reads = λ f rest h. weaker (list_took outside room t a ws n len r rs f rest
-      (h ∙ (ap (λ l. l ++ rest) ks ∙ behind_one _ (regroup (value_kinds a) (listed (mark symbols.Comma) (mark symbols.Comma) value_kinds ws) (kind.Symbol symbols.BracketClose) rest))))
+      (h ∙ (ap (λ l. l ++ rest) ks ∙ behind_one _ (regroup (value_kinds a) (listed_pieces (mark symbols.Comma) (mark symbols.Comma) value_kinds ws) (kind.Symbol symbols.BracketClose) rest))))
       (λ i q. record { value = q.value ∙ e; type = q.type });
 }
 
 tuple_read : (outside room : ℕ) (w : Value) (t : Ty) (a : Value) (y : Value × Ty) (ys : Pairs) → v.Tuple (a ∷ map (λ y. y.0) (y ∷ ys)) ≡ w → 0 < room → length (y ∷ ys) ≤ 7
     → ValueRead outside room a t → PartsRead outside room (y ∷ ys)
-    → value_kinds w ≡ kind.Symbol symbols.ParenOpen ∷ ((value_kinds a ++ listed (mark symbols.Comma) (mark symbols.Comma) value_kinds (map (λ y. y.0) (y ∷ ys))) ++ (kind.Symbol symbols.ParenClose ∷ []))
+    → value_kinds w ≡ kind.Symbol symbols.ParenOpen ∷ ((value_kinds a ++ listed_pieces (mark symbols.Comma) (mark symbols.Comma) value_kinds (map (λ y. y.0) (y ∷ ys))) ++ (kind.Symbol symbols.ParenClose ∷ []))
     → ValueRead outside (suc room) w (ty.Tuple (t ∷ map (λ y. y.1) (y ∷ ys)))
 tuple_read outside room w t a y ys e n len r rs ks = record {
   starts = paren_starts (value_kinds w) _ ks;
   reads = λ f rest h. weaker (tuple_took outside room a t y ys n len r rs f rest
-      (h ∙ (ap (λ l. l ++ rest) ks ∙ behind_one _ (regroup (value_kinds a) (listed (mark symbols.Comma) (mark symbols.Comma) value_kinds (map (λ y. y.0) (y ∷ ys))) (kind.Symbol symbols.ParenClose) rest
+      (h ∙ (ap (λ l. l ++ rest) ks ∙ behind_one _ (regroup (value_kinds a) (listed_pieces (mark symbols.Comma) (mark symbols.Comma) value_kinds (map (λ y. y.0) (y ∷ ys))) (kind.Symbol symbols.ParenClose) rest
       ∙ ap (λ s. value_kinds a ++ (s ++ (kind.Symbol symbols.ParenClose ∷ rest))) (sym (pairs_listed (y ∷ ys)))))))
       (λ i q. record { value = q.value ∙ e; type = q.type });
 }
@@ -287,29 +287,29 @@ one_more outside room w vs t ts r p = record {
 
 parts_read : (outside room : ℕ) (w a : Value) (b : Value) (vs : List Value) (t u : Ty) (ts : List Ty) → v.Tuple (a ∷ b ∷ vs) ≡ w → 0 < room → length vs ≤ 6
     → ValueRead outside room a t → ValueRead outside room b u → Parts outside room vs ts
-    → value_kinds w ≡ kind.Symbol symbols.ParenOpen ∷ ((value_kinds a ++ listed (mark symbols.Comma) (mark symbols.Comma) value_kinds (b ∷ vs)) ++ (kind.Symbol symbols.ParenClose ∷ []))
+    → value_kinds w ≡ kind.Symbol symbols.ParenOpen ∷ ((value_kinds a ++ listed_pieces (mark symbols.Comma) (mark symbols.Comma) value_kinds (b ∷ vs)) ++ (kind.Symbol symbols.ParenClose ∷ []))
     → ValueRead outside (suc room) w (ty.Tuple (t ∷ u ∷ ts))
 parts_read outside room w a b vs t u ts e n len ra rb p ks =
     subst (λ us. ValueRead outside (suc room) w (ty.Tuple (t ∷ u ∷ us))) p.types
     (tuple_read outside room w t a (b, u) p.pairs (ap (λ ws. v.Tuple (a ∷ b ∷ ws)) p.values ∙ e) n (let m = sym (length-map p.pairs (λ y. y.0)) ∙ ap length p.values in omega (arith, m, len)) ra
     ((λ f rest h _. rb.reads f rest h), p.read)
-    (ks ∙ ap (λ ws. kind.Symbol symbols.ParenOpen ∷ ((value_kinds a ++ listed (mark symbols.Comma) (mark symbols.Comma) value_kinds (b ∷ ws)) ++ (kind.Symbol symbols.ParenClose ∷ []))) (sym p.values)))
+    (ks ∙ ap (λ ws. kind.Symbol symbols.ParenOpen ∷ ((value_kinds a ++ listed_pieces (mark symbols.Comma) (mark symbols.Comma) value_kinds (b ∷ ws)) ++ (kind.Symbol symbols.ParenClose ∷ []))) (sym p.values)))
 
 mutual
   value_reads : {room : ℕ} {w : Value} {t : Ty} → IsReadable room w t → (outside : ℕ) → outside ≤ 1 → ValueRead outside room w t
-  value_reads {w = w} (R.unit o) outside few = unit_read outside _ w (sym (made w _ o ∙ v.rolls-Unit)) (kinds_are w _ o)
-  value_reads {w = w} (R.bool b o) outside few = bool_read outside _ w b (sym (made w _ o ∙ v.rolls-Bool b)) (kinds_are w _ o)
-  value_reads {w = w} (R.int z o) outside few = literal_read outside _ w ty.Int (kind.Int z) (v.Int z) (sym (made w _ o ∙ v.rolls-Int z)) refl refl refl refl refl (kinds_are w _ o)
-  value_reads {w = w} (R.char c o) outside few = literal_read outside _ w ty.Char (kind.Char c) (v.Char c) (sym (made w _ o ∙ v.rolls-Char c)) refl refl refl refl refl (kinds_are w _ o)
-  value_reads {w = w} (R.str s o) outside few = literal_read outside _ w ty.Str (kind.Str s) (v.Str s) (sym (made w _ o ∙ v.rolls-Str s)) refl refl refl refl refl (kinds_are w _ o)
-  value_reads {w = w} (R.blob b o) outside few = literal_read outside _ w ty.Blob (kind.Blob b) (v.Blob b) (sym (made w _ o ∙ v.rolls-Blob b)) refl refl refl refl refl (kinds_are w _ o)
-  value_reads {w = w} (R.host h o) outside few = literal_read outside _ w ty.Host (kind.Host h.0) (v.Host h) (sym (made w _ o ∙ v.rolls-Host h)) refl refl refl refl refl (kinds_are w _ o)
-  value_reads {w = w} (R.dev d o) outside few = literal_read outside _ w ty.Dev (kind.Dev d.0) (v.Dev d) (sym (made w _ o ∙ v.rolls-Dev d)) refl refl refl refl refl (kinds_are w _ o)
-  value_reads {w = w} (R.nil t o n p d) outside few = nil_read outside _ few w t (sym (made w _ o ∙ v.rolls-List t [])) n p d (kinds_are w _ o)
+  value_reads {w = w} (R.unit o) outside few = unit_read outside _ w (sym (value_is_rolled w _ o ∙ v.rolls-Unit)) (kinds_are w _ o)
+  value_reads {w = w} (R.bool b o) outside few = bool_read outside _ w b (sym (value_is_rolled w _ o ∙ v.rolls-Bool b)) (kinds_are w _ o)
+  value_reads {w = w} (R.int z o) outside few = literal_read outside _ w ty.Int (kind.Int z) (v.Int z) (sym (value_is_rolled w _ o ∙ v.rolls-Int z)) refl refl refl refl refl (kinds_are w _ o)
+  value_reads {w = w} (R.char c o) outside few = literal_read outside _ w ty.Char (kind.Char c) (v.Char c) (sym (value_is_rolled w _ o ∙ v.rolls-Char c)) refl refl refl refl refl (kinds_are w _ o)
+  value_reads {w = w} (R.str s o) outside few = literal_read outside _ w ty.Str (kind.Str s) (v.Str s) (sym (value_is_rolled w _ o ∙ v.rolls-Str s)) refl refl refl refl refl (kinds_are w _ o)
+  value_reads {w = w} (R.blob b o) outside few = literal_read outside _ w ty.Blob (kind.Blob b) (v.Blob b) (sym (value_is_rolled w _ o ∙ v.rolls-Blob b)) refl refl refl refl refl (kinds_are w _ o)
+  value_reads {w = w} (R.host h o) outside few = literal_read outside _ w ty.Host (kind.Host h.0) (v.Host h) (sym (value_is_rolled w _ o ∙ v.rolls-Host h)) refl refl refl refl refl (kinds_are w _ o)
+  value_reads {w = w} (R.dev d o) outside few = literal_read outside _ w ty.Dev (kind.Dev d.0) (v.Dev d) (sym (value_is_rolled w _ o ∙ v.rolls-Dev d)) refl refl refl refl refl (kinds_are w _ o)
+  value_reads {w = w} (R.nil t o n p d) outside few = nil_read outside _ few w t (sym (value_is_rolled w _ o ∙ v.rolls-List t [])) n p d (kinds_are w _ o)
   value_reads {w = w} (R.list t a ws o n len p ps) outside few =
-      list_read outside _ w t a ws (sym (made w _ o ∙ v.rolls-List t (a ∷ ws))) n len (value_reads p outside few) (items_are ps outside few) (kinds_are w _ o)
+      list_read outside _ w t a ws (sym (value_is_rolled w _ o ∙ v.rolls-List t (a ∷ ws))) n len (value_reads p outside few) (items_are ps outside few) (kinds_are w _ o)
   value_reads {w = w} (R.tuple a b vs t u ts o n len p q ps) outside few =
-      parts_read outside _ w a b vs t u ts (sym (made w _ o ∙ v.rolls-Tuple (a ∷ b ∷ vs))) n len (value_reads p outside few) (value_reads q outside few) (parts_of ps outside few) (kinds_are w _ o)
+      parts_read outside _ w a b vs t u ts (sym (value_is_rolled w _ o ∙ v.rolls-Tuple (a ∷ b ∷ vs))) n len (value_reads p outside few) (value_reads q outside few) (parts_of ps outside few) (kinds_are w _ o)
 
   items_are : {room : ℕ} {ws : List Value} {t : Ty} → AreOfType room ws t → (outside : ℕ) → outside ≤ 1 → AllOfType outside room ws t
   items_are O.no_items outside few = tt
@@ -321,7 +321,7 @@ mutual
 
 -- the tokens of a readable value are that value, and nothing follows
 pub value_again : (w : Value) (t : Ty) (ts : List Token) (end : ℕ) → IsReadable 8 w t → kinds_of ts ≡ value_kinds w → value_of ts end ≡ Ok w
-unfolding value_of ended
+unfolding value_of nothing_follows
 value_again w t ts end r h =
     let k = (value_reads r 0 (omega arith)).reads (record { tokens = ts; end = end }) [] (h ∙ sym (append-nil (value_kinds w))) in
     let none : length k.rest.tokens ≡ 0 = none_left k.rest.tokens k.left in

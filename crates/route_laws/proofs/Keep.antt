@@ -9,7 +9,7 @@ use Rattle.service_api.specs.declared.advert.Advert.{Advert}
 use Rattle.dv_routing.specs.Routing.{Routing, cost, own_advert}
 use Rattle.dv_routing.specs.Laws.{NoRise}
 use Rattle.dv_routing.proofs.Rises.{no_rise_self, cost_rises}
-use Rattle.route_laws.specs.Network.{Wiring, RouteFrame, Parcel, Told, Node, Network, routing_of, routings, IsAt, with_node, with_queue, queued, heard_by, Moves, Routed, Handed, Tells, Sent, Hears, Leaves, Goes, Stays, Then}
+use Rattle.route_laws.specs.Network.{Wiring, RouteFrame, Parcel, Told, Node, Network, routing_of, routings, IsAt, with_node, with_queue, queued_frame, heard_by, Moves, Routed, Handed, Tells, Sent, Hears, Leaves, Goes, Stays, Then}
 use Rattle.route_laws.specs.Truths.{NoneRises, RowTrue, AdvertTrue, FrameTrue, QueuesTrue, NodeHolds, RoutesHold}
 use Rattle.route_laws.proofs.Lookups.{get_set, all_get, all_remove, none_rises_self, none_rises_over, rises_set, routings_set, routings_get}
 use Rattle.route_laws.proofs.Truth.{frame_rises, node_rises, same_end, parcel_true, neighbour_true, advert_true}
@@ -33,8 +33,8 @@ set_rises : (w : Network) (at : ℕ) (old node : Node) → slice_get w.nodes at 
 set_rises w at old node place here less =
     subst (NoneRises (routings w)) (sym (routings_set w at node)) (rises_set (routings w) at old.routing node.routing (routings_get w.nodes at old place) here less)
 
-held : (far : Wiring) (w : Network) (at : ℕ) (node : Node) → RoutesHold far w → IsAt w at node → NodeHolds far (routings w) node
-held far w at node h p = all_get (NodeHolds far (routings w)) w.nodes at node h.nodes p.place
+node_holds_routes : (far : Wiring) (w : Network) (at : ℕ) (node : Node) → RoutesHold far w → IsAt w at node → NodeHolds far (routings w) node
+node_holds_routes far w at node h p = all_get (NodeHolds far (routings w)) w.nodes at node h.nodes p.place
 
 -- a queue that is true where its device leads
 queue_set : (far : Wiring) (rs : List Routing) (n : Host) (queues : List (List RouteFrame)) (d : Dev) (queue : List RouteFrame) → QueuesTrue far rs n queues
@@ -57,10 +57,10 @@ with_queue_holds far rs node d queue h new = record {
 -- a frame more, which is true where its device leads
 queued_holds : (far : Wiring) (w : Network) (at : ℕ) (node : Node) (d : Dev) (queue : List RouteFrame) (frame : RouteFrame) → RoutesHold far w → IsAt w at node
     → slice_get node.queues d.0 ≡ Some queue → ((end : Host × Dev) → far node.routing.here d ≡ Some end → FrameTrue (routings w) end.0 frame)
-    → RoutesHold far (with_node w at (queued node d queue frame))
+    → RoutesHold far (with_node w at (queued_frame node d queue frame))
 queued_holds far w at node d queue frame h p get true =
-    let n = held far w at node h p in
-    set_holds far w at node (queued node d queue frame) w.wire h p.place refl (λ x. no_rise_self (cost node.routing x))
+    let n = node_holds_routes far w at node h p in
+    set_holds far w at node (queued_frame node d queue frame) w.wire h p.place refl (λ x. no_rise_self (cost node.routing x))
     (with_queue_holds far (routings w) node d (queue ++ frame ∷ []) n
     (λ end leads. All-push (FrameTrue (routings w) end.0) queue frame (n.queues d queue end get leads) (true end leads)))
     h.wire
@@ -88,27 +88,27 @@ heard_holds far rs node d a h true among = record {
 
 pub move_keeps : (far : Wiring) (v w : Network) → RoutesHold far v → Moves far v w → RoutesHold far w
 move_keeps far v w h (Routed u at node x row queue p r get) =
-    queued_holds far u at node row.dev queue (Parcel x) h p get (λ end leads. parcel_true far (routings u) node x row end (held far u at node h p) p.first r leads)
+    queued_holds far u at node row.dev queue (Parcel x) h p get (λ end leads. parcel_true far (routings u) node x row end (node_holds_routes far u at node h p) p.first r leads)
 move_keeps far v w h (Handed u at node m d queue p among get) =
-    queued_holds far u at node d queue (Parcel m) h p get (λ end leads. neighbour_true far (routings u) node m d end (held far u at node h p) among leads)
+    queued_holds far u at node d queue (Parcel m) h p get (λ end leads. neighbour_true far (routings u) node m d end (node_holds_routes far u at node h p) among leads)
 move_keeps far v w h (Tells u at node m d queue p among get) =
     queued_holds far u at node d queue (Told (own_advert node.routing)) h p get (λ end leads. advert_true (routings u) node.routing p.first)
 move_keeps far v w h (Sent u at node d frame queue end p get leads) =
-    let n = held far u at node h p in
+    let n = node_holds_routes far u at node h p in
     set_holds far u at node (with_queue node d queue) (u.wire ++ (end, frame) ∷ []) h p.place refl (λ x. no_rise_self (cost node.routing x))
     (with_queue_holds far (routings u) node d queue n (λ e k. All-tail (FrameTrue (routings u) e.0) frame queue (n.queues d (frame ∷ queue) e get k)))
     (All-push (λ x. FrameTrue (routings u) x.0.0 x.1) u.wire (end, frame) h.wire
     (All-head (FrameTrue (routings u) end.0) frame queue (n.queues d (frame ∷ queue) end get leads)))
 move_keeps far v w h (Hears u at node d a p on among) =
     let told : AdvertTrue (routings u) a = All-contains (λ x. FrameTrue (routings u) x.0.0 x.1) u.wire ((node.routing.here, d), Told a) h.wire on in
-    set_holds far u at node (heard_by node d a) u.wire h p.place refl (cost_rises node.routing d a) (heard_holds far (routings u) node d a (held far u at node h p) told among) h.wire
+    set_holds far u at node (heard_by node d a) u.wire h p.place refl (cost_rises node.routing d a) (heard_holds far (routings u) node d a (node_holds_routes far u at node h p) told among) h.wire
 move_keeps far v w h (Leaves u place) = record { nodes = h.nodes; wire = all_remove (λ x. FrameTrue (routings u) x.0.0 x.1) u.wire place h.wire }
 
 pub move_rises : (far : Wiring) (v w : Network) → Moves far v w → NoneRises (routings v) (routings w)
-move_rises far v w (Routed u at node x row queue p r get) = set_rises u at node (queued node row.dev queue (Parcel x)) p.place refl (λ y. no_rise_self (cost node.routing y))
-move_rises far v w (Handed u at node m d queue p among get) = set_rises u at node (queued node d queue (Parcel m)) p.place refl (λ y. no_rise_self (cost node.routing y))
+move_rises far v w (Routed u at node x row queue p r get) = set_rises u at node (queued_frame node row.dev queue (Parcel x)) p.place refl (λ y. no_rise_self (cost node.routing y))
+move_rises far v w (Handed u at node m d queue p among get) = set_rises u at node (queued_frame node d queue (Parcel m)) p.place refl (λ y. no_rise_self (cost node.routing y))
 move_rises far v w (Tells u at node m d queue p among get) =
-    set_rises u at node (queued node d queue (Told (own_advert node.routing))) p.place refl (λ y. no_rise_self (cost node.routing y))
+    set_rises u at node (queued_frame node d queue (Told (own_advert node.routing))) p.place refl (λ y. no_rise_self (cost node.routing y))
 move_rises far v w (Sent u at node d frame queue end p get leads) = set_rises u at node (with_queue node d queue) p.place refl (λ y. no_rise_self (cost node.routing y))
 move_rises far v w (Hears u at node d a p on among) = set_rises u at node (heard_by node d a) p.place refl (cost_rises node.routing d a)
 move_rises far v w (Leaves u place) = none_rises_self (routings u)

@@ -60,8 +60,8 @@ abbrev pub with_queue : Node → Dev → List RouteFrame → Node
 with_queue node d queue = record { routing = node.routing; queues = slice_set node.queues d.0 queue }
 
 -- with a frame more on a device
-abbrev pub queued : Node → Dev → List RouteFrame → RouteFrame → Node
-queued node d queue frame = with_queue node d (queue ++ frame ∷ [])
+abbrev pub queued_frame : Node → Dev → List RouteFrame → RouteFrame → Node
+queued_frame node d queue frame = with_queue node d (queue ++ frame ∷ [])
 
 abbrev pub heard_by : Node → Dev → Advert → Node
 heard_by node d a = record { routing = hears node.routing d a; queues = node.queues }
@@ -71,11 +71,11 @@ heard_by node d a = record { routing = hears node.routing d a; queues = node.que
 -- neighbour's; a frame leaves the wire.
 pub data Moves (far : Wiring) : Network → Network → Type 0 where
   Routed : (w : Network) (at : ℕ) (node : Node) (x : Host) (row : RouteRow) (queue : List RouteFrame) → IsAt w at node → route node.routing x ≡ Some row
-      → slice_get node.queues row.dev.0 ≡ Some queue → Moves far w (with_node w at (queued node row.dev queue (Parcel x)))
+      → slice_get node.queues row.dev.0 ≡ Some queue → Moves far w (with_node w at (queued_frame node row.dev queue (Parcel x)))
   Handed : (w : Network) (at : ℕ) (node : Node) (m : Host) (d : Dev) (queue : List RouteFrame) → IsAt w at node → Contains node.routing.neighbours (m, d)
-      → slice_get node.queues d.0 ≡ Some queue → Moves far w (with_node w at (queued node d queue (Parcel m)))
+      → slice_get node.queues d.0 ≡ Some queue → Moves far w (with_node w at (queued_frame node d queue (Parcel m)))
   Tells : (w : Network) (at : ℕ) (node : Node) (m : Host) (d : Dev) (queue : List RouteFrame) → IsAt w at node → Contains node.routing.neighbours (m, d)
-      → slice_get node.queues d.0 ≡ Some queue → Moves far w (with_node w at (queued node d queue (Told (own_advert node.routing))))
+      → slice_get node.queues d.0 ≡ Some queue → Moves far w (with_node w at (queued_frame node d queue (Told (own_advert node.routing))))
   Sent : (w : Network) (at : ℕ) (node : Node) (d : Dev) (frame : RouteFrame) (queue : List RouteFrame) (end : Host × Dev) → IsAt w at node
       → slice_get node.queues d.0 ≡ Some (frame ∷ queue) → far node.routing.here d ≡ Some end
       → Moves far w (record { nodes = slice_set w.nodes at (with_queue node d queue); wire = w.wire ++ (end, frame) ∷ [] })

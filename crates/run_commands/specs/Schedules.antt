@@ -7,7 +7,7 @@ use Rattle.line_files.specs.declared.fault.LineFault.{LineFault}
 use Rattle.line_files.specs.declared.fault.LineFault.TheVariants as faults
 use Rattle.schedule_text.specs.Schedules.{schedule_of}
 use Rattle.node_files.specs.Logs.{log_of}
-use Rattle.serve_model.specs.Runs.{played}
+use Rattle.serve_model.specs.Runs.{played_entries}
 use Rattle.serve_model.specs.Texts.{whole_trace}
 use Rattle.log_replay.specs.Nodes.{log_node}
 use Rattle.world_model.specs.World.{opening}
@@ -52,7 +52,7 @@ replay_text s = run_text s.frames s.events (opening s.topology)
 
 -- the trace of a log: its steps once more, at that node
 abbrev pub log_trace : Log → List ℕ
-log_trace l = whole_trace l.node.here (played 0 (log_node l) l.events)
+log_trace l = whole_trace l.node.here (played_entries 0 (log_node l) l.events)
 
 -- what was read of a file says; a definition never wants memory
 abbrev pub run_said : Result Replayed LineFault → Said (List ℕ)

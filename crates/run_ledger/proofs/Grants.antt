@@ -22,7 +22,7 @@ use Rattle.spelled_frame.specs.Spelled.{what_of}
 use Rattle.node_model.specs.declared.acts.Act.{Act}
 use Rattle.node_model.specs.declared.acts.Act.TheVariants.{Injected, Arrived, Asked, Noted, Ended, Handled, Queued, Dropped, Bad, Misplaced, AdvertQueued, AdvertDropped, AdvertSpent, Stale, Heard, Ticked, Taken, SerialsSpent, NoMemory}
 use Rattle.node_model.specs.State.{NodeState}
-use Rattle.node_model.specs.Node.{NodeStep, stepped, visited, next_serial, injected_packet, inject_step, stamped_step, arrive_step, tick_step, take_step}
+use Rattle.node_model.specs.Node.{NodeStep, stepped_node, visit_step, next_serial, injected_packet, inject_step, stamped_step, arrive_step, tick_step, take_step}
 use Rattle.node_model.specs.Counts.{only, is_family, act_sum, act_injections}
 use Rattle.node_laws.proofs.CountLaws.{act_sum-nil, act_sum-cons, only-le}
 use Rattle.node_laws.proofs.Staying.{StepStays, visited_stays, stamped_stays, arrive_stays, tick_stays, take_stays}
@@ -34,7 +34,7 @@ use Rattle.world_model.specs.declared.lines.Entry.{Entry}
 use Rattle.world_model.specs.declared.lines.Wired.{Wired}
 use Rattle.world_model.specs.declared.lines.Handing.{Handing}
 use Rattle.world_model.specs.declared.lines.Handing.TheVariants.{Taking, Leaving}
-use Rattle.world_model.specs.World.{WorldState, EventResult, nothing, lines_at, step_at, step_place, steps, none_before, forged_frame, forged, forged_at, send_taken, send_at, send_over, send_place, sends, place_of, far_end, wire_place, hand_line, hand_at, hand_to, hand_frame, hand_place, hands, lose_frame, lose_place, loses, acted, happens, entries, history_of}
+use Rattle.world_model.specs.World.{WorldState, EventResult, nothing, lines_at, step_at, step_place, steps, none_before, forged_frame, forged_lines, forged_at, send_taken, send_at, send_over, send_place, sends, place_of, far_end, wire_place, hand_line, hand_at, hand_to, hand_frame, hand_place, hands, lose_frame, lose_place, loses, acted_event, happens, entries, history_of}
 use Rattle.world_model.specs.Counts.{line_sum, line_forged, tally}
 use Rattle.world_model.specs.Sound.{event_fits, EventsFit}
 use Rattle.network_laws.proofs.CountLaws.{line_sum-nil, line_sum-cons, line_sum-one, line_sum-append, line_sum-at, tally-nil, tally-cons, tally-append, tally-entries}
@@ -140,12 +140,12 @@ gives_one f node step s =
     as_much _ _ _ _ law (here ∙ serial)
 
 inject_cases : (t : Bool) (h : Host) (node : NodeState) (chunk : Chunk) (bound : ℕ) (handler : Option Name)
-    → ((f : Family) → StepGives f node (cond t (stepped ([] ++ SerialsSpent ∷ []) None node) (visited ([] ++ Injected (record { source = node.here; serial = node.serial }) bound ∷ []) (next_serial node) (injected_packet node chunk bound handler))))
-    → step_grants h (cond t (stepped ([] ++ SerialsSpent ∷ []) None node) (visited ([] ++ Injected (record { source = node.here; serial = node.serial }) bound ∷ []) (next_serial node) (injected_packet node chunk bound handler))) ≤ 1
+    → ((f : Family) → StepGives f node (cond t (stepped_node ([] ++ SerialsSpent ∷ []) None node) (visit_step ([] ++ Injected (record { source = node.here; serial = node.serial }) bound ∷ []) (next_serial node) (injected_packet node chunk bound handler))))
+    → step_grants h (cond t (stepped_node ([] ++ SerialsSpent ∷ []) None node) (visit_step ([] ++ Injected (record { source = node.here; serial = node.serial }) bound ∷ []) (next_serial node) (injected_packet node chunk bound handler))) ≤ 1
 inject_cases true h node chunk bound handler g = omega (arith, act_sum-cons (act_grants h) SerialsSpent [], act_sum-nil (act_grants h))
 inject_cases false h node chunk bound handler g =
     let own : Family = record { source = node.here; serial = node.serial } in
-    let step = visited (Injected own bound ∷ []) (next_serial node) (injected_packet node chunk bound handler) in
+    let step = visit_step (Injected own bound ∷ []) (next_serial node) (injected_packet node chunk bound handler) in
     let s = visited_stays (Injected own bound ∷ []) (next_serial node) (injected_packet node chunk bound handler) in
     let each : (f : Family) → act_sum (act_injections f) step.acts ≤ only f own 1 = λ f. omega (arith, (g f).once, gives_one f node step s) in
     let mine = each own in
@@ -189,7 +189,7 @@ frame_once h (PlainFrame.Packet p) = omega (arith, line_sum-one line_grants (For
 frame_once h (PlainFrame.Advert a) = omega (arith, line_sum-nil line_grants)
 frame_once h (PlainFrame.Ask bound chunk) = omega (arith, line_sum-nil line_grants)
 
-forged_once : (h : Host) (r : Result PlainStamped FrameFault) → line_sum line_grants (forged h r) ≤ 1
+forged_once : (h : Host) (r : Result PlainStamped FrameFault) → line_sum line_grants (forged_lines h r) ≤ 1
 forged_once h (Ok x) = frame_once h x.frame
 forged_once h (Err e) = omega (arith, line_sum-nil line_grants)
 
@@ -269,7 +269,7 @@ loses_once : (w : WorldState) (number : ℕ) → GrantsOnce (loses w number)
 unfolding loses
 loses_once w number = lose_place_once w (wire_place w.wire number)
 
-acted_once : (v : Version) (w : WorldState) (e : WorldEvent) → event_fits v e → GrantsOnce (acted w e)
+acted_once : (v : Version) (w : WorldState) (e : WorldEvent) → event_fits v e → GrantsOnce (acted_event w e)
 acted_once v w (Inject h chunk bound handler) b =
     steps_once w h none_before (λ node. inject_step [] node chunk bound handler) (λ node. omega (arith, line_sum-nil line_grants, inject_one h node chunk bound handler b.0.0))
 acted_once v w (Send h d) b = sends_once w h d

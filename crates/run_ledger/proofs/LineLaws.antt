@@ -8,7 +8,7 @@ use Rattle.std.proofs.lemmas.List.Folds.{fold-map}
 use Rattle.plan_base.specs.declared.ids.Host.{Host}
 use Rattle.plan_base.specs.declared.ids.Family.{Family}
 use Rattle.bound_ledger.specs.declared.row.Row.{Row}
-use Rattle.bound_ledger.specs.Counts.{nothing, more, hopped, paid, quit}
+use Rattle.bound_ledger.specs.Counts.{nothing, more, hop_paid, paid, quit}
 use Rattle.bound_ledger.specs.Rows.{FamilyRow, same_family, families_in, row_of, counts_of, changed_rows, with_grant}
 use Rattle.bound_ledger.proofs.RowLaws.{same_is, same_self, counts_own, counts_other, counts_none, grant_own, grant_other, families_changed, families_granted, length_granted}
 use Rattle.spelled_frame.specs.declared.spelled.What.TheVariants as what
@@ -55,7 +55,7 @@ moved_moved a b c x y z r =
     let q : r.left + c + z ≡ r.left + (c + z) = omega arith in
     λ i. record { granted = r.granted; hops = h i; evals = e i; live = l i; left = q i }
 
-hopped_is : (r : Row) → hopped r ≡ moved_row 1 0 0 r
+hopped_is : (r : Row) → hop_paid r ≡ moved_row 1 0 0 r
 hopped_is r =
     let e : r.evals ≡ r.evals + 0 = omega arith in
     let l : r.live - 1 ≡ r.live - (1 + 0 + 0) = omega arith in
@@ -106,8 +106,8 @@ moved_as move a b c is f g rows none = moved_cases move a b c is (same_family f 
 none_live : (f : Family) (rows : List FamilyRow) → row_of f rows ≡ None → (counts_of f rows).live ≡ 0
 none_live f rows h = ap (λ r. r.live) (counts_none f rows h)
 
-hop_as : (f g : Family) (rows : List FamilyRow) → 1 ≤ (counts_of g rows).live → counts_of f (changed_rows hopped g rows) ≡ moved_row (only f g 1) (only f g 0) (only f g 0) (counts_of f rows)
-hop_as f g rows h = moved_as hopped 1 0 0 hopped_is f g rows (λ n. absurd (omega (arith, none_live g rows n)))
+hop_as : (f g : Family) (rows : List FamilyRow) → 1 ≤ (counts_of g rows).live → counts_of f (changed_rows hop_paid g rows) ≡ moved_row (only f g 1) (only f g 0) (only f g 0) (counts_of f rows)
+hop_as f g rows h = moved_as hop_paid 1 0 0 hopped_is f g rows (λ n. absurd (omega (arith, none_live g rows n)))
 
 zero_paid : (n : ℕ) → n ≡ 0 → paid n nothing ≡ nothing
 zero_paid n e = ap (λ x. paid x nothing) e
@@ -262,7 +262,7 @@ families_late false g bound rows = families_changed (quit bound) g rows
 
 line_does_move : (late : Bool) (rows : List FamilyRow) (l : Line) → CanMove late rows l → Moves late rows l
 line_does_move late rows (At h (Queued d g bound)) c = record {
-  families = families_changed hopped g rows;
+  families = families_changed hop_paid g rows;
   counts = λ f. hop_as f g rows c ∙ (λ i. moved_row (only f g 1) (only_zero f g i) ((only_zero f g ∙ sym (unstale late 0)) i) (counts_of f rows));
 }
 line_does_move late rows (At h (Ended g o evals rest)) c = record {

@@ -15,7 +15,7 @@ use Rattle.world_model.specs.declared.lines.Line.{Line}
 use Rattle.world_model.specs.declared.lines.Line.TheVariants.{At, Forged, Wire, Off, Again, Lost, Nothing}
 use Rattle.world_model.specs.declared.lines.Entry.{Entry}
 use Rattle.world_model.specs.World.{WorldState, happens, entries, world_after, history_of, opening}
-use Rattle.world_model.specs.Counts.{line_granted, line_hops, line_evals, line_left, line_sum, tally, left, is_late}
+use Rattle.world_model.specs.Counts.{line_granted, line_hops, line_evals, line_left, line_sum, tally, left_sum, is_late}
 use Rattle.world_model.specs.Sound.{event_fits, EventsFit}
 use Rattle.world_model.specs.Texts.{with_family, line_families, families}
 use Rattle.network_laws.proofs.CountLaws.{tally-cons, tally-append, tally-entries}
@@ -45,8 +45,8 @@ tally-push c es e w =
 
 -- what one event more leaves
 left-push : (f : Family) (t : Topology) (es : List WorldEvent) (e : WorldEvent) → KeepsNetwork t → EventsFit t.version es
-    → left f (history_of (es ++ e ∷ []) (opening t)) ≡ left f (history_of es (opening t)) + line_sum (line_left f (is_late (world_after es (opening t)) e)) (happens (world_after es (opening t)) e).lines
-left-push f t es e k b = ap (left f) (history_of-push es e (opening t)) ∙ opening_leaves f t es e k b
+    → left_sum f (history_of (es ++ e ∷ []) (opening t)) ≡ left_sum f (history_of es (opening t)) + line_sum (line_left f (is_late (world_after es (opening t)) e)) (happens (world_after es (opening t)) e).lines
+left-push f t es e k b = ap (left_sum f) (history_of-push es e (opening t)) ∙ opening_leaves f t es e k b
 
 -- ---- a family is granted before it has a row
 

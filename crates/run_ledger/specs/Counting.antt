@@ -2,7 +2,7 @@
 use Rattle.std.specs.Prelude.{◌≡◌, ℕ, ◌+◌, ◌-◌, ◌≤◌, ◌<◌, ◌^◌, Bool, false, if◌then◌else◌, List, ◌++◌, length, map, fold}
 use Rattle.plan_base.specs.declared.ids.Family.{Family}
 use Rattle.bound_ledger.specs.declared.row.Row.{Row}
-use Rattle.bound_ledger.specs.Counts.{more, hopped, paid, quit}
+use Rattle.bound_ledger.specs.Counts.{more, hop_paid, paid, quit}
 use Rattle.bound_ledger.specs.Rows.{FamilyRow, families_in, counts_of, changed_rows, with_grant}
 use Rattle.spelled_frame.specs.declared.spelled.What.TheVariants as what
 use Rattle.node_model.specs.declared.acts.Act.{Act}
@@ -35,7 +35,7 @@ leaving late f bound rows = if late then rows else changed_rows (quit bound) f r
 
 -- the rows with what an act pays and leaves, where its event's frame was handed before or wasn't
 abbrev pub act_moving : Bool → List FamilyRow → Act → List FamilyRow
-act_moving late rows (Queued d f bound) = changed_rows hopped f rows
+act_moving late rows (Queued d f bound) = changed_rows hop_paid f rows
 act_moving late rows (Ended f o evals rest) = changed_rows (quit rest) f (changed_rows (paid evals) f rows)
 act_moving late rows (Dropped r f bound) = changed_rows (quit bound) f rows
 act_moving late rows (Stale t (what.Packet f bound)) = leaving late f bound rows
@@ -104,4 +104,4 @@ pub record LinesFit (late : Bool) (rows : List FamilyRow) (lines : List Line) : 
 
 -- what these lines leave behind this history, where their event's frame was handed before or wasn't
 abbrev pub Leaves : Bool → List Entry → ℕ → List Line → Type 0
-Leaves late h n lines = (f : Family) → count.left f (h ++ map (entry_at n) lines) ≡ count.left f h + line_sum (line_left f late) lines
+Leaves late h n lines = (f : Family) → count.left_sum f (h ++ map (entry_at n) lines) ≡ count.left_sum f h + line_sum (line_left f late) lines

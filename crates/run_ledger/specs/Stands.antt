@@ -9,11 +9,11 @@ use Rattle.world_model.specs.Texts as texts
 
 -- a row has the counts of a family over a history, and what was granted and neither paid nor left is live
 pub record IsCount (h : List Entry) (f : Family) (r : Row) : Type 0 where
-  pub granted : r.granted ≡ count.granted f h
+  pub granted : r.granted ≡ count.granted_sum f h
   pub hops : r.hops ≡ count.hops f h
   pub evals : r.evals ≡ count.evals f h
-  pub left : r.left ≡ count.left f h
-  pub live : count.granted f h ≡ count.hops f h + count.evals f h + r.live + count.left f h
+  pub left : r.left ≡ count.left_sum f h
+  pub live : count.granted_sum f h ≡ count.hops f h + count.evals f h + r.live + count.left_sum f h
 
 -- the rows are those of a history's families in the order of their first grants, each with its family's counts, and a family
 -- without a row has none

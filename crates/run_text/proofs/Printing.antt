@@ -12,7 +12,7 @@ use Rattle.world_model.specs.declared.lines.Line.{Line}
 use Rattle.world_model.specs.World.{WorldState, entry_at}
 use Rattle.world_model.specs.Counts.{Balanced, live}
 use Rattle.world_model.specs.Texts.{families, counts_text, row_text, rows_text, ledger_text, entry_text, entries_text}
-use Rattle.run_text.specs.Printed.{printed, all_printed}
+use Rattle.run_text.specs.Printed.{printed_row, all_printed}
 use Rattle.run_ledger.specs.Stands.{Stands}
 use Rattle.run_ledger.proofs.ByFamily.{by_family, rows_by_family}
 
@@ -22,15 +22,15 @@ pub printed_none : all_printed [] ≡ []
 unfolding all_printed
 printed_none = refl
 
-printed_more : (es : List FamilyRow) (e : FamilyRow) → all_printed (es ++ e ∷ []) ≡ all_printed es ++ printed e
+printed_more : (es : List FamilyRow) (e : FamilyRow) → all_printed (es ++ e ∷ []) ≡ all_printed es ++ printed_row e
 unfolding all_printed
-printed_more es e = flat_map-append printed es (e ∷ []) ∙ ap (λ r. all_printed es ++ r) (append-nil (printed e))
+printed_more es e = flat_map-append printed_row es (e ∷ []) ∙ ap (λ r. all_printed es ++ r) (append-nil (printed_row e))
 
 -- the rows so far, and the next one
-pub printed_next : (rows : List FamilyRow) (i : ℕ) (e : FamilyRow) (old now new : List ℕ) → i < length rows → slice_get rows i ≡ Some e → now ≡ old ++ all_printed (take i rows) → new ≡ now ++ printed e
+pub printed_next : (rows : List FamilyRow) (i : ℕ) (e : FamilyRow) (old now new : List ℕ) → i < length rows → slice_get rows i ≡ Some e → now ≡ old ++ all_printed (take i rows) → new ≡ now ++ printed_row e
     → new ≡ old ++ all_printed (take (i + 1) rows)
 printed_next rows i e old now new within is h n =
-    n ∙ ap (λ x. x ++ printed e) h ∙ append_assoc old (all_printed (take i rows)) (printed e)
+    n ∙ ap (λ x. x ++ printed_row e) h ∙ append_assoc old (all_printed (take i rows)) (printed_row e)
     ∙ ap (λ x. old ++ x) (sym (printed_more (take i rows) e) ∙ ap (λ x. all_printed (take i rows ++ x ∷ [])) (sym (get_or_from_slice_get rows i e e is)) ∙ ap all_printed (sym (take_at_read rows i e within).1))
 
 pub printed_all : (rows : List FamilyRow) (i : ℕ) (old new : List ℕ) → length rows ≤ i → new ≡ old ++ all_printed (take i rows) → new ≡ old ++ all_printed rows
@@ -39,7 +39,7 @@ printed_all rows i old new e h = h ∙ ap (λ x. old ++ all_printed x) (take_all
 -- ---- the text of a history's ledger
 
 module _ (h : List Entry) (w : WorldState) (rows : List FamilyRow) (s : Stands h rows) (law : (f : Family) → Balanced f h w) where
-  row_printed : (f : Family) → printed (f, counts_of f rows) ≡ row_text h w f
+  row_printed : (f : Family) → printed_row (f, counts_of f rows) ≡ row_text h w f
   unfolding row_text
   row_printed f =
       let c = s.counts f in

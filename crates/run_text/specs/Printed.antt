@@ -5,9 +5,9 @@ use Rattle.bound_ledger.specs.Rows.{FamilyRow}
 use Rattle.world_model.specs.Texts.{counts_text}
 
 -- a family with its counts
-abbrev pub printed : FamilyRow → List ℕ
-printed e = counts_text e.0 e.1.granted e.1.hops e.1.evals e.1.live e.1.left
+abbrev pub printed_row : FamilyRow → List ℕ
+printed_row e = counts_text e.0 e.1.granted e.1.hops e.1.evals e.1.live e.1.left
 
 -- the rows in order
 unfoldable pub all_printed : List FamilyRow → List ℕ
-all_printed rows = flat_map printed rows
+all_printed rows = flat_map printed_row rows

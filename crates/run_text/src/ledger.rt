@@ -7,7 +7,7 @@ ghost use Rattle.world_model.specs.Counts.{Balanced};
 ghost use Rattle.world_model.specs.Texts.{ledger_text};
 ghost use Rattle.bound_ledger.specs.Rows.{OneEach};
 ghost use Rattle.run_ledger.specs.Stands.{Stands};
-ghost use Rattle.run_text.specs.Printed.{printed, all_printed};
+ghost use Rattle.run_text.specs.Printed.{printed_row, all_printed};
 
 use bound_ledger::{Ledger, Row};
 use node_core::{put_family, put_number};
@@ -25,7 +25,7 @@ fn put_count(out: &mut Bytes, word: &[u8], n: u64) -> Result<(), NoMemory>
 
 /// A row of a ledger.
 fn put_row(out: &mut Bytes, f: Family, row: Row) -> Result<(), NoMemory>
-    ensures { OnOk result (out.new ≡ out.old ++ printed (f, row)) }
+    ensures { OnOk result (out.new ≡ out.old ++ printed_row (f, row)) }
 {
     put_family(out, f)?;
     put_count(out, b" granted ", row.granted)?;

@@ -31,11 +31,11 @@ use Rattle.network_plan.specs.Hosts.{has_host}
 use Rattle.network_plan.specs.Rules.{KeepsEvent, MayName, KeepsInjection, MayArrive, weights}
 use Rattle.line_files.specs.declared.fault.LineReason.{LineReason}
 use Rattle.line_files.specs.declared.fault.LineReason.TheVariants.{BadWord, UnknownProgram, TooMany, BadArgument}
-use Rattle.line_files.specs.Lines.{words, spaced}
+use Rattle.line_files.specs.Lines.{words, spaced_words}
 use Rattle.line_files.specs.Reads.{rest_at}
 use Rattle.line_files.specs.Files.{is_skipped, at_line}
 use Rattle.line_files.specs.HexWords.{hex_of, within_size, hex_at}
-use Rattle.line_files.specs.Programs.{has_name, entry_at, args_at, chunk_with, typed_chunk, weighed}
+use Rattle.line_files.specs.Programs.{has_name, entry_at, args_at, chunk_with, typed_chunk, weighed_sum}
 use Rattle.line_files.specs.Handlers.{named_handler, handler_at}
 use Rattle.line_files.specs.Injections.{injection_at}
 use Rattle.line_files.proofs.Again.{without}
@@ -51,7 +51,7 @@ use Rattle.schedule_laws.specs.Written.{NamedText, Written, handler_words, event
 use Rattle.schedule_laws.proofs.WordLaws.{Free, words_are, words_rest, number_free, name_free, hex_free}
 use Rattle.schedule_laws.proofs.ReadSteps.{then_ok, allowed_ok, below_ok, within_ok, number_ok, host_ok, device_ok, Leads, leads-nil, leads-cons}
 use Rattle.schedule_laws.proofs.NetworkRead.{file_at}
-use Rattle.schedule_laws.proofs.ProgramsRead.{titled}
+use Rattle.schedule_laws.proofs.ProgramsRead.{titled_program}
 use Rattle.schedule_laws.proofs.HandlerWords.{not_handler}
 
 abbrev pub with_events : Reading → List WorldEvent → ℕ → Reading
@@ -63,17 +63,17 @@ SmallHosts hosts = (h : Host) → has_host h hosts ≡ true → h.0 < 2 ^ 32
 
 -- ---- injections
 
-found_same : (name : List ℕ) (ps : List NamedText) (p : NamedText) → find (λ q. bytes_eq q.name name) ps ≡ Some p → find (is_called name) (map titled ps) ≡ Some (titled p)
+found_same : (name : List ℕ) (ps : List NamedText) (p : NamedText) → find (λ q. bytes_eq q.name name) ps ≡ Some p → find (is_called name) (map titled_program ps) ≡ Some (titled_program p)
 found_same name [] p e = absurd cc
 found_same name (q ∷ qs) p e = by (bytes_eq q.name name) (λ h. found_same name qs p h) e
   where
-    by : (t : Bool) → (find (λ r. bytes_eq r.name name) qs ≡ Some p → find (is_called name) (map titled qs) ≡ Some (titled p)) → cond t (Some q) (find (λ r. bytes_eq r.name name) qs) ≡ Some p → cond t (Some (titled q)) (find (is_called name) (map titled qs)) ≡ Some (titled p)
-    by true more h = let same : q ≡ p = cc in ap (λ r. Some (titled r)) same
+    by : (t : Bool) → (find (λ r. bytes_eq r.name name) qs ≡ Some p → find (is_called name) (map titled_program qs) ≡ Some (titled_program p)) → cond t (Some q) (find (λ r. bytes_eq r.name name) qs) ≡ Some p → cond t (Some (titled_program q)) (find (is_called name) (map titled_program qs)) ≡ Some (titled_program p)
+    by true more h = let same : q ≡ p = cc in ap (λ r. Some (titled_program r)) same
     by false more h = more h
 
-program_ok : (ps : List NamedText) (w : Written) (c : Chunk) (ws : List (List ℕ)) (k : IsWritten ps w c) → program_at (map titled ps) (w.program ∷ ws) ≡ Ok (titled k.program, ws)
+program_ok : (ps : List NamedText) (w : Written) (c : Chunk) (ws : List (List ℕ)) (k : IsWritten ps w c) → program_at (map titled_program ps) (w.program ∷ ws) ≡ Ok (titled_program k.program, ws)
 unfolding program_at
-program_ok ps w c ws k = then_ok _ (titled k.program) _ _ (ap (λ o. ok_or o UnknownProgram) (found_same w.program ps k.program k.listed)) refl
+program_ok ps w c ws k = then_ok _ (titled_program k.program) _ _ (ap (λ o. ok_or o UnknownProgram) (found_same w.program ps k.program k.listed)) refl
 
 name_found : (name : List ℕ) (fs : List Fun) (f : Fun) → find (has_name name) fs ≡ Some f → f.name ≡ name
 name_found name [] f e = absurd cc
@@ -124,15 +124,15 @@ injection_ok version args c bound handler k named keeps =
     (then_ok _ c.args _ _ (args_ok c args k.short k.says)
     (then_ok _ c _ _ (call_is args c k keeps.0.1) refl))))
 
-pub weighed_ok : (sum : ℕ) (c : Chunk) → sum + (1 + chunk_weight c) ≤ 16777216 → weighed sum c ≡ Ok (sum + (1 + chunk_weight c))
-unfolding weighed
+pub weighed_ok : (sum : ℕ) (c : Chunk) → sum + (1 + chunk_weight c) ≤ 16777216 → weighed_sum sum c ≡ Ok (sum + (1 + chunk_weight c))
+unfolding weighed_sum
 weighed_ok sum c few = then_ok _ tt _ _ (within_ok (sum + (1 + chunk_weight c)) 16777216 TooMany few) refl
 
 -- ---- events
 
 -- what is asked of an event that is written behind a network
 pub record IsReady (ps : List NamedText) (by : Chunk → Written) (s : Reading) : Type 0 where
-  pub programs : s.programs ≡ map titled ps
+  pub programs : s.programs ≡ map titled_program ps
   pub small : SmallHosts s.hosts
 
 -- the words behind the program of what is injected
@@ -145,7 +145,7 @@ unfolding injected_at
 injected_ok ps by s h c bound handler ready known keeps k named =
     let ws = call_words (by c) c bound handler in
     then_ok _ (h, (by c).program ∷ ws) _ _ (host_ok s.hosts h _ (ready.small h known) known)
-    (then_ok _ (titled k.program, ws) _ _ (ap (λ q. program_at q ((by c).program ∷ ws)) ready.programs ∙ program_ok ps (by c) c _ k)
+    (then_ok _ (titled_program k.program, ws) _ _ (ap (λ q. program_at q ((by c).program ∷ ws)) ready.programs ∙ program_ok ps (by c) c _ k)
     (then_ok _ (c, bound, handler) _ _ (ap (λ code. injection_at s.version code ws) k.code ∙ injection_ok s.version (by c).args c bound handler k.call named keeps) refl))
 
 -- the words of an event's line, as they are read
@@ -173,38 +173,38 @@ inject_ok ps by s h c bound handler ready known keeps k named few =
     then_ok _ (h, c, bound, handler) _ _ (injected_ok ps by s h c bound handler ready known keeps k named)
     (then_ok _ (s.weight + (1 + chunk_weight c)) _ _ (weighed_ok s.weight c few) (ap (λ (n : ℕ). Ok (record (with_event s (happens.Inject h c bound handler)) { weight = s.weight + n })) none))
 
-abbrev said : Reading → Result Reading LineReason
-said s = Ok s
+abbrev said_reading : Reading → Result Reading LineReason
+said_reading s = Ok s
 
 -- what weighs nothing
-unweighed : (s : Reading) (e : WorldEvent) → weight_of e ≡ 0 → said (with_event s e) ≡ said (behind_event s e)
-unweighed s e h = let n : s.weight ≡ s.weight + weight_of e = omega (arith, h) in ap (λ (w : ℕ). said (record (with_event s e) { weight = w })) n
+weightless_is_behind : (s : Reading) (e : WorldEvent) → weight_of e ≡ 0 → said_reading (with_event s e) ≡ said_reading (behind_event s e)
+weightless_is_behind s e h = let n : s.weight ≡ s.weight + weight_of e = omega (arith, h) in ap (λ (w : ℕ). said_reading (record (with_event s e) { weight = w })) n
 
-send_ok : (s : Reading) (h : Host) (d : Dev) → SmallHosts s.hosts → has_host h s.hosts ≡ true → d.0 ≤ 8 → send_line (decimal h.0 ∷ decimal d.0 ∷ []) s ≡ said (behind_event s (happens.Send h d))
+send_ok : (s : Reading) (h : Host) (d : Dev) → SmallHosts s.hosts → has_host h s.hosts ≡ true → d.0 ≤ 8 → send_line (decimal h.0 ∷ decimal d.0 ∷ []) s ≡ said_reading (behind_event s (happens.Send h d))
 unfolding send_line
 send_ok s h d small known few =
     then_ok _ (h, decimal d.0 ∷ []) _ _ (host_ok s.hosts h _ (small h known) known)
-    (then_ok _ (d, []) _ _ (device_ok d [] few) (unweighed s (happens.Send h d) refl))
+    (then_ok _ (d, []) _ _ (device_ok d [] few) (weightless_is_behind s (happens.Send h d) refl))
 
 frame_ok : (k : ℕ) → k < 2 ^ 32 → frame_at (decimal k ∷ []) ≡ Ok k
 unfolding frame_at
 frame_ok k small = then_ok _ (k, []) _ _ (number_ok 0 4294967295 k [] (omega (arith, small)) (omega arith) (omega (arith, small))) refl
 
-deliver_ok : (s : Reading) (k : ℕ) → k < 2 ^ 32 → deliver_line (decimal k ∷ []) s ≡ said (behind_event s (happens.Deliver k))
+deliver_ok : (s : Reading) (k : ℕ) → k < 2 ^ 32 → deliver_line (decimal k ∷ []) s ≡ said_reading (behind_event s (happens.Deliver k))
 unfolding deliver_line
-deliver_ok s k small = then_ok _ k _ _ (frame_ok k small) (unweighed s (happens.Deliver k) refl)
+deliver_ok s k small = then_ok _ k _ _ (frame_ok k small) (weightless_is_behind s (happens.Deliver k) refl)
 
-repeat_ok : (s : Reading) (k : ℕ) → k < 2 ^ 32 → repeat_line (decimal k ∷ []) s ≡ said (behind_event s (happens.Repeat k))
+repeat_ok : (s : Reading) (k : ℕ) → k < 2 ^ 32 → repeat_line (decimal k ∷ []) s ≡ said_reading (behind_event s (happens.Repeat k))
 unfolding repeat_line
-repeat_ok s k small = then_ok _ k _ _ (frame_ok k small) (unweighed s (happens.Repeat k) refl)
+repeat_ok s k small = then_ok _ k _ _ (frame_ok k small) (weightless_is_behind s (happens.Repeat k) refl)
 
-lose_ok : (s : Reading) (k : ℕ) → k < 2 ^ 32 → lose_line (decimal k ∷ []) s ≡ said (behind_event s (happens.Lose k))
+lose_ok : (s : Reading) (k : ℕ) → k < 2 ^ 32 → lose_line (decimal k ∷ []) s ≡ said_reading (behind_event s (happens.Lose k))
 unfolding lose_line
-lose_ok s k small = then_ok _ k _ _ (frame_ok k small) (unweighed s (happens.Lose k) refl)
+lose_ok s k small = then_ok _ k _ _ (frame_ok k small) (weightless_is_behind s (happens.Lose k) refl)
 
-tick_ok : (s : Reading) (h : Host) → SmallHosts s.hosts → has_host h s.hosts ≡ true → tick_line (decimal h.0 ∷ []) s ≡ said (behind_event s (happens.Tick h))
+tick_ok : (s : Reading) (h : Host) → SmallHosts s.hosts → has_host h s.hosts ≡ true → tick_line (decimal h.0 ∷ []) s ≡ said_reading (behind_event s (happens.Tick h))
 unfolding tick_line
-tick_ok s h small known = then_ok _ (h, []) _ _ (host_ok s.hosts h _ (small h known) known) (unweighed s (happens.Tick h) refl)
+tick_ok s h small known = then_ok _ (h, []) _ _ (host_ok s.hosts h _ (small h known) known) (weightless_is_behind s (happens.Tick h) refl)
 
 hex_ok : (bytes : List ℕ) → MayArrive bytes → hex_at 1 16513 (encode_lower bytes ∷ []) ≡ Ok (bytes, [])
 unfolding hex_at
@@ -215,15 +215,15 @@ hex_ok bytes m =
     then_ok _ bytes _ _ (ap (λ o. ok_or o BadArgument) is) refl
 
 raw_ok : (s : Reading) (h : Host) (d : Dev) (bytes : List ℕ) → SmallHosts s.hosts → has_host h s.hosts ≡ true → d.0 ≤ 8 → MayArrive bytes
-    → raw_line (decimal h.0 ∷ decimal d.0 ∷ encode_lower bytes ∷ []) s ≡ said (behind_event s (happens.Raw h d bytes))
+    → raw_line (decimal h.0 ∷ decimal d.0 ∷ encode_lower bytes ∷ []) s ≡ said_reading (behind_event s (happens.Raw h d bytes))
 unfolding raw_line
 raw_ok s h d bytes small known few m =
     then_ok _ (h, decimal d.0 ∷ encode_lower bytes ∷ []) _ _ (host_ok s.hosts h _ (small h known) known)
     (then_ok _ (d, encode_lower bytes ∷ []) _ _ (device_ok d _ few)
-    (then_ok _ (bytes, []) _ _ (hex_ok bytes m) (unweighed s (happens.Raw h d bytes) refl)))
+    (then_ok _ (bytes, []) _ _ (hex_ok bytes m) (weightless_is_behind s (happens.Raw h d bytes) refl)))
 
 -- a line whose first word is known
-event_known : (s t : Reading) (w : List ℕ) (ws : List (List ℕ)) (kind : EventWord) → event_word s.version w ≡ Some kind → length s.events < 50000 → event_rest kind ws s ≡ said t → event_line (w ∷ ws) s ≡ said t
+event_known : (s t : Reading) (w : List ℕ) (ws : List (List ℕ)) (kind : EventWord) → event_word s.version w ≡ Some kind → length s.events < 50000 → event_rest kind ws s ≡ said_reading t → event_line (w ∷ ws) s ≡ said_reading t
 unfolding event_line
 event_known s t w ws kind known room e =
     then_ok _ kind _ _ (ap (λ o. ok_or o BadWord) known)
@@ -234,7 +234,7 @@ two_knows One e = absurd cc
 two_knows Two e = refl
 
 event_said : (ps : List NamedText) (by : Chunk → Written) (s : Reading) (e : WorldEvent) → IsReady ps by s → length s.events < 50000 → KeepsEvent s.version s.hosts e → EventIsWritten ps by e → s.weight + weight_of e ≤ 16777216
-    → event_line (read_words by e) s ≡ said (behind_event s e)
+    → event_line (read_words by e) s ≡ said_reading (behind_event s e)
 unfolding event_rest
 event_said ps by s (happens.Inject h c bound handler) ready room keeps k few = event_known s _ (codes "inject") _ event.Inject refl room (inject_ok ps by s h c bound handler ready keeps.0 keeps.1 k.1 k.2 (omega (arith, few)))
 event_said ps by s (happens.Send h d) ready room keeps k few = event_known s _ (codes "send") _ event.Send refl room (send_ok s h d ready.small keeps.0 keeps.1)
@@ -282,7 +282,7 @@ event_line_free ps by version hosts (happens.Raw h d bytes) small keeps k = (ref
 abbrev front_words : Written → Host → Chunk → ℕ → Option Name → List (List ℕ)
 front_words w h c bound handler = decimal h.0 ∷ w.program ∷ c.entry ∷ decimal bound ∷ handler_words handler
 
-event_words_are : (ps : List NamedText) (by : Chunk → Written) (version : Version) (hosts : List HostSpec) (e : WorldEvent) → SmallHosts hosts → KeepsEvent version hosts e → EventIsWritten ps by e → words (spaced (event_words by e)) ≡ read_words by e
+event_words_are : (ps : List NamedText) (by : Chunk → Written) (version : Version) (hosts : List HostSpec) (e : WorldEvent) → SmallHosts hosts → KeepsEvent version hosts e → EventIsWritten ps by e → words (spaced_words (event_words by e)) ≡ read_words by e
 event_words_are ps by version hosts (happens.Inject h c bound handler) small keeps k =
     words_rest (codes "inject") (front_words (by c) h c bound handler) (by c).args (
       refl,
@@ -307,7 +307,7 @@ event_words_are ps by version hosts (happens.Lose n) small keeps k = words_are (
 event_words_are ps by version hosts (happens.Tick h) small keeps k = words_are (codes "tick") _ (refl, ((host_free hosts h small keeps).0, tt))
 event_words_are ps by version hosts (happens.Raw h d bytes) small keeps k = words_are (codes "raw") _ (refl, ((host_free hosts h small keeps.0).0, ((number_free d.0 (omega (arith, keeps.1))).0, ((hex_free bytes keeps.2.are_bytes).0, tt))))
 
-says_something : (by : Chunk → Written) (e : WorldEvent) → is_skipped (spaced (event_words by e)) ≡ false
+says_something : (by : Chunk → Written) (e : WorldEvent) → is_skipped (spaced_words (event_words by e)) ≡ false
 says_something by (happens.Inject h c bound handler) = refl
 says_something by (happens.Send h d) = refl
 says_something by (happens.Deliver n) = refl
@@ -316,7 +316,7 @@ says_something by (happens.Lose n) = refl
 says_something by (happens.Tick h) = refl
 says_something by (happens.Raw h d bytes) = refl
 
-event_step_ok : (line : List ℕ) (ws : List (List ℕ)) (s t : Reading) (number : ℕ) → is_skipped line ≡ false → words line ≡ ws → event_line ws s ≡ said t → schedule_format.step number line (file_at stages.Events s) ≡ Ok (file_at stages.Events t)
+event_step_ok : (line : List ℕ) (ws : List (List ℕ)) (s t : Reading) (number : ℕ) → is_skipped line ≡ false → words line ≡ ws → event_line ws s ≡ said_reading t → schedule_format.step number line (file_at stages.Events s) ≡ Ok (file_at stages.Events t)
 unfolding step
 event_step_ok line ws s t number some are is =
     ap (λ b. file_after (cond b (Ok (stages.Events, s)) (at_line number (staying stages.Events (event_line (words line) s))))) some
@@ -336,7 +336,7 @@ more_weight (happens.Raw h d bytes) es = nothing_more (happens.Raw h d bytes) es
 
 -- events are read behind others
 pub events_read : (ps : List NamedText) (by : Chunk → Written) (rest seen : List WorldEvent) (s : Reading) (weight : ℕ) → IsReady ps by s → length (seen ++ rest) ≤ 50000 → All (KeepsEvent s.version s.hosts) rest → All (EventIsWritten ps by) rest → weight + weights rest ≤ 16777216
-    → Leads (map (λ e. spaced (event_words by e)) rest) (file_at stages.Events (with_events s seen weight)) (file_at stages.Events (with_events s (seen ++ rest) (weight + weights rest)))
+    → Leads (map (λ e. spaced_words (event_words by e)) rest) (file_at stages.Events (with_events s seen weight)) (file_at stages.Events (with_events s (seen ++ rest) (weight + weights rest)))
 events_read ps by [] seen s weight ready few keeps written light =
     let n : weight ≡ weight + weights [] = omega arith in
     subst (λ (w : ℕ). Leads [] (file_at stages.Events (with_events s seen weight)) (file_at stages.Events (with_events s (seen ++ []) w))) n
@@ -352,7 +352,7 @@ events_read ps by (e ∷ rest) seen s weight ready few keeps written light =
     let one = event_said ps by (with_events s seen weight) e is_ready room k w (omega (arith, light, sum)) in
     let most : weight + weight_of e + weights rest ≤ 16777216 = omega (arith, light, sum) in
     let last = events_read ps by rest (seen ++ e ∷ []) s (weight + weight_of e) ready (subst (λ es. length es ≤ 50000) (sym join) few) (All-tail (KeepsEvent s.version s.hosts) e rest keeps) (All-tail (EventIsWritten ps by) e rest written) most in
-    let moved = subst (λ es. Leads (map (λ x. spaced (event_words by x)) rest) (file_at stages.Events (with_events s (seen ++ e ∷ []) (weight + weight_of e))) (file_at stages.Events (with_events s es (weight + weights (e ∷ rest))))) join
-    (subst (λ (n : ℕ). Leads (map (λ x. spaced (event_words by x)) rest) (file_at stages.Events (with_events s (seen ++ e ∷ []) (weight + weight_of e))) (file_at stages.Events (with_events s ((seen ++ e ∷ []) ++ rest) n))) sum last) in
-    leads-cons (spaced (event_words by e)) (map (λ x. spaced (event_words by x)) rest) (file_at stages.Events (with_events s seen weight)) (file_at stages.Events (with_events s (seen ++ e ∷ []) (weight + weight_of e))) (file_at stages.Events (with_events s (seen ++ e ∷ rest) (weight + weights (e ∷ rest))))
-    (λ number. event_step_ok (spaced (event_words by e)) (read_words by e) (with_events s seen weight) (with_events s (seen ++ e ∷ []) (weight + weight_of e)) number (says_something by e) (event_words_are ps by s.version s.hosts e ready.small k w) one) moved
+    let moved = subst (λ es. Leads (map (λ x. spaced_words (event_words by x)) rest) (file_at stages.Events (with_events s (seen ++ e ∷ []) (weight + weight_of e))) (file_at stages.Events (with_events s es (weight + weights (e ∷ rest))))) join
+    (subst (λ (n : ℕ). Leads (map (λ x. spaced_words (event_words by x)) rest) (file_at stages.Events (with_events s (seen ++ e ∷ []) (weight + weight_of e))) (file_at stages.Events (with_events s ((seen ++ e ∷ []) ++ rest) n))) sum last) in
+    leads-cons (spaced_words (event_words by e)) (map (λ x. spaced_words (event_words by x)) rest) (file_at stages.Events (with_events s seen weight)) (file_at stages.Events (with_events s (seen ++ e ∷ []) (weight + weight_of e))) (file_at stages.Events (with_events s (seen ++ e ∷ rest) (weight + weights (e ∷ rest))))
+    (λ number. event_step_ok (spaced_words (event_words by e)) (read_words by e) (with_events s seen weight) (with_events s (seen ++ e ∷ []) (weight + weight_of e)) number (says_something by e) (event_words_are ps by s.version s.hosts e ready.small k w) one) moved

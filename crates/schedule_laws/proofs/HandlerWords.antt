@@ -19,7 +19,7 @@ use Rattle.program_text.specs.Scanned.{tokens_of}
 use Rattle.program_text.specs.Texts.{args_by, args_in, args_of_text}
 use Rattle.program_text.proofs.Scanning.{has_tokens, is_refused}
 use Rattle.line_files.specs.declared.fault.LineReason.{LineReason}
-use Rattle.line_files.specs.Lines.{words, spaced, behind}
+use Rattle.line_files.specs.Lines.{words, spaced_words, behind}
 use Rattle.line_files.specs.Reads.{rest_at}
 use Rattle.line_files.specs.Handlers.{comes}
 use Rattle.line_files.proofs.Splits.{rest_all}
@@ -103,15 +103,15 @@ no_args text args some m e = by (tokens_or_refusal 0 text)
 -- ---- words
 
 -- a line whose first word it is
-begins : (w : List ℕ) (ws : List (List ℕ)) (text : List ℕ) (args : List Value) → w ≡ handler_word → spaced (w ∷ ws) ≡ text → args_of_text text ≡ Some args → ⊥
+begins : (w : List ℕ) (ws : List (List ℕ)) (text : List ℕ) (args : List Value) → w ≡ handler_word → spaced_words (w ∷ ws) ≡ text → args_of_text text ≡ Some args → ⊥
 begins w [] text args same is e =
-    let here : handler_word ≡ text = sym (ap (λ v. spaced (v ∷ [])) same) ∙ is in
+    let here : handler_word ≡ text = sym (ap (λ v. spaced_words (v ∷ [])) same) ∙ is in
     no_args text args (subst (λ t. 0 < length t) here (omega arith)) (subst (λ t. move_at 0 t ≡ moved_past (kinds.Word handler_word) 7) here first_alone) e
 begins w (v ∷ vs) text args same is e =
-    let here : handler_word ++ 32 ∷ (v ++ behind vs) ≡ text = sym (ap (λ u. spaced (u ∷ v ∷ vs)) same) ∙ is in
+    let here : handler_word ++ 32 ∷ (v ++ behind vs) ≡ text = sym (ap (λ u. spaced_words (u ∷ v ∷ vs)) same) ∙ is in
     no_args text args (subst (λ t. 0 < length t) here (omega arith)) (subst (λ t. move_at 0 t ≡ moved_past (kinds.Word handler_word) 7) here (first_more (v ++ behind vs))) e
 
-comes_by : (t : Bool) (w : List ℕ) (ws : List (List ℕ)) (text : List ℕ) (args : List Value) → bytes_eq w handler_word ≡ t → spaced (w ∷ ws) ≡ text → args_of_text text ≡ Some args → t ≡ false
+comes_by : (t : Bool) (w : List ℕ) (ws : List (List ℕ)) (text : List ℕ) (args : List Value) → bytes_eq w handler_word ≡ t → spaced_words (w ∷ ws) ≡ text → args_of_text text ≡ Some args → t ≡ false
 comes_by true w ws text args h is e = absurd (begins w ws text args ((bytes_eq-Decides w handler_word).0 h) is e)
 comes_by false w ws text args h is e = refl
 
@@ -123,7 +123,7 @@ line_is xs ys e = cc
 
 comes_in : (ws : List (List ℕ)) (text : List ℕ) (args : List Value) → rest_at ws ≡ Ok text → args_of_text text ≡ Some args → comes handler_word ws ≡ false
 comes_in [] text args h e = refl
-comes_in (w ∷ ws) text args h e = comes_by (bytes_eq w handler_word) w ws text args refl (line_is (spaced (w ∷ ws)) text h) e
+comes_in (w ∷ ws) text args h e = comes_by (bytes_eq w handler_word) w ws text args refl (line_is (spaced_words (w ∷ ws)) text h) e
 
 -- no text of arguments begins with it
 pub not_handler : (text : List ℕ) (args : List Value) → args_of_text text ≡ Some args → comes handler_word (words text) ≡ false

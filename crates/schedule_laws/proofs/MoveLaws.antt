@@ -11,11 +11,11 @@ use Rattle.line_files.specs.declared.fault.LineReason.TheVariants.{BadHeader, Ba
 use Rattle.line_files.specs.declared.fault.LineFault.{LineFault}
 use Rattle.line_files.specs.declared.fault.LineFault.TheVariants as faults
 use Rattle.line_files.specs.Lines.{lines, words}
-use Rattle.line_files.specs.Reads.{◌>>=◌, word_at, end_at, allowed}
+use Rattle.line_files.specs.Reads.{◌>>=◌, word_at, end_at, allowed_or_reason}
 use Rattle.line_files.specs.Files.{is_skipped, at_line}
 use Rattle.line_files.specs.Inside.{AreInside}
-use Rattle.line_files.specs.Counting.{moved, moved_by, CountsOnly}
-use Rattle.line_files.specs.Headers.{version_in, versioned}
+use Rattle.line_files.specs.Counting.{moved_line, moved_by, CountsOnly}
+use Rattle.line_files.specs.Headers.{version_in, next_by_version}
 use Rattle.line_files.specs.Programs.{named_word}
 use Rattle.line_files.proofs.LineLaws as every
 use Rattle.line_files.proofs.CountLaws.{changed_read, then_changed, moved_more, line_counts}
@@ -54,10 +54,10 @@ begun_later first number name lt = ap (λ (n : ℕ). begun_at n name) (sym (move
 program_later : (first number : ℕ) (ws : List (List ℕ)) (s : Reading) → first < number → program_line (number + 1) ws s ≡ changed_read (later_program first) (program_line number ws s)
 unfolding program_line
 program_later first number ws s lt =
-    then_changed (later_program first) (allowed (ltb (length s.programs) 64) TooMany) _ _ (λ u.
+    then_changed (later_program first) (allowed_or_reason (ltb (length s.programs) 64) TooMany) _ _ (λ u.
     then_changed (later_program first) (word_at ws) _ _ (λ w.
     then_changed (later_program first) (named_word w.0 BadWord) _ _ (λ name.
-    then_changed (later_program first) (allowed (not (list_any (is_called w.0) s.programs)) TwiceNamed) _ _ (λ v.
+    then_changed (later_program first) (allowed_or_reason (not (list_any (is_called w.0) s.programs)) TwiceNamed) _ _ (λ v.
     then_changed (later_program first) (end_at w.1) _ _ (λ x. ap (λ b. Ok b) (begun_later first number name lt))))))
 
 rest_later : (first number : ℕ) (kind : NetworkWord) (ws : List (List ℕ)) (s : Reading) → first < number → network_rest kind (number + 1) ws s ≡ changed_read (later_next first) (network_rest kind number ws s)
@@ -86,9 +86,9 @@ staying_later first stage (Err d) e = refl
 abbrev Later : ℕ → Result (Stage × Reading) LineFault → Result (Stage × Reading) LineFault → Type 0
 Later first r q = file_after q ≡ moved_by first (later_file first) (file_after r)
 
-at_moved : (first n : ℕ) (r q : Result (Stage × Reading) LineReason) → q ≡ changed_read (later_next first) r → Later first (at_line n r) (at_line (moved first n) q)
-at_moved first n (Ok x) q e = ap (λ z. file_after (at_line (moved first n) z)) e
-at_moved first n (Err d) q e = ap (λ z. file_after (at_line (moved first n) z)) e
+at_moved : (first n : ℕ) (r q : Result (Stage × Reading) LineReason) → q ≡ changed_read (later_next first) r → Later first (at_line n r) (at_line (moved_line first n) q)
+at_moved first n (Ok x) q e = ap (λ z. file_after (at_line (moved_line first n) z)) e
+at_moved first n (Err d) q e = ap (λ z. file_after (at_line (moved_line first n) z)) e
 
 at_later : (first n : ℕ) (r q : Result (Stage × Reading) LineReason) → first < n → q ≡ changed_read (later_next first) r → Later first (at_line n r) (at_line (n + 1) q)
 at_later first n r q lt e = ap (λ (m : ℕ). file_after (at_line m q)) (sym (moved_more first n lt)) ∙ at_moved first n r q e
@@ -97,7 +97,7 @@ either_later : (first : ℕ) (t : Bool) (a b c d : Result (Stage × Reading) Lin
 either_later first true a b c d h k = h
 either_later first false a b c d h k = k
 
-header_later : (first number : ℕ) (v : Option Version) (s : Reading) → first < number → Later first (versioned number (begun_by s) v) (versioned (number + 1) (begun_by s) v)
+header_later : (first number : ℕ) (v : Option Version) (s : Reading) → first < number → Later first (next_by_version number (begun_by s) v) (next_by_version (number + 1) (begun_by s) v)
 header_later first number (Some v) s lt = refl
 header_later first number None s lt = ap (λ (n : ℕ). Err (faults.Line n BadHeader)) (sym (moved_more first number lt))
 

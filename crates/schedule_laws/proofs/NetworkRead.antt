@@ -15,8 +15,8 @@ use Rattle.network_plan.specs.declared.schedule.Cable.{Cable}
 use Rattle.network_plan.specs.Hosts.{has_host, ends_at, has_link}
 use Rattle.network_plan.specs.Rules.{HostsDiffer, PackagesDiffer, LinksApart, KeepsLink}
 use Rattle.line_files.specs.declared.fault.LineReason.TheVariants.{TwiceNamed, TooMany, BadArgument}
-use Rattle.line_files.specs.Lines.{words, spaced}
-use Rattle.line_files.specs.Reads.{◌>>=◌, allowed}
+use Rattle.line_files.specs.Lines.{words, spaced_words}
+use Rattle.line_files.specs.Reads.{◌>>=◌, allowed_or_reason}
 use Rattle.line_files.specs.Files.{is_skipped, at_line}
 use Rattle.line_files.specs.Packages.{same_package, package_at, one_package, packages_at}
 use Rattle.schedule_text.specs.declared.reading.Reading.{Reading}
@@ -25,7 +25,7 @@ use Rattle.schedule_text.specs.declared.reading.Stage.TheVariants as stages
 use Rattle.schedule_text.specs.declared.reading.ScheduleFile.{ScheduleFile}
 use Rattle.schedule_text.specs.Schedules.{host_line, link_line, network_rest, network_line, step, file_after, schedule_format}
 use Rattle.line_files.proofs.Keeping.{either_false}
-use Rattle.schedule_text.proofs.NetworkRules.{swapped, ends_apart}
+use Rattle.schedule_text.proofs.NetworkRules.{equality_swaps, ends_apart}
 use Rattle.schedule_laws.specs.Written.{package_word, lacking_words, host_words, link_words}
 use Rattle.schedule_laws.proofs.WordLaws.{Free, words_are, number_free}
 use Rattle.schedule_laws.proofs.ReadSteps.{then_ok, not_ok, below_ok, number_ok, host_ok, free_device_ok, Leads, leads-nil, leads-cons}
@@ -34,11 +34,11 @@ abbrev pub file_at : Stage → Reading → ScheduleFile
 file_at stage s = record { stage = stage; reading = s }
 
 -- a line of the network that says something
-pub network_step_ok : (w : List ℕ) (ws : List (List ℕ)) (s t : Reading) (stage : Stage) (number : ℕ) → Free 32 (w ∷ ws) → is_skipped (spaced (w ∷ ws)) ≡ false
-    → network_line number (w ∷ ws) s ≡ Ok (stage, t) → schedule_format.step number (spaced (w ∷ ws)) (file_at stages.Network s) ≡ Ok (file_at stage t)
+pub network_step_ok : (w : List ℕ) (ws : List (List ℕ)) (s t : Reading) (stage : Stage) (number : ℕ) → Free 32 (w ∷ ws) → is_skipped (spaced_words (w ∷ ws)) ≡ false
+    → network_line number (w ∷ ws) s ≡ Ok (stage, t) → schedule_format.step number (spaced_words (w ∷ ws)) (file_at stages.Network s) ≡ Ok (file_at stage t)
 unfolding step
 network_step_ok w ws s t stage number free some said =
-    ap (λ b. file_after (cond b (Ok (stages.Network, s)) (at_line number (network_line number (words (spaced (w ∷ ws))) s)))) some
+    ap (λ b. file_after (cond b (Ok (stages.Network, s)) (at_line number (network_line number (words (spaced_words (w ∷ ws))) s)))) some
     ∙ (ap (λ v. file_after (at_line number (network_line number v s))) (words_are w ws free) ∙ ap (λ r. file_after (at_line number r)) said)
 
 -- ---- packages
@@ -67,9 +67,9 @@ fresh_package (q ∷ qs) p ps d = rw (differs p q (all_middle (λ x. x ≢ q) qs
 one_package_ok : (seen : List PackageName) (p : PackageName) (ws : List (List ℕ)) → list_any (same_package p) seen ≡ false
     → one_package seen (codes "without" ∷ package_word p ∷ ws) ≡ Ok (seen ++ p ∷ [], ws)
 unfolding one_package package_at
-one_package_ok seen packages.Net ws new = ap (λ t. allowed (not t) TwiceNamed >>= λ _. Ok (seen ++ packages.Net ∷ [], ws)) new
-one_package_ok seen packages.Resident ws new = ap (λ t. allowed (not t) TwiceNamed >>= λ _. Ok (seen ++ packages.Resident ∷ [], ws)) new
-one_package_ok seen packages.Host ws new = ap (λ t. allowed (not t) TwiceNamed >>= λ _. Ok (seen ++ packages.Host ∷ [], ws)) new
+one_package_ok seen packages.Net ws new = ap (λ t. allowed_or_reason (not t) TwiceNamed >>= λ _. Ok (seen ++ packages.Net ∷ [], ws)) new
+one_package_ok seen packages.Resident ws new = ap (λ t. allowed_or_reason (not t) TwiceNamed >>= λ _. Ok (seen ++ packages.Resident ∷ [], ws)) new
+one_package_ok seen packages.Host ws new = ap (λ t. allowed_or_reason (not t) TwiceNamed >>= λ _. Ok (seen ++ packages.Host ∷ [], ws)) new
 
 packages_ok : (seen ps : List PackageName) → PackagesDiffer (seen ++ ps) → packages_at seen (lacking_words ps) ≡ Ok (seen ++ ps)
 unfolding packages_at lacking_words
@@ -119,22 +119,22 @@ fresh_host [] h rest d = refl
 fresh_host (g ∷ gs) h rest d =
     let e : (has_host g.host gs || has_host g.host (h ∷ rest)) ≡ false = sym (list_any-append (λ x. eqb x.host.0 g.host.0) gs (h ∷ rest)) ∙ d.0 in
     let k = either_false (eqb h.host.0 g.host.0) (has_host g.host rest) (either_false (has_host g.host gs) (has_host g.host (h ∷ rest)) e).1 in
-    rw (swapped h.host.0 g.host.0 false k.0, fresh_host gs h rest d.1) refl
+    rw (equality_swaps h.host.0 g.host.0 false k.0, fresh_host gs h rest d.1) refl
 
 abbrev with_hosts : Reading → List HostSpec → Reading
 with_hosts s hosts = record s { hosts = hosts }
 
 -- hosts are read behind others
 pub hosts_read : (rest seen : List HostSpec) (s : Reading) → length (seen ++ rest) ≤ 32 → HostsDiffer (seen ++ rest) → All IsNumbered rest → All LacksEach rest
-    → Leads (map (λ h. spaced (host_words h)) rest) (file_at stages.Network (with_hosts s seen)) (file_at stages.Network (with_hosts s (seen ++ rest)))
+    → Leads (map (λ h. spaced_words (host_words h)) rest) (file_at stages.Network (with_hosts s seen)) (file_at stages.Network (with_hosts s (seen ++ rest)))
 hosts_read [] seen s few differ small lacks = subst (λ hs. Leads [] (file_at stages.Network (with_hosts s seen)) (file_at stages.Network (with_hosts s hs))) (sym (append-nil seen)) (leads-nil (file_at stages.Network (with_hosts s seen)))
 hosts_read (h ∷ rest) seen s few differ small lacks =
     let e : (seen ++ h ∷ []) ++ rest ≡ seen ++ h ∷ rest = append_assoc seen (h ∷ []) rest in
     let room : length seen < 32 = omega (arith, few, length-append seen (h ∷ rest)) in
     let one = host_line_ok h (with_hosts s seen) room (All-head IsNumbered h rest small) (fresh_host seen h rest differ) (All-head LacksEach h rest lacks) in
-    let last = subst (λ hs. Leads (map (λ g. spaced (host_words g)) rest) (file_at stages.Network (with_hosts s (seen ++ h ∷ []))) (file_at stages.Network (with_hosts s hs))) e
+    let last = subst (λ hs. Leads (map (λ g. spaced_words (host_words g)) rest) (file_at stages.Network (with_hosts s (seen ++ h ∷ []))) (file_at stages.Network (with_hosts s hs))) e
     (hosts_read rest (seen ++ h ∷ []) s (subst (λ hs. length hs ≤ 32) (sym e) few) (subst HostsDiffer (sym e) differ) (All-tail IsNumbered h rest small) (All-tail LacksEach h rest lacks)) in
-    leads-cons (spaced (host_words h)) (map (λ g. spaced (host_words g)) rest) (file_at stages.Network (with_hosts s seen)) (file_at stages.Network (with_hosts s (seen ++ h ∷ []))) (file_at stages.Network (with_hosts s (seen ++ h ∷ rest)))
+    leads-cons (spaced_words (host_words h)) (map (λ g. spaced_words (host_words g)) rest) (file_at stages.Network (with_hosts s seen)) (file_at stages.Network (with_hosts s (seen ++ h ∷ []))) (file_at stages.Network (with_hosts s (seen ++ h ∷ rest)))
     (λ number. network_step_ok (codes "host") _ (with_hosts s seen) (with_hosts s (seen ++ h ∷ [])) stages.Network number (host_words_free h (All-head IsNumbered h rest small)).0 refl (host_said h (with_hosts s seen) _ number one)) last
 
 -- ---- links
@@ -181,7 +181,7 @@ with_links s links = record s { links = links }
 
 -- links are read behind others
 pub links_read : (rest seen : List Cable) (s : Reading) → LinksApart (seen ++ rest) → All (KeepsLink s.hosts) rest → All IsSmallLink rest
-    → Leads (map (λ l. spaced (link_words l)) rest) (file_at stages.Network (with_links s seen)) (file_at stages.Network (with_links s (seen ++ rest)))
+    → Leads (map (λ l. spaced_words (link_words l)) rest) (file_at stages.Network (with_links s seen)) (file_at stages.Network (with_links s (seen ++ rest)))
 links_read [] seen s apart keeps small = subst (λ ls. Leads [] (file_at stages.Network (with_links s seen)) (file_at stages.Network (with_links s ls))) (sym (append-nil seen)) (leads-nil (file_at stages.Network (with_links s seen)))
 links_read (l ∷ rest) seen s apart keeps small =
     let e : (seen ++ l ∷ []) ++ rest ≡ seen ++ l ∷ rest = append_assoc seen (l ∷ []) rest in
@@ -189,7 +189,7 @@ links_read (l ∷ rest) seen s apart keeps small =
     let n = All-head IsSmallLink l rest small in
     let free = fresh_link seen l rest apart in
     let one = link_line_ok l (with_links s seen) k n free.0 free.1 in
-    let last = subst (λ ls. Leads (map (λ m. spaced (link_words m)) rest) (file_at stages.Network (with_links s (seen ++ l ∷ []))) (file_at stages.Network (with_links s ls))) e
+    let last = subst (λ ls. Leads (map (λ m. spaced_words (link_words m)) rest) (file_at stages.Network (with_links s (seen ++ l ∷ []))) (file_at stages.Network (with_links s ls))) e
     (links_read rest (seen ++ l ∷ []) s (subst LinksApart (sym e) apart) (All-tail (KeepsLink s.hosts) l rest keeps) (All-tail IsSmallLink l rest small)) in
-    leads-cons (spaced (link_words l)) (map (λ m. spaced (link_words m)) rest) (file_at stages.Network (with_links s seen)) (file_at stages.Network (with_links s (seen ++ l ∷ []))) (file_at stages.Network (with_links s (seen ++ l ∷ rest)))
+    leads-cons (spaced_words (link_words l)) (map (λ m. spaced_words (link_words m)) rest) (file_at stages.Network (with_links s seen)) (file_at stages.Network (with_links s (seen ++ l ∷ []))) (file_at stages.Network (with_links s (seen ++ l ∷ rest)))
     (λ number. network_step_ok (codes "link") _ (with_links s seen) (with_links s (seen ++ l ∷ [])) stages.Network number (link_words_free s.hosts l k n).0 refl (link_said l (with_links s seen) _ number one)) last

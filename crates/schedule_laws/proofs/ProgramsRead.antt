@@ -8,7 +8,7 @@ use Rattle.std.proofs.lemmas.List.Elements.{All-head, All-tail}
 use Rattle.plan_base.specs.declared.tree.Program.{Program}
 use Rattle.plan_base.specs.Words.{is_name}
 use Rattle.line_files.specs.declared.fault.LineReason.TheVariants.{BadWord, TwiceNamed, TooMany}
-use Rattle.line_files.specs.Lines.{spaced}
+use Rattle.line_files.specs.Lines.{spaced_words}
 use Rattle.line_files.specs.Files.{at_line}
 use Rattle.line_files.specs.Programs.{program_in}
 use Rattle.schedule_text.specs.declared.reading.NamedProgram.{NamedProgram}
@@ -25,8 +25,8 @@ use Rattle.schedule_laws.proofs.WordLaws.{Free, name_free}
 use Rattle.schedule_laws.proofs.ReadSteps.{then_ok, not_ok, below_ok, Leads, leads-nil, leads-append}
 use Rattle.schedule_laws.proofs.NetworkRead.{file_at, network_step_ok}
 
-abbrev pub titled : NamedText → NamedProgram
-titled p = named_program p.name p.program
+abbrev pub titled_program : NamedText → NamedProgram
+titled_program p = named_program p.name p.program
 
 abbrev pub with_programs : Reading → List NamedProgram → Reading
 with_programs s ps = record s { programs = ps }
@@ -91,13 +91,13 @@ inside_read (line ∷ text) begun s program number k e =
 -- ---- a program, and programs
 
 program_read : (p : NamedText) (s : Reading) → length s.programs < 64 → IsNamedText p → list_any (is_called p.name) s.programs ≡ false
-    → Leads (program_lines p) (file_at stages.Network s) (file_at stages.Network (with_programs s (s.programs ++ titled p ∷ [])))
+    → Leads (program_lines p) (file_at stages.Network s) (file_at stages.Network (with_programs s (s.programs ++ titled_program p ∷ [])))
 program_read p s room k new number =
-    then_lines schedule_format number (spaced (first_words p)) (p.text ++ codes "end program" ∷ []) (file_at stages.Network s) (file_at (stages.Inside (begun_at number p.name)) s) _
+    then_lines schedule_format number (spaced_words (first_words p)) (p.text ++ codes "end program" ∷ []) (file_at stages.Network s) (file_at (stages.Inside (begun_at number p.name)) s) _
     (network_step_ok (codes "program") (p.name ∷ []) s s (stages.Inside (begun_at number p.name)) number (first_free p k.name) refl (begins_said p s number (begun_at number p.name) (begins_ok p s number room k.name new)))
     (inside_read p.text (begun_at number p.name) s p.program (number + 1) k.lines k.says)
 
-fresh_name : (seen : List NamedText) (p : NamedText) (rest : List NamedText) → NamesDiffer (seen ++ p ∷ rest) → list_any (is_called p.name) (map titled seen) ≡ false
+fresh_name : (seen : List NamedText) (p : NamedText) (rest : List NamedText) → NamesDiffer (seen ++ p ∷ rest) → list_any (is_called p.name) (map titled_program seen) ≡ false
 fresh_name [] p rest d = refl
 fresh_name (q ∷ qs) p rest d =
     let e = sym (list_any-append (λ x. bytes_eq q.name x.name) qs (p ∷ rest)) ∙ d.0 in
@@ -115,13 +115,13 @@ map-push f (y ∷ ys) x = ap (λ z. f y ∷ z) (map-push f ys x)
 
 -- programs are read behind others
 pub programs_read : (rest seen : List NamedText) (s : Reading) → length (seen ++ rest) ≤ 64 → NamesDiffer (seen ++ rest) → All IsNamedText rest
-    → Leads (flat_map program_lines rest) (file_at stages.Network (with_programs s (map titled seen))) (file_at stages.Network (with_programs s (map titled (seen ++ rest))))
-programs_read [] seen s few differ all = subst (λ ps. Leads [] (file_at stages.Network (with_programs s (map titled seen))) (file_at stages.Network (with_programs s (map titled ps)))) (sym (append-nil seen)) (leads-nil (file_at stages.Network (with_programs s (map titled seen))))
+    → Leads (flat_map program_lines rest) (file_at stages.Network (with_programs s (map titled_program seen))) (file_at stages.Network (with_programs s (map titled_program (seen ++ rest))))
+programs_read [] seen s few differ all = subst (λ ps. Leads [] (file_at stages.Network (with_programs s (map titled_program seen))) (file_at stages.Network (with_programs s (map titled_program ps)))) (sym (append-nil seen)) (leads-nil (file_at stages.Network (with_programs s (map titled_program seen))))
 programs_read (p ∷ rest) seen s few differ all =
     let e : (seen ++ p ∷ []) ++ rest ≡ seen ++ p ∷ rest = append_assoc seen (p ∷ []) rest in
-    let room : length (map titled seen) < 64 = omega (arith, few, length-append seen (p ∷ rest), map-length titled seen) in
-    let one = program_read p (with_programs s (map titled seen)) room (All-head IsNamedText p rest all) (fresh_name seen p rest differ) in
-    let first = subst (λ ps. Leads (program_lines p) (file_at stages.Network (with_programs s (map titled seen))) (file_at stages.Network (with_programs s ps))) (map-push titled seen p) one in
-    let last = subst (λ ps. Leads (flat_map program_lines rest) (file_at stages.Network (with_programs s (map titled (seen ++ p ∷ [])))) (file_at stages.Network (with_programs s (map titled ps)))) e
+    let room : length (map titled_program seen) < 64 = omega (arith, few, length-append seen (p ∷ rest), map-length titled_program seen) in
+    let one = program_read p (with_programs s (map titled_program seen)) room (All-head IsNamedText p rest all) (fresh_name seen p rest differ) in
+    let first = subst (λ ps. Leads (program_lines p) (file_at stages.Network (with_programs s (map titled_program seen))) (file_at stages.Network (with_programs s ps))) (map-push titled_program seen p) one in
+    let last = subst (λ ps. Leads (flat_map program_lines rest) (file_at stages.Network (with_programs s (map titled_program (seen ++ p ∷ [])))) (file_at stages.Network (with_programs s (map titled_program ps)))) e
     (programs_read rest (seen ++ p ∷ []) s (subst (λ ps. length ps ≤ 64) (sym e) few) (subst NamesDiffer (sym e) differ) (All-tail IsNamedText p rest all)) in
-    leads-append (program_lines p) (flat_map program_lines rest) (file_at stages.Network (with_programs s (map titled seen))) (file_at stages.Network (with_programs s (map titled (seen ++ p ∷ [])))) (file_at stages.Network (with_programs s (map titled (seen ++ p ∷ rest)))) first last
+    leads-append (program_lines p) (flat_map program_lines rest) (file_at stages.Network (with_programs s (map titled_program seen))) (file_at stages.Network (with_programs s (map titled_program (seen ++ p ∷ [])))) (file_at stages.Network (with_programs s (map titled_program (seen ++ p ∷ rest)))) first last

@@ -11,7 +11,7 @@ use Rattle.network_plan.specs.Hosts.{has_host, has_link}
 use Rattle.line_files.specs.declared.fault.LineReason.{LineReason}
 use Rattle.line_files.specs.declared.fault.LineReason.TheVariants.{BadNumber, UnknownHost, TwiceNamed}
 use Rattle.line_files.specs.declared.fault.LineFault.{LineFault}
-use Rattle.line_files.specs.Reads.{◌>>=◌, and_then, allowed}
+use Rattle.line_files.specs.Reads.{◌>>=◌, and_then, allowed_or_reason}
 use Rattle.line_files.specs.Numbers.{number_at}
 use Rattle.line_files.proofs.Again.{number_again}
 use Rattle.schedule_text.specs.declared.reading.ScheduleFile.{ScheduleFile}
@@ -24,16 +24,16 @@ use Rattle.line_files.specs.Inside.{after_lines}
 pub then_ok : {A B : Type 0} (r : Result A LineReason) (x : A) (f : A → Result B LineReason) (y : Result B LineReason) → r ≡ Ok x → f x ≡ y → (r >>= f) ≡ y
 then_ok r x f y e k = ap (λ z. z >>= f) e ∙ k
 
-pub allowed_ok : (b : Bool) (r : LineReason) → b ≡ true → allowed b r ≡ Ok tt
-allowed_ok b r e = ap (λ t. allowed t r) e
+pub allowed_ok : (b : Bool) (r : LineReason) → b ≡ true → allowed_or_reason b r ≡ Ok tt
+allowed_ok b r e = ap (λ t. allowed_or_reason t r) e
 
-pub not_ok : (b : Bool) (r : LineReason) → b ≡ false → allowed (not b) r ≡ Ok tt
-not_ok b r e = ap (λ t. allowed (not t) r) e
+pub not_ok : (b : Bool) (r : LineReason) → b ≡ false → allowed_or_reason (not b) r ≡ Ok tt
+not_ok b r e = ap (λ t. allowed_or_reason (not t) r) e
 
-pub below_ok : (a b : ℕ) (r : LineReason) → a < b → allowed (ltb a b) r ≡ Ok tt
+pub below_ok : (a b : ℕ) (r : LineReason) → a < b → allowed_or_reason (ltb a b) r ≡ Ok tt
 below_ok a b r h = allowed_ok (ltb a b) r (lt-ltb a b h)
 
-pub within_ok : (a b : ℕ) (r : LineReason) → a ≤ b → allowed (leb a b) r ≡ Ok tt
+pub within_ok : (a b : ℕ) (r : LineReason) → a ≤ b → allowed_or_reason (leb a b) r ≡ Ok tt
 within_ok a b r h = allowed_ok (leb a b) r (le-leb a b h)
 
 -- a number that is written

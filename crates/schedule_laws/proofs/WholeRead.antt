@@ -14,7 +14,7 @@ use Rattle.network_plan.specs.declared.event.WorldEvent.{WorldEvent}
 use Rattle.network_plan.specs.declared.schedule.Cable.{Cable}
 use Rattle.network_plan.specs.Hosts.{has_host}
 use Rattle.network_plan.specs.Rules.{KeepsLink, KeepsEvent, weights}
-use Rattle.line_files.specs.Lines.{spaced}
+use Rattle.line_files.specs.Lines.{spaced_words}
 use Rattle.line_files.specs.Files.{read_on}
 use Rattle.line_files.proofs.Again.{without}
 use Rattle.schedule_text.specs.declared.reading.Reading.{Reading}
@@ -25,7 +25,7 @@ use Rattle.schedule_laws.specs.Written.{NamedText, Written, host_words, link_wor
 use Rattle.schedule_laws.proofs.WordLaws.{Free, free-append, spread_lines, line_is, name_free}
 use Rattle.schedule_laws.proofs.ReadSteps.{Leads, leads-nil, leads-cons, leads-one, leads-append}
 use Rattle.schedule_laws.proofs.NetworkRead.{file_at, network_step_ok, host_words_free, hosts_read, link_words_free, links_read}
-use Rattle.schedule_laws.proofs.ProgramsRead.{titled, programs_read}
+use Rattle.schedule_laws.proofs.ProgramsRead.{titled_program, programs_read}
 use Rattle.schedule_laws.proofs.EventsRead.{SmallHosts, event_line_free, events_read}
 use Rattle.line_files.proofs.CountLaws.{read_behind}
 
@@ -84,89 +84,89 @@ module _ (ps : List NamedText) (by : Chunk → Written) (s : Schedule) (is : IsS
   small : SmallHosts s.topology.hosts
   small = small_hosts s.topology.hosts is.rules.network.numbers
 
-  hosts_free : Free 10 (map (λ h. spaced (host_words h)) s.topology.hosts)
-  hosts_free = all_free (λ h. spaced (host_words h)) (λ h. h.host.0 < 2 ^ 32) (λ h k. line_is (host_words h) (host_words_free h k).1) s.topology.hosts is.rules.network.numbers
+  hosts_free : Free 10 (map (λ h. spaced_words (host_words h)) s.topology.hosts)
+  hosts_free = all_free (λ h. spaced_words (host_words h)) (λ h. h.host.0 < 2 ^ 32) (λ h k. line_is (host_words h) (host_words_free h k).1) s.topology.hosts is.rules.network.numbers
 
   links_small : All (λ l. (l.from.0 < 2 ^ 32) × (l.to.0 < 2 ^ 32)) s.topology.links
   links_small = small_links s.topology.hosts s.topology.links small is.rules.network.links
 
-  links_free : Free 10 (map (λ l. spaced (link_words l)) s.topology.links)
-  links_free = all_free (λ l. spaced (link_words l)) (BothLink s.topology.hosts) (λ l k. line_is (link_words l) (link_words_free s.topology.hosts l k.0 k.1).1) s.topology.links (λ k d h. (is.rules.network.links k d h, links_small k d h))
+  links_free : Free 10 (map (λ l. spaced_words (link_words l)) s.topology.links)
+  links_free = all_free (λ l. spaced_words (link_words l)) (BothLink s.topology.hosts) (λ l k. line_is (link_words l) (link_words_free s.topology.hosts l k.0 k.1).1) s.topology.links (λ k d h. (is.rules.network.links k d h, links_small k d h))
 
-  events_free : Free 10 (map (λ e. spaced (event_words by e)) s.events)
-  events_free = all_free (λ e. spaced (event_words by e)) (Both ps by s.topology.version s.topology.hosts) (λ e k. line_is (event_words by e) (event_line_free ps by s.topology.version s.topology.hosts e small k.0 k.1)) s.events (λ k d h. (is.rules.events k d h, is.injected k d h))
+  events_free : Free 10 (map (λ e. spaced_words (event_words by e)) s.events)
+  events_free = all_free (λ e. spaced_words (event_words by e)) (Both ps by s.topology.version s.topology.hosts) (λ e k. line_is (event_words by e) (event_line_free ps by s.topology.version s.topology.hosts e small k.0 k.1)) s.events (λ k d h. (is.rules.events k d h, is.injected k d h))
 
   lines_free : Free 10 (schedule_lines ps by s)
   unfolding schedule_lines
   lines_free = (
     header_free s.topology.version,
     free-append 10 (frames_lines s.frames) _ (frames_free s.frames)
-        (free-append 10 (map (λ h. spaced (host_words h)) s.topology.hosts) _ hosts_free
-        (free-append 10 (map (λ l. spaced (link_words l)) s.topology.links) _ links_free
+        (free-append 10 (map (λ h. spaced_words (host_words h)) s.topology.hosts) _ hosts_free
+        (free-append 10 (map (λ l. spaced_words (link_words l)) s.topology.links) _ links_free
         (free-append 10 (flat_map program_lines ps) _ (programs_free ps is.programs) (refl, events_free)))),
   )
 
   -- ---- what they say
 
-  abbrev begun : Reading
-  begun = record { version = s.topology.version; frames = s.frames; hosts = []; links = []; programs = []; events = []; weight = 0 }
+  abbrev begun_reading : Reading
+  begun_reading = record { version = s.topology.version; frames = s.frames; hosts = []; links = []; programs = []; events = []; weight = 0 }
 
-  abbrev hosted : Reading
-  hosted = record { version = s.topology.version; frames = s.frames; hosts = s.topology.hosts; links = []; programs = []; events = []; weight = 0 }
+  abbrev hosted_reading : Reading
+  hosted_reading = record { version = s.topology.version; frames = s.frames; hosts = s.topology.hosts; links = []; programs = []; events = []; weight = 0 }
 
-  abbrev linked : Reading
-  linked = record { version = s.topology.version; frames = s.frames; hosts = s.topology.hosts; links = s.topology.links; programs = []; events = []; weight = 0 }
+  abbrev linked_reading : Reading
+  linked_reading = record { version = s.topology.version; frames = s.frames; hosts = s.topology.hosts; links = s.topology.links; programs = []; events = []; weight = 0 }
 
-  abbrev carried : Reading
-  carried = record { version = s.topology.version; frames = s.frames; hosts = s.topology.hosts; links = s.topology.links; programs = map titled ps; events = []; weight = 0 }
+  abbrev carried_reading : Reading
+  carried_reading = record { version = s.topology.version; frames = s.frames; hosts = s.topology.hosts; links = s.topology.links; programs = map titled_program ps; events = []; weight = 0 }
 
   abbrev whole : Reading
-  whole = record { version = s.topology.version; frames = s.frames; hosts = s.topology.hosts; links = s.topology.links; programs = map titled ps; events = s.events; weight = 0 + weights s.events }
+  whole = record { version = s.topology.version; frames = s.frames; hosts = s.topology.hosts; links = s.topology.links; programs = map titled_program ps; events = s.events; weight = 0 + weights s.events }
 
-  hosts_lead : Leads (map (λ h. spaced (host_words h)) s.topology.hosts) (file_at stages.Network begun) (file_at stages.Network hosted)
-  hosts_lead = hosts_read s.topology.hosts [] begun is.rules.network.few is.rules.network.hosts is.rules.network.numbers is.rules.network.missing
+  hosts_lead : Leads (map (λ h. spaced_words (host_words h)) s.topology.hosts) (file_at stages.Network begun_reading) (file_at stages.Network hosted_reading)
+  hosts_lead = hosts_read s.topology.hosts [] begun_reading is.rules.network.few is.rules.network.hosts is.rules.network.numbers is.rules.network.missing
 
-  links_lead : Leads (map (λ l. spaced (link_words l)) s.topology.links) (file_at stages.Network hosted) (file_at stages.Network linked)
-  links_lead = links_read s.topology.links [] hosted is.rules.network.apart is.rules.network.links links_small
+  links_lead : Leads (map (λ l. spaced_words (link_words l)) s.topology.links) (file_at stages.Network hosted_reading) (file_at stages.Network linked_reading)
+  links_lead = links_read s.topology.links [] hosted_reading is.rules.network.apart is.rules.network.links links_small
 
-  programs_lead : Leads (flat_map program_lines ps) (file_at stages.Network linked) (file_at stages.Network carried)
-  programs_lead = programs_read ps [] linked is.few is.differ is.programs
+  programs_lead : Leads (flat_map program_lines ps) (file_at stages.Network linked_reading) (file_at stages.Network carried_reading)
+  programs_lead = programs_read ps [] linked_reading is.few is.differ is.programs
 
-  events_begin : (number : ℕ) → schedule_format.step number (codes "events") (file_at stages.Network carried) ≡ Ok (file_at stages.Events carried)
+  events_begin : (number : ℕ) → schedule_format.step number (codes "events") (file_at stages.Network carried_reading) ≡ Ok (file_at stages.Events carried_reading)
   unfolding network_line network_rest
-  events_begin number = network_step_ok (codes "events") [] carried carried stages.Events number (refl, tt) refl refl
+  events_begin number = network_step_ok (codes "events") [] carried_reading carried_reading stages.Events number (refl, tt) refl refl
 
-  events_lead : Leads (map (λ e. spaced (event_words by e)) s.events) (file_at stages.Events carried) (file_at stages.Events whole)
-  events_lead = events_read ps by s.events [] carried 0 (record { programs = refl; small = small }) is.rules.few is.rules.events is.injected (omega (arith, is.rules.weight))
+  events_lead : Leads (map (λ e. spaced_words (event_words by e)) s.events) (file_at stages.Events carried_reading) (file_at stages.Events whole)
+  events_lead = events_read ps by s.events [] carried_reading 0 (record { programs = refl; small = small }) is.rules.few is.rules.events is.injected (omega (arith, is.rules.weight))
 
-abbrev shown : Version → Bool → Reading
-shown version frames = record { version = version; frames = frames; hosts = []; links = []; programs = []; events = []; weight = 0 }
+abbrev shown_reading : Version → Bool → Reading
+shown_reading version frames = record { version = version; frames = frames; hosts = []; links = []; programs = []; events = []; weight = 0 }
 
-header_step : (version : Version) (number : ℕ) → schedule_format.step number (header_line version) nothing_read ≡ Ok (file_at stages.Network (shown version false))
+header_step : (version : Version) (number : ℕ) → schedule_format.step number (header_line version) nothing_read ≡ Ok (file_at stages.Network (shown_reading version false))
 unfolding step
 header_step One number = refl
 header_step Two number = refl
 
-frames_said : (version : Version) (number : ℕ) → network_line number (codes "frames" ∷ []) (shown version false) ≡ Ok (stages.Network, shown version true)
+frames_said : (version : Version) (number : ℕ) → network_line number (codes "frames" ∷ []) (shown_reading version false) ≡ Ok (stages.Network, shown_reading version true)
 unfolding network_line network_rest frames_line
 frames_said version number = refl
 
-frames_lead : (version : Version) (frames : Bool) → Leads (frames_lines frames) (file_at stages.Network (shown version false)) (file_at stages.Network (shown version frames))
+frames_lead : (version : Version) (frames : Bool) → Leads (frames_lines frames) (file_at stages.Network (shown_reading version false)) (file_at stages.Network (shown_reading version frames))
 frames_lead version true =
-    leads-one (codes "frames") (file_at stages.Network (shown version false)) (file_at stages.Network (shown version true))
-    (λ number. network_step_ok (codes "frames") [] (shown version false) (shown version true) stages.Network number (refl, tt) refl (frames_said version number))
-frames_lead version false = leads-nil (file_at stages.Network (shown version false))
+    leads-one (codes "frames") (file_at stages.Network (shown_reading version false)) (file_at stages.Network (shown_reading version true))
+    (λ number. network_step_ok (codes "frames") [] (shown_reading version false) (shown_reading version true) stages.Network number (refl, tt) refl (frames_said version number))
+frames_lead version false = leads-nil (file_at stages.Network (shown_reading version false))
 
 module _ (ps : List NamedText) (by : Chunk → Written) (s : Schedule) (is : IsSchedule ps by s) where
   all_lead : Leads (schedule_lines ps by s) nothing_read (file_at stages.Events (whole ps by s is))
   unfolding schedule_lines
   all_lead =
-      leads-cons (header_line s.topology.version) _ nothing_read (file_at stages.Network (shown s.topology.version false)) _ (header_step s.topology.version)
-      (leads-append (frames_lines s.frames) _ (file_at stages.Network (shown s.topology.version false)) (file_at stages.Network (begun ps by s is)) _ (frames_lead s.topology.version s.frames)
-      (leads-append (map (λ h. spaced (host_words h)) s.topology.hosts) _ (file_at stages.Network (begun ps by s is)) (file_at stages.Network (hosted ps by s is)) _ (hosts_lead ps by s is)
-      (leads-append (map (λ l. spaced (link_words l)) s.topology.links) _ (file_at stages.Network (hosted ps by s is)) (file_at stages.Network (linked ps by s is)) _ (links_lead ps by s is)
-      (leads-append (flat_map program_lines ps) _ (file_at stages.Network (linked ps by s is)) (file_at stages.Network (carried ps by s is)) _ (programs_lead ps by s is)
-      (leads-cons (codes "events") _ (file_at stages.Network (carried ps by s is)) (file_at stages.Events (carried ps by s is)) _ (events_begin ps by s is) (events_lead ps by s is))))))
+      leads-cons (header_line s.topology.version) _ nothing_read (file_at stages.Network (shown_reading s.topology.version false)) _ (header_step s.topology.version)
+      (leads-append (frames_lines s.frames) _ (file_at stages.Network (shown_reading s.topology.version false)) (file_at stages.Network (begun_reading ps by s is)) _ (frames_lead s.topology.version s.frames)
+      (leads-append (map (λ h. spaced_words (host_words h)) s.topology.hosts) _ (file_at stages.Network (begun_reading ps by s is)) (file_at stages.Network (hosted_reading ps by s is)) _ (hosts_lead ps by s is)
+      (leads-append (map (λ l. spaced_words (link_words l)) s.topology.links) _ (file_at stages.Network (hosted_reading ps by s is)) (file_at stages.Network (linked_reading ps by s is)) _ (links_lead ps by s is)
+      (leads-append (flat_map program_lines ps) _ (file_at stages.Network (linked_reading ps by s is)) (file_at stages.Network (carried_reading ps by s is)) _ (programs_lead ps by s is)
+      (leads-cons (codes "events") _ (file_at stages.Network (carried_reading ps by s is)) (file_at stages.Events (carried_reading ps by s is)) _ (events_begin ps by s is) (events_lead ps by s is))))))
 
   end_is : (number : ℕ) → read_on schedule_format number [] (file_at stages.Events (whole ps by s is)) ≡ Ok s
   unfolding read_on

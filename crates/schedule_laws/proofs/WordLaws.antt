@@ -9,7 +9,7 @@ use Rattle.plan_items.proofs.Bools.{both_true, and_both}
 use Rattle.hex.specs.Hex.{is_hex_digit, encode_lower, IsBytes}
 use Rattle.hex.proofs.HexLemmas.{decode_of-encode_lower, decode_of-ok}
 use Rattle.plan_base.specs.Words.{is_word_byte, is_word, is_name}
-use Rattle.line_files.specs.Lines.{lines, words, spaced, behind}
+use Rattle.line_files.specs.Lines.{lines, words, spaced_words, behind}
 use Rattle.line_files.proofs.Again.{without, line_first, word_first, word_alone, without-append, number_without}
 use Rattle.schedule_laws.specs.Written.{spread}
 
@@ -33,21 +33,21 @@ spread_lines (l ∷ ls) k = line_first l (spread ls) k.0 ∙ ap (λ z. l ∷ z) 
 -- ---- words of a line
 
 -- the words of a line are those that it was made of
-pub words_are : (w : List ℕ) (ws : List (List ℕ)) → Free 32 (w ∷ ws) → words (spaced (w ∷ ws)) ≡ w ∷ ws
+pub words_are : (w : List ℕ) (ws : List (List ℕ)) → Free 32 (w ∷ ws) → words (spaced_words (w ∷ ws)) ≡ w ∷ ws
 words_are w [] k = ap words (append-nil w) ∙ word_alone w k.0
-words_are w (v ∷ vs) k = word_first w (spaced (v ∷ vs)) k.0 ∙ ap (λ z. w ∷ z) (words_are v vs k.1)
+words_are w (v ∷ vs) k = word_first w (spaced_words (v ∷ vs)) k.0 ∙ ap (λ z. w ∷ z) (words_are v vs k.1)
 
 -- and behind them any rest
-pub words_rest : (w : List ℕ) (ws : List (List ℕ)) (rest : List ℕ) → Free 32 (w ∷ ws) → words (spaced ((w ∷ ws) ++ rest ∷ [])) ≡ (w ∷ ws) ++ words rest
+pub words_rest : (w : List ℕ) (ws : List (List ℕ)) (rest : List ℕ) → Free 32 (w ∷ ws) → words (spaced_words ((w ∷ ws) ++ rest ∷ [])) ≡ (w ∷ ws) ++ words rest
 words_rest w [] rest k = word_first w (rest ++ []) k.0 ∙ ap (λ z. w ∷ words z) (append-nil rest)
-words_rest w (v ∷ vs) rest k = word_first w (spaced ((v ∷ vs) ++ rest ∷ [])) k.0 ∙ ap (λ z. w ∷ z) (words_rest v vs rest k.1)
+words_rest w (v ∷ vs) rest k = word_first w (spaced_words ((v ∷ vs) ++ rest ∷ [])) k.0 ∙ ap (λ z. w ∷ z) (words_rest v vs rest k.1)
 
 behind_line : (ws : List (List ℕ)) → Free 10 ws → without 10 (behind ws) ≡ true
 behind_line [] k = refl
 behind_line (w ∷ ws) k = without-append 10 w (behind ws) k.0 (behind_line ws k.1)
 
 -- a line of words has no line feed
-pub line_is : (ws : List (List ℕ)) → Free 10 ws → without 10 (spaced ws) ≡ true
+pub line_is : (ws : List (List ℕ)) → Free 10 ws → without 10 (spaced_words ws) ≡ true
 line_is [] k = refl
 line_is (w ∷ ws) k = without-append 10 w (behind ws) k.0 (behind_line ws k.1)
 

@@ -1,7 +1,7 @@
 -- The lines of a schedule one by one: where those that say nothing may stand, and where programs begin.
 use Rattle.std.specs.Prelude.{ℕ, List}
 use Rattle.line_files.specs.Inside.{AreInside}
-use Rattle.line_files.specs.Counting.{moved}
+use Rattle.line_files.specs.Counting.{moved_line}
 use Rattle.schedule_text.specs.declared.reading.BegunProgram.{BegunProgram}
 use Rattle.schedule_text.specs.declared.reading.Stage.{Stage}
 use Rattle.schedule_text.specs.declared.reading.Stage.TheVariants as stages
@@ -22,7 +22,7 @@ pub record EndOutside (ls : List (List ℕ)) : Type 0 where
 
 -- a program where one line more stands behind the first ones
 abbrev pub later_program : ℕ → BegunProgram → BegunProgram
-later_program first begun = record begun { source = record begun.source { line = moved first begun.source.line } }
+later_program first begun = record begun { source = record begun.source { line = moved_line first begun.source.line } }
 
 abbrev pub later_stage : ℕ → Stage → Stage
 later_stage first stages.Header = stages.Header

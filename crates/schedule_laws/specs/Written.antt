@@ -21,7 +21,7 @@ use Rattle.network_plan.specs.declared.event.WorldEvent.{WorldEvent}
 use Rattle.network_plan.specs.declared.event.WorldEvent.TheVariants as happens
 use Rattle.network_plan.specs.declared.schedule.Cable.{Cable}
 use Rattle.network_plan.specs.Rules.{KeepsRules}
-use Rattle.line_files.specs.Lines.{spaced}
+use Rattle.line_files.specs.Lines.{spaced_words}
 use Rattle.line_files.specs.Programs.{program_in, has_name}
 
 -- ---- texts
@@ -74,7 +74,7 @@ event_words by (happens.Tick h) = codes "tick" ∷ decimal h.0 ∷ []
 event_words by (happens.Raw h d bytes) = codes "raw" ∷ decimal h.0 ∷ decimal d.0 ∷ encode_lower bytes ∷ []
 
 abbrev pub program_lines : NamedText → List (List ℕ)
-program_lines p = spaced (codes "program" ∷ p.name ∷ []) ∷ (p.text ++ codes "end program" ∷ [])
+program_lines p = spaced_words (codes "program" ∷ p.name ∷ []) ∷ (p.text ++ codes "end program" ∷ [])
 
 -- the first line
 abbrev pub header_line : Version → List ℕ
@@ -88,8 +88,8 @@ frames_lines false = []
 -- a schedule line by line: the header, hosts, links, programs, and then the events
 unfoldable pub schedule_lines : List NamedText → (Chunk → Written) → Schedule → List (List ℕ)
 schedule_lines programs by s =
-    header_line s.topology.version ∷ (frames_lines s.frames ++ (map (λ h. spaced (host_words h)) s.topology.hosts ++ (map (λ l. spaced (link_words l)) s.topology.links
-    ++ (flat_map program_lines programs ++ (codes "events" ∷ map (λ e. spaced (event_words by e)) s.events)))))
+    header_line s.topology.version ∷ (frames_lines s.frames ++ (map (λ h. spaced_words (host_words h)) s.topology.hosts ++ (map (λ l. spaced_words (link_words l)) s.topology.links
+    ++ (flat_map program_lines programs ++ (codes "events" ∷ map (λ e. spaced_words (event_words by e)) s.events)))))
 
 -- a schedule as a text
 abbrev pub schedule_text : List NamedText → (Chunk → Written) → Schedule → List ℕ

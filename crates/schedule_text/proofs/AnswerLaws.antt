@@ -10,7 +10,7 @@ use Rattle.line_files.specs.declared.fault.LineReason.TheVariants.{BadHeader, Ba
 use Rattle.line_files.specs.declared.fault.LineFault.{LineFault}
 use Rattle.line_files.specs.declared.fault.LineFault.TheVariants as faults
 use Rattle.line_files.specs.Lines.{lines, words}
-use Rattle.line_files.specs.Reads.{word_at, end_at, allowed}
+use Rattle.line_files.specs.Reads.{word_at, end_at, allowed_or_reason}
 use Rattle.line_files.specs.Files.{is_skipped}
 use Rattle.line_files.specs.Headers.{version_in}
 use Rattle.line_files.specs.Programs.{named_word}
@@ -75,10 +75,10 @@ OpensAt number begun = begun.source.line ≡ number
 opens : (number : ℕ) (ws : List (List ℕ)) (s : Reading) → IfRead (OpensAt number) (program_line number ws s)
 unfolding program_line
 opens number ws s =
-    then_keeps (OpensAt number) (allowed (ltb (length s.programs) 64) TooMany) _ (λ u hu.
+    then_keeps (OpensAt number) (allowed_or_reason (ltb (length s.programs) 64) TooMany) _ (λ u hu.
     then_keeps (OpensAt number) (word_at ws) _ (λ w hw.
     then_keeps (OpensAt number) (named_word w.0 BadWord) _ (λ name hn.
-    then_keeps (OpensAt number) (allowed (not (list_any (is_called w.0) s.programs)) TwiceNamed) _ (λ v hv.
+    then_keeps (OpensAt number) (allowed_or_reason (not (list_any (is_called w.0) s.programs)) TwiceNamed) _ (λ v hv.
     then_keeps (OpensAt number) (end_at w.1) _ (λ x hx.
     done_keeps (OpensAt number) (begun_at number name) refl)))))
 
@@ -136,16 +136,16 @@ bytes_placed : (bytes : List ℕ) → OnFault (1 + length (lines bytes)) (schedu
 unfolding schedule_of
 bytes_placed bytes e h = refused_placed schedule_format nothing_read bytes e refuses h
 
-answered : (bytes : List ℕ) (r : Result Schedule LineFault) → schedule_of bytes ≡ r → OnFault (1 + length (lines bytes)) r → Accepted bytes ⊎ Refused bytes
-answered bytes (Ok s) e h = inl (record { schedule = s; says = e })
-answered bytes (Err (faults.Line n r)) e h =
+schedule_or_refusal : (bytes : List ℕ) (r : Result Schedule LineFault) → schedule_of bytes ≡ r → OnFault (1 + length (lines bytes)) r → Accepted bytes ⊎ Refused bytes
+schedule_or_refusal bytes (Ok s) e h = inl (record { schedule = s; says = e })
+schedule_or_refusal bytes (Err (faults.Line n r)) e h =
     let p = h (faults.Line n r) refl in
     inr (record { line = n; reason = r; refused = e; from = p.0; to = omega (arith, p.1) })
-answered bytes (Err faults.NoMemory) e h = absurd (h faults.NoMemory refl)
+schedule_or_refusal bytes (Err faults.NoMemory) e h = absurd (h faults.NoMemory refl)
 
 -- each file has a schedule or a first refusal
 pub has_answer : (bytes : List ℕ) → Accepted bytes ⊎ Refused bytes
-has_answer bytes = answered bytes (schedule_of bytes) refl (bytes_placed bytes)
+has_answer bytes = schedule_or_refusal bytes (schedule_of bytes) refl (bytes_placed bytes)
 
 pub not_both : (bytes : List ℕ) (s : Schedule) (n : ℕ) (r : LineReason) → Says bytes s → IsRefused bytes n r → ⊥
 not_both bytes s n r e f = let both = sym e ∙ f in cc

@@ -13,12 +13,12 @@ use Rattle.network_plan.specs.Hosts.{has_host, ends_at, has_link}
 use Rattle.line_files.proofs.Keeping.{either_false}
 use Rattle.network_plan.specs.Rules.{HostsDiffer, LinksApart, KeepsLink, KeepsEvent}
 
-pub swapped : (a b : ℕ) (t : Bool) → eqb a b ≡ t → eqb b a ≡ t
-swapped a b true e = eq-eqb b a (sym (eqb-true a b e))
-swapped a b false e = ne_eqb b a (λ q. eqb-false a b e (sym q))
+pub equality_swaps : (a b : ℕ) (t : Bool) → eqb a b ≡ t → eqb b a ≡ t
+equality_swaps a b true e = eq-eqb b a (sym (eqb-true a b e))
+equality_swaps a b false e = ne_eqb b a (λ q. eqb-false a b e (sym q))
 
 swap_is : (a b : ℕ) → eqb b a ≡ eqb a b
-swap_is a b = swapped a b (eqb a b) refl
+swap_is a b = equality_swaps a b (eqb a b) refl
 
 -- ---- hosts
 
@@ -30,7 +30,7 @@ pub differ_push : (hosts : List HostSpec) (x : HostSpec) → HostsDiffer hosts �
 differ_push [] x d e = (refl, tt)
 differ_push (h ∷ hosts) x d e =
     let f = either_false (eqb h.host.0 x.host.0) (has_host x.host hosts) e in
-    let new : has_host h.host (hosts ++ x ∷ []) ≡ false = rw (list_any-append (λ g. eqb g.host.0 h.host.0) hosts (x ∷ []), d.0, swapped h.host.0 x.host.0 false f.0) refl in
+    let new : has_host h.host (hosts ++ x ∷ []) ≡ false = rw (list_any-append (λ g. eqb g.host.0 h.host.0) hosts (x ∷ []), d.0, equality_swaps h.host.0 x.host.0 false f.0) refl in
     (new, differ_push hosts x d.1 f.1)
 
 -- what keeps the rules keeps them where there is one host more

@@ -28,13 +28,13 @@ use Rattle.line_files.specs.declared.fault.LineReason.{LineReason}
 use Rattle.line_files.specs.declared.fault.LineReason.TheVariants.{BadHeader, BadWord, UnknownHost, UnknownProgram, TwiceNamed, TooMany, BadArgument}
 use Rattle.line_files.specs.declared.fault.LineFault.{LineFault}
 use Rattle.line_files.specs.Lines.{lines, words}
-use Rattle.line_files.specs.Reads.{FileGives, word_at, end_at, allowed}
+use Rattle.line_files.specs.Reads.{FileGives, word_at, end_at, allowed_or_reason}
 use Rattle.line_files.specs.Files.{is_skipped}
 use Rattle.line_files.specs.Numbers.{number_at}
 use Rattle.line_files.specs.Packages.{packages_at}
 use Rattle.line_files.specs.HexWords.{hex_at}
-use Rattle.line_files.specs.Headers.{version_in, versioned}
-use Rattle.line_files.specs.Programs.{program_in, weighed}
+use Rattle.line_files.specs.Headers.{version_in, next_by_version}
+use Rattle.line_files.specs.Programs.{program_in, weighed_sum}
 use Rattle.line_files.specs.Injections.{injection_at}
 use Rattle.line_files.proofs.Keeping.{IfRead, then_keeps, done_keeps, allowed_true, allowed_not, allowed_below, ok_or_is, number_is, AreSized, hex_is, packages_are, IfStep, step_done, at_line_keeps, either_keeps, version_keeps, read_keeps}
 use Rattle.line_files.proofs.KeptPrograms as kept
@@ -64,7 +64,7 @@ host_is : (hosts : List HostSpec) (ws : List (List ℕ)) → IfRead (IsHost host
 unfolding host_at
 host_is hosts ws =
     then_keeps (IsHost hosts) (number_at 0 4294967295 ws) _ (λ n hn.
-    then_keeps (IsHost hosts) (allowed (has_host (host_of n.0) hosts) UnknownHost) _ (λ u hu.
+    then_keeps (IsHost hosts) (allowed_or_reason (has_host (host_of n.0) hosts) UnknownHost) _ (λ u hu.
     done_keeps (IsHost hosts) (host_of n.0, n.1) (allowed_true (has_host (host_of n.0) hosts) UnknownHost u hu)))
 
 abbrev IsDevice : Dev × List (List ℕ) → Type 0
@@ -83,7 +83,7 @@ device_is : (links : List Cable) (h : Host) (ws : List (List ℕ)) → IfRead (I
 unfolding free_device_at
 device_is links h ws =
     then_keeps (IsFree links h) (number_at 1 8 ws) _ (λ d hd.
-    then_keeps (IsFree links h) (allowed (not (has_link h (dev_of d.0) links)) TwiceNamed) _ (λ u hu.
+    then_keeps (IsFree links h) (allowed_or_reason (not (has_link h (dev_of d.0) links)) TwiceNamed) _ (λ u hu.
     done_keeps (IsFree links h) (dev_of d.0, d.1) (number_is 1 8 ws d hd, allowed_not (has_link h (dev_of d.0) links) TwiceNamed u hu)))
 
 either_found : {X : Type 0} (P : X → Type 0) (t : Bool) (y x : X) (o : Option X) → P y → (o ≡ Some x → P x) → cond t (Some y) o ≡ Some x → P x
@@ -147,9 +147,9 @@ add_host s n missing k room small new lacks = record {
 host_line_keeps : (ws : List (List ℕ)) (s : Reading) → Keeps s → IfRead Keeps (host_line ws s)
 unfolding host_line
 host_line_keeps ws s k =
-    then_keeps Keeps (allowed (ltb (length s.hosts) 32) TooMany) _ (λ u room.
+    then_keeps Keeps (allowed_or_reason (ltb (length s.hosts) 32) TooMany) _ (λ u room.
     then_keeps Keeps (number_at 0 4294967295 ws) _ (λ n hn.
-    then_keeps Keeps (allowed (not (has_host (host_of n.0) s.hosts)) TwiceNamed) _ (λ v new.
+    then_keeps Keeps (allowed_or_reason (not (has_host (host_of n.0) s.hosts)) TwiceNamed) _ (λ v new.
     then_keeps Keeps (packages_at [] n.1) _ (λ missing hm.
     done_keeps Keeps (record s { hosts = s.hosts ++ host_spec n.0 missing ∷ [] })
     (add_host s n.0 missing k (allowed_below (length s.hosts) 32 TooMany u room) (omega (arith, (number_is 0 4294967295 ws n hn).1)) (allowed_not (has_host (host_of n.0) s.hosts) TwiceNamed v new) (packages_are [] n.1 tt missing hm))))))
@@ -176,7 +176,7 @@ link_line_keeps ws s k =
     then_keeps Keeps (host_at s.hosts ws) _ (λ n hn.
     then_keeps Keeps (free_device_at s.links n.0 n.1) _ (λ d hd.
     then_keeps Keeps (host_at s.hosts d.1) _ (λ m hm.
-    then_keeps Keeps (allowed (not (eqb m.0.0 n.0.0)) BadArgument) _ (λ u apart.
+    then_keeps Keeps (allowed_or_reason (not (eqb m.0.0 n.0.0)) BadArgument) _ (λ u apart.
     then_keeps Keeps (free_device_at s.links m.0 m.1) _ (λ e he.
     then_keeps Keeps (end_at e.1) _ (λ v hv.
     done_keeps Keeps (record s { links = s.links ++ (record { from = n.0; from_dev = d.0; to = m.0; to_dev = e.0 }) ∷ [] })
@@ -195,7 +195,7 @@ shown_keeps s k = record { network = k.network; programs = k.programs; few = k.f
 frames_keeps : (ws : List (List ℕ)) (s : Reading) → Keeps s → IfRead Keeps (frames_line ws s)
 unfolding frames_line
 frames_keeps ws s k =
-    then_keeps Keeps (allowed (is_first s) BadWord) _ (λ u hu.
+    then_keeps Keeps (allowed_or_reason (is_first s) BadWord) _ (λ u hu.
     then_keeps Keeps (end_at ws) _ (λ v hv.
     done_keeps Keeps (record s { frames = true }) (shown_keeps s k)))
 
@@ -267,7 +267,7 @@ inject_keeps : (ws : List (List ℕ)) (s : Reading) → Keeps s → length s.eve
 unfolding inject_line
 inject_keeps ws s k room =
     then_keeps Keeps (injected_at s ws) _ (λ i hi.
-    then_keeps Keeps (weighed s.weight i.1) _ (λ total ht.
+    then_keeps Keeps (weighed_sum s.weight i.1) _ (λ total ht.
     let w = kept.weighed_is s.weight i.1 total ht in
     done_keeps Keeps _ (add_event s (happens.Inject i.0 i.1 i.2 i.3) total k room (injected_is ws s k i hi) (let e = w.0 in omega (arith, e)) w.1)))
 
@@ -351,7 +351,7 @@ unfolding event_line
 event_keeps ws s k =
     then_keeps Keeps (word_at ws) _ (λ w hw.
     then_keeps Keeps (ok_or (event_word s.version w.0) BadWord) _ (λ kind hk.
-    then_keeps Keeps (allowed (ltb (length s.events) 50000) TooMany) _ (λ u room.
+    then_keeps Keeps (allowed_or_reason (ltb (length s.events) 50000) TooMany) _ (λ u room.
     event_rest_keeps kind w.1 s k (allowed_below (length s.events) 50000 TooMany u room)
     (λ is. two_repeats s.version w.0 (subst (λ x. event_word s.version w.0 ≡ Some x) is (ok_or_is (event_word s.version w.0) BadWord kind hk))))))
 
@@ -371,7 +371,7 @@ as_version v s k none = record {
   weight = k.weight;
 }
 
-header_keeps : (number : ℕ) (v : Option Version) (s : Reading) → Keeps s → s.events ≡ [] → IfStep KeepsNext (versioned number (begun_by s) v)
+header_keeps : (number : ℕ) (v : Option Version) (s : Reading) → Keeps s → s.events ≡ [] → IfStep KeepsNext (next_by_version number (begun_by s) v)
 header_keeps number v s k none = version_keeps KeepsNext number (begun_by s) v (λ version. (as_version version s k none, tt))
 
 step_keeps : (number : ℕ) (line : List ℕ) (stage : Stage) (s : Reading) → Keeps s → Begins stage s → IfStep KeepsNext (step number line stage s)

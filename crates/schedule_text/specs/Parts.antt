@@ -9,7 +9,7 @@ use Rattle.network_plan.specs.declared.schedule.HostSpec.{HostSpec}
 use Rattle.network_plan.specs.declared.schedule.Cable.{Cable}
 use Rattle.network_plan.specs.Hosts.{host_of, dev_of, has_host, has_link}
 use Rattle.line_files.specs.declared.fault.LineReason.TheVariants.{UnknownHost, UnknownProgram, TwiceNamed}
-use Rattle.line_files.specs.Reads.{◌>>=◌, Part, word_at, allowed}
+use Rattle.line_files.specs.Reads.{◌>>=◌, Part, word_at, allowed_or_reason}
 use Rattle.line_files.specs.Numbers.{number_at}
 use Rattle.schedule_text.specs.declared.reading.NamedProgram.{NamedProgram}
 
@@ -17,7 +17,7 @@ use Rattle.schedule_text.specs.declared.reading.NamedProgram.{NamedProgram}
 unfoldable pub host_at : List HostSpec → List (List ℕ) → Part Host
 host_at hosts ws = do
   n ← number_at 0 4294967295 ws
-  _ ← allowed (has_host (host_of n.0) hosts) UnknownHost
+  _ ← allowed_or_reason (has_host (host_of n.0) hosts) UnknownHost
   Ok (host_of n.0, n.1)
 
 -- the next word as a device
@@ -30,7 +30,7 @@ device_at ws = do
 unfoldable pub free_device_at : List Cable → Host → List (List ℕ) → Part Dev
 free_device_at links h ws = do
   d ← number_at 1 8 ws
-  _ ← allowed (not (has_link h (dev_of d.0) links)) TwiceNamed
+  _ ← allowed_or_reason (not (has_link h (dev_of d.0) links)) TwiceNamed
   Ok (dev_of d.0, d.1)
 
 -- whether a program has a name

@@ -21,12 +21,12 @@ use Rattle.line_files.specs.declared.fault.LineReason.TheVariants.{BadHeader, Ba
 use Rattle.line_files.specs.declared.fault.LineFault.{LineFault}
 use Rattle.line_files.specs.declared.fault.LineFault.TheVariants as faults
 use Rattle.line_files.specs.Lines.{words}
-use Rattle.line_files.specs.Reads.{◌>>=◌, word_at, end_at, allowed}
+use Rattle.line_files.specs.Reads.{◌>>=◌, word_at, end_at, allowed_or_reason}
 use Rattle.line_files.specs.Files.{Format, is_skipped, at_line, file_of}
 use Rattle.line_files.specs.Numbers.{number_at}
 use Rattle.line_files.specs.Packages.{packages_at}
 use Rattle.line_files.specs.HexWords.{hex_at}
-use Rattle.line_files.specs.Programs.{opened_program, with_line, program_in, named_word, weighed}
+use Rattle.line_files.specs.Programs.{opened_program, with_line, program_in, named_word, weighed_sum}
 use Rattle.line_files.specs.Headers.{version_line}
 use Rattle.line_files.specs.Injections.{injection_at}
 use Rattle.schedule_text.specs.declared.reading.NamedProgram.{NamedProgram}
@@ -61,7 +61,7 @@ is_first s = not s.frames && (length s.hosts == 0 && length s.programs == 0)
 -- `frames`, once and in front of the other lines of the network
 unfoldable pub frames_line : List (List ℕ) → Reading → Result Reading LineReason
 frames_line ws s = do
-  _ ← allowed (is_first s) BadWord
+  _ ← allowed_or_reason (is_first s) BadWord
   _ ← end_at ws
   Ok (record s { frames = true })
 
@@ -72,9 +72,9 @@ host_spec n missing = record { host = host_of n; missing = missing }
 -- `host N`, then `without PACKAGE` any number of times
 unfoldable pub host_line : List (List ℕ) → Reading → Result Reading LineReason
 host_line ws s = do
-  _ ← allowed (nat_lt (length s.hosts) 32) TooMany
+  _ ← allowed_or_reason (nat_lt (length s.hosts) 32) TooMany
   n ← number_at 0 4294967295 ws
-  _ ← allowed (not (has_host (host_of n.0) s.hosts)) TwiceNamed
+  _ ← allowed_or_reason (not (has_host (host_of n.0) s.hosts)) TwiceNamed
   missing ← packages_at [] n.1
   Ok (record s { hosts = s.hosts ++ host_spec n.0 missing ∷ [] })
 
@@ -84,7 +84,7 @@ link_line ws s = do
   n ← host_at s.hosts ws
   d ← free_device_at s.links n.0 n.1
   m ← host_at s.hosts d.1
-  _ ← allowed (not (m.0.0 == n.0.0)) BadArgument
+  _ ← allowed_or_reason (not (m.0.0 == n.0.0)) BadArgument
   e ← free_device_at s.links m.0 m.1
   _ ← end_at e.1
   Ok (record s { links = s.links ++ (record { from = n.0; from_dev = d.0; to = m.0; to_dev = e.0 }) ∷ [] })
@@ -96,10 +96,10 @@ begun_at number name = record { name = name; source = opened_program number }
 -- `program NAME`
 unfoldable pub program_line : ℕ → List (List ℕ) → Reading → Result BegunProgram LineReason
 program_line number ws s = do
-  _ ← allowed (nat_lt (length s.programs) 64) TooMany
+  _ ← allowed_or_reason (nat_lt (length s.programs) 64) TooMany
   w ← word_at ws
   name ← named_word w.0 BadWord
-  _ ← allowed (not (list_any (is_called w.0) s.programs)) TwiceNamed
+  _ ← allowed_or_reason (not (list_any (is_called w.0) s.programs)) TwiceNamed
   _ ← end_at w.1
   Ok (begun_at number name)
 
@@ -153,7 +153,7 @@ injected_at s ws = do
 unfoldable pub inject_line : List (List ℕ) → Reading → Result Reading LineReason
 inject_line ws s = do
   i ← injected_at s ws
-  total ← weighed s.weight i.1
+  total ← weighed_sum s.weight i.1
   Ok (record (with_event s (happens.Inject i.0 i.1 i.2 i.3)) { weight = total })
 
 -- `send N D`
@@ -220,7 +220,7 @@ unfoldable pub event_line : List (List ℕ) → Reading → Result Reading LineR
 event_line ws s = do
   w ← word_at ws
   k ← ok_or (event_word s.version w.0) BadWord
-  _ ← allowed (nat_lt (length s.events) 50000) TooMany
+  _ ← allowed_or_reason (nat_lt (length s.events) 50000) TooMany
   event_rest k w.1 s
 
 -- a line more of a program

@@ -6,7 +6,7 @@ use crate::keyword::EventWord;
 use crate::parts::{device, known_host, known_program};
 use crate::reading::Reading;
 use chunk_types::CheckedChunk;
-use line_files::{LineReason, LineStop, Words, allow, hex_bytes, injection, number, weighed};
+use line_files::{LineReason, LineStop, Words, add_weight, allow, hex_bytes, injection, number};
 use network_plan::WorldEvent;
 use plan_base::{Host, Name};
 use std::alloc::Global;
@@ -34,7 +34,7 @@ fn inject(alloc: Global, reading: &mut Reading, words: &mut Words<'_>) -> Result
     ensures { Leaves result reading.new (inject_line words.old reading.old) }
 {
     let (host, chunk, bound, handler) = read_injection(alloc, reading, words)?;
-    let weight = weighed(reading.weight, chunk.chunk())?;
+    let weight = add_weight(reading.weight, chunk.chunk())?;
     reading
         .events
         .add(WorldEvent::Inject(host, chunk, bound, handler))?;

@@ -88,7 +88,7 @@ fn begin_program(
         LineReason::TwiceNamed,
     )?;
     words.end()?;
-    let source = OpenProgram::begun(alloc, line);
+    let source = OpenProgram::begin_at(alloc, line);
     Ok(BegunProgram { name, source })
 }
 

@@ -15,7 +15,7 @@ use Rattle.node_io.specs.declared.link.Arrival.{Arrival}
 use Rattle.node_io.specs.Links.{Heard, has_peer, next_heard}
 use Rattle.node_model.specs.State.{NodeState}
 use Rattle.node_model.specs.Node.{node_step}
-use Rattle.serve_model.specs.Runs.{Entry, acts_of, node_by, entries_at, played, node_after, Running, opened_run, with_entry, marked, holding, with_sent, Action, then_do, is_refused, make, tick, inject_one, inject_to, arrival, hear, first_on, queued_on, come_back, take_back, loop_back, send_taken, take_send, repeat_send, flush_device, flush_to, release, flush, begin_turn, end_turn, turn, turns, node_run, peers_of, time_at}
+use Rattle.serve_model.specs.Runs.{Entry, acts_of, node_by, entries_at, played_entries, node_after, Running, opened_run, with_entry, marked_running, holding, with_sent, Action, then_do, is_refused, make, tick, inject_one, inject_to, arrival, hear, first_on, queued_on, come_back, take_back, loop_back, send_taken, take_send, repeat_send, flush_device, flush_to, release, flush, begin_turn, end_turn, turn, turns, node_run, peers_of, time_at}
 use Rattle.serve_model.specs.Follow.{Ext, Grows}
 
 -- ---- what entries of a log give
@@ -23,15 +23,15 @@ use Rattle.serve_model.specs.Follow.{Ext, Grows}
 trans : {A : Type 0} {a b c : A} → a ≡ b → b ≡ c → a ≡ c
 trans x y = x ∙ y
 
-pub played_more : (n : ℕ) (node : NodeState) (es fs : List LogEvent) → played n node (es ++ fs) ≡ played n node es ++ played (n + length es) (node_after node es) fs
-unfolding played node_after
-played_more n node [] fs = ap (λ k. played k node fs) (omega arith)
+pub played_more : (n : ℕ) (node : NodeState) (es fs : List LogEvent) → played_entries n node (es ++ fs) ≡ played_entries n node es ++ played_entries (n + length es) (node_after node es) fs
+unfolding played_entries node_after
+played_more n node [] fs = ap (λ k. played_entries k node fs) (omega arith)
 played_more n node (e ∷ es) fs =
     let again = played_more (n + 1) (node_by node e) es fs in
     let number : n + 1 + length es ≡ n + length (e ∷ es) = omega arith in
     let now = entries_at (n + 1) (acts_of node e) in
-    let moved = ap (λ k. played (n + 1) (node_by node e) es ++ played k (node_after (node_by node e) es) fs) number in
-    trans (ap (λ l. now ++ l) (trans again moved)) (sym (append_assoc now (played (n + 1) (node_by node e) es) (played (n + length (e ∷ es)) (node_after (node_by node e) es) fs)))
+    let moved = ap (λ k. played_entries (n + 1) (node_by node e) es ++ played_entries k (node_after (node_by node e) es) fs) number in
+    trans (ap (λ l. now ++ l) (trans again moved)) (sym (append_assoc now (played_entries (n + 1) (node_by node e) es) (played_entries (n + length (e ∷ es)) (node_after (node_by node e) es) fs)))
 
 pub after_more : (node : NodeState) (es fs : List LogEvent) → node_after node (es ++ fs) ≡ node_after (node_after node es) fs
 unfolding node_after
@@ -41,7 +41,7 @@ after_more node (e ∷ es) fs = after_more (node_by node e) es fs
 -- ---- a run goes on
 
 pub ext_refl : (r : Running) → Ext r r
-unfolding played node_after
+unfolding played_entries node_after
 ext_refl r = record {
   events = [];
   sent = [];
@@ -57,9 +57,9 @@ appends_compose a b c more later x y = trans y (trans (ap (λ l. l ++ later) x) 
 pub ext_trans : (a b c : Running) → Ext a b → Ext b c → Ext a c
 ext_trans a b c x y =
     let count : length b.events ≡ length a.events + length x.events = trans (ap length x.log) (length-append a.events x.events) in
-    let later : played (length b.events) b.node y.events ≡ played (length a.events + length x.events) (node_after a.node x.events) y.events = trans (ap (λ n. played n b.node y.events) count) (ap (λ node. played (length a.events + length x.events) node y.events) x.node) in
-    let lines = appends_compose a.entries b.entries c.entries (played (length a.events) a.node x.events) (played (length b.events) b.node y.events) x.lines y.lines in
-    let first = played (length a.events) a.node x.events in
+    let later : played_entries (length b.events) b.node y.events ≡ played_entries (length a.events + length x.events) (node_after a.node x.events) y.events = trans (ap (λ n. played_entries n b.node y.events) count) (ap (λ node. played_entries (length a.events + length x.events) node y.events) x.node) in
+    let lines = appends_compose a.entries b.entries c.entries (played_entries (length a.events) a.node x.events) (played_entries (length b.events) b.node y.events) x.lines y.lines in
+    let first = played_entries (length a.events) a.node x.events in
     record {
       events = x.events ++ y.events;
       sent = x.sent ++ y.sent;
@@ -70,7 +70,7 @@ ext_trans a b c x y =
     }
 
 pub ext_entry : (e : LogEvent) (r : Running) → Ext r (with_entry e r)
-unfolding with_entry played node_after
+unfolding with_entry played_entries node_after
 ext_entry e r = record {
   events = e ∷ [];
   sent = [];
@@ -80,7 +80,7 @@ ext_entry e r = record {
   node = refl;
 }
 
-pub ext_marked : (t : ℕ) (r : Running) → Ext r (marked t r)
+pub ext_marked : (t : ℕ) (r : Running) → Ext r (marked_running t r)
 ext_marked t r = let same = ext_refl r in record { events = same.events; sent = same.sent; log = same.log; frames = same.frames; lines = same.lines; node = same.node }
 
 pub ext_holding : (b : Bool) (r : Running) → Ext r (holding b r)
@@ -104,8 +104,8 @@ make_grows e refused r = ext_entry (if is_refused refused r then Lost else Step 
 
 pub tick_grows : (period t : ℕ) → Grows (tick period t)
 unfolding tick
-tick_grows period t refused r = either (nat_le (r.last + period) t) r (marked t (make Tick refused r)) r
-    (ext_trans r (make Tick refused r) (marked t (make Tick refused r)) (make_grows Tick refused r) (ext_marked t (make Tick refused r))) (ext_refl r)
+tick_grows period t refused r = either (nat_le (r.last + period) t) r (marked_running t (make Tick refused r)) r
+    (ext_trans r (make Tick refused r) (marked_running t (make Tick refused r)) (make_grows Tick refused r) (ext_marked t (make Tick refused r))) (ext_refl r)
 
 pub inject_one_grows : (turn : ℕ) (x : Option Injection) → Grows (inject_one turn x)
 inject_one_grows turn None refused r = ext_refl r
@@ -195,8 +195,8 @@ turns_grows cfg script last answers zero refused r = ext_refl r
 turns_grows cfg script last answers (suc n) refused r = grows_then (turns cfg script last answers n) (turn cfg (n + 1) (time_at last answers (n + 1)) (next_heard (peers_of cfg) (drop n script))) (turns_grows cfg script last answers n) (turn_grows cfg (n + 1) (time_at last answers (n + 1)) (next_heard (peers_of cfg) (drop n script))) refused r
 
 -- the lines of a run are those of its log
-pub lines_of_run : (cfg : ServeConfig) (node : NodeState) (script : List Arrival) (last : ℕ) (answers : List ℕ) (n : ℕ) (refused : List ℕ) → (node_run cfg node script last answers n refused).entries ≡ played 0 node (node_run cfg node script last answers n refused).events
+pub lines_of_run : (cfg : ServeConfig) (node : NodeState) (script : List Arrival) (last : ℕ) (answers : List ℕ) (n : ℕ) (refused : List ℕ) → (node_run cfg node script last answers n refused).entries ≡ played_entries 0 node (node_run cfg node script last answers n refused).events
 unfolding node_run
 lines_of_run cfg node script last answers n refused =
     let x = turns_grows cfg script last answers n refused (opened_run node) in
-    trans x.lines (ap (λ es. played 0 node es) (sym x.log))
+    trans x.lines (ap (λ es. played_entries 0 node es) (sym x.log))

@@ -4,7 +4,7 @@ use Rattle.network_plan.specs.declared.event.Event.{Event}
 use Rattle.network_plan.specs.declared.event.LogEvent.{LogEvent}
 use Rattle.network_plan.specs.declared.event.LogEvent.TheVariants.{Step, Lost}
 use Rattle.node_io.specs.Links.{Heard}
-use Rattle.serve_model.specs.Runs.{Running, Action, played, node_after, is_among}
+use Rattle.serve_model.specs.Runs.{Running, Action, played_entries, node_after, is_among}
 
 -- a run goes on from r to d: what is new in its log gives what is new in its lines, and its node
 pub record Ext (r d : Running) : Type 0 where
@@ -12,7 +12,7 @@ pub record Ext (r d : Running) : Type 0 where
   pub sent : List Heard
   pub log : d.events ≡ r.events ++ events
   pub frames : d.sent ≡ r.sent ++ sent
-  pub lines : d.entries ≡ r.entries ++ played (length r.events) r.node events
+  pub lines : d.entries ≡ r.entries ++ played_entries (length r.events) r.node events
   pub node : d.node ≡ node_after r.node events
 
 -- whatever is refused, a run only goes on

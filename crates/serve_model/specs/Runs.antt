@@ -40,9 +40,9 @@ abbrev pub entries_at : ℕ → List Act → List Entry
 entries_at n acts = map (λ act. (n, act)) acts
 
 -- the lines of the entries of a log, after so many steps
-unfoldable pub played : ℕ → NodeState → List LogEvent → List Entry
-played n node [] = []
-played n node (e ∷ es) = entries_at (n + 1) (acts_of node e) ++ played (n + 1) (node_by node e) es
+unfoldable pub played_entries : ℕ → NodeState → List LogEvent → List Entry
+played_entries n node [] = []
+played_entries n node (e ∷ es) = entries_at (n + 1) (acts_of node e) ++ played_entries (n + 1) (node_by node e) es
 
 -- the node after them
 unfoldable pub node_after : NodeState → List LogEvent → NodeState
@@ -73,8 +73,8 @@ with_entry e r = record r {
   entries = r.entries ++ entries_at (length r.events + 1) (acts_of r.node e);
 }
 
-abbrev pub marked : ℕ → Running → Running
-marked t r = record r { last = t }
+abbrev pub marked_running : ℕ → Running → Running
+marked_running t r = record r { last = t }
 
 abbrev pub holding : Bool → Running → Running
 holding held r = record r { held = held }
@@ -110,7 +110,7 @@ make e refused r = with_entry (if is_refused refused r then Lost else Step e) r
 
 -- a tick, where the period is over
 unfoldable pub tick : ℕ → ℕ → Action
-tick period t refused r = if nat_le (r.last + period) t then marked t (make Tick refused r) else r
+tick period t refused r = if nat_le (r.last + period) t then marked_running t (make Tick refused r) else r
 
 -- an injection of this turn
 abbrev pub inject_one : ℕ → Option Injection → Action

@@ -3,13 +3,13 @@ ghost use Rattle.network_plan.specs.declared.event.LogEvent.{LogEvent};
 ghost use Rattle.network_plan.specs.declared.serve.ServeConfig.{ServeConfig};
 ghost use Rattle.node_io.specs.declared.link.Arrival.{Arrival};
 ghost use Rattle.node_model.specs.State.{NodeState};
-ghost use Rattle.serve_model.specs.Runs.{Running, played, turns, node_run};
+ghost use Rattle.serve_model.specs.Runs.{Running, played_entries, turns, node_run};
 ghost use Rattle.serve_model.specs.Follow.{Ext, Fits, lost_places};
 
 /// The lines of a run are those of the entries of its log.
 pub fn lines_again()
     ensures { (cfg : ServeConfig) (node : NodeState) (script : List Arrival) (last : ℕ) (answers : List ℕ) (n : ℕ) (refused : List ℕ)
-        → (node_run cfg node script last answers n refused).entries ≡ played 0 node (node_run cfg node script last answers n refused).events }
+        → (node_run cfg node script last answers n refused).entries ≡ played_entries 0 node (node_run cfg node script last answers n refused).events }
 {}
 
 /// More turns only go on from fewer: log, lines and frames sent are prefixes.

@@ -48,9 +48,9 @@ taken_unit scheme svc e =
     let n = neither (list_any is_any scheme.params) (is_any scheme.result) e in
     ap or_unit (untaken scheme.params svc.params (taken_by scheme.result svc.result None) n.0 ∙ untaken_last scheme.result svc.result n.1)
 
-tested : (scheme : Scheme) (svc : Svc) (a : Ty) (b : Bool) → tests_instance scheme svc (any_type scheme svc) ≡ b → (if b then Some (any_type scheme svc) else None) ≡ Some a → IsInstance scheme svc a
-tested scheme svc a false d e = absurd (none-some e)
-tested scheme svc a true d e =
+tested_is_instance : (scheme : Scheme) (svc : Svc) (a : Ty) (b : Bool) → tests_instance scheme svc (any_type scheme svc) ≡ b → (if b then Some (any_type scheme svc) else None) ≡ Some a → IsInstance scheme svc a
+tested_is_instance scheme svc a false d e = absurd (none-some e)
+tested_is_instance scheme svc a true d e =
     let w = any_type scheme svc in
     let last = same_type svc.result (stands_for w scheme.result) in
     subst (λ x. IsInstance scheme svc x) (some-same e) (record {
@@ -61,7 +61,7 @@ tested scheme svc a true d e =
 
 pub found_is : (scheme : Scheme) (svc : Svc) (a : Ty) → instance scheme svc ≡ Some a → IsInstance scheme svc a
 unfolding instance
-found_is scheme svc a e = tested scheme svc a (tests_instance scheme svc (any_type scheme svc)) refl e
+found_is scheme svc a e = tested_is_instance scheme svc a (tests_instance scheme svc (any_type scheme svc)) refl e
 
 -- `Any` takes the type that stands for it, or there is none
 took : (a : Ty) (ss : List SchemeTy) (ts : List Ty) (later : Option Ty) → AllStandFor a ss ts → (taken_among ss ts later ≡ Some a) ⊎ ((list_any is_any ss ≡ false) × (taken_among ss ts later ≡ later))

@@ -50,15 +50,15 @@ pub record ServiceState : Type 0 where
 -- ---- what the calls do
 
 -- what a call at this standing answers
-abbrev pub served : ServiceState → Svc → List Value → Ctx → Served
-served n svc args ctx = n.offer.serve svc args ctx n.rows
+abbrev pub served_call : ServiceState → Svc → List Value → Ctx → Served
+served_call n svc args ctx = n.offer.serve svc args ctx n.rows
 
 -- the standing after a call that left these rows
-abbrev pub called : Rows → ServiceState → ServiceState
-called rows n = record n { rows = rows; ready = false }
+abbrev pub called_services : Rows → ServiceState → ServiceState
+called_services rows n = record n { rows = rows; ready = false }
 
 abbrev pub Answers : ServiceState → Svc → List Value → Ctx → Answer → ServiceState → Type 0
-Answers old svc args ctx a new = ((served old svc args ctx).answer ≡ a) × (new ≡ called (served old svc args ctx).rows old)
+Answers old svc args ctx a new = ((served_call old svc args ctx).answer ≡ a) × (new ≡ called_services (served_call old svc args ctx).rows old)
 
 abbrev pub begun_now : ServiceState → ServiceState
 begun_now n = record n { begun = Some n.rows; ready = false }
@@ -66,19 +66,19 @@ begun_now n = record n { begun = Some n.rows; ready = false }
 abbrev pub made_ready : ServiceState → ServiceState
 made_ready n = record n { ready = true }
 
-abbrev pub kept : ServiceState → ServiceState
-kept n = record n { begun = None; ready = false }
+abbrev pub kept_services : ServiceState → ServiceState
+kept_services n = record n { begun = None; ready = false }
 
 abbrev pub rows_at : Option Rows → Rows → Rows
 rows_at (Some rows) now = rows
 rows_at None now = now
 
-abbrev pub abandoned : ServiceState → ServiceState
-abandoned n = record n { rows = rows_at n.begun n.rows; begun = None; ready = false }
+abbrev pub abandoned_services : ServiceState → ServiceState
+abandoned_services n = record n { rows = rows_at n.begun n.rows; begun = None; ready = false }
 
 -- the rows that are there at a tick stay
-abbrev pub expired : ℕ → ServiceState → ServiceState
-expired now n = record n { rows = record n.rows { rows = living now n.rows.rows } }
+abbrev pub unexpired_services : ℕ → ServiceState → ServiceState
+unexpired_services now n = record n { rows = record n.rows { rows = living now n.rows.rows } }
 
 -- ---- the laws
 

@@ -75,7 +75,7 @@ fn tests_instance(scheme: &Scheme, svc: &Svc, a: &Ty) -> bool
 
 /// The type that a declared service has for `Any`, or unit where the row has none.
 #[tactic(auto, unfolding(crate::specs::Schemes::any_type))]
-fn taken(alloc: Global, scheme: &Scheme, svc: &Svc) -> Result<Ty, NoMemory>
+fn taken_type(alloc: Global, scheme: &Scheme, svc: &Svc) -> Result<Ty, NoMemory>
     ensures { IfOk result (λ t. t ≡ spec.any_type scheme.now svc.now) }
 {
     let later = taken_by(&scheme.result, &svc.result, None);
@@ -91,7 +91,7 @@ pub fn instance(alloc: Global, scheme: &Scheme, svc: &Svc) -> Result<Option<Ty>,
     ensures found { IfOk result (λ t. t ≡ spec.instance scheme.now svc.now) }
     ensures exact { IfOk result (λ t. (a : AType) → (t ≡ Some a) ↔ spec.IsInstance scheme.now svc.now a) }
 {
-    let a = taken(alloc, scheme, svc)?;
+    let a = taken_type(alloc, scheme, svc)?;
     if tests_instance(scheme, svc, &a) {
         Ok(Some(a))
     } else {

@@ -1,5 +1,5 @@
 ghost use Rattle.std.specs.Prelude.{◌≡◌, ◌≤◌, length, IfOk, OnOk, OnErr, IsSome, IsTrue, None};
-ghost use Rattle.service_api.specs.Services.{ServiceState, Answers, AreGoodRows, AreGoodValues, begun_now, made_ready, kept, abandoned, expired, IsGoodServe, RefusesOthers};
+ghost use Rattle.service_api.specs.Services.{ServiceState, Answers, AreGoodRows, AreGoodValues, begun_now, made_ready, kept_services, abandoned_services, unexpired_services, IsGoodServe, RefusesOthers};
 
 use crate::answer::Answer;
 use crate::ctx::Ctx;
@@ -62,17 +62,17 @@ pub trait Services {
     fn keep(&mut self)
         requires open { IsSome (stands self.old).begun }
         requires ready { IsTrue (stands self.old).ready }
-        ensures { stands self.new ≡ kept (stands self.old) };
+        ensures { stands self.new ≡ kept_services (stands self.old) };
 
     /// Undoes the changes since `begin` and closes it. Condition: one is open. Takes no memory.
     fn abandon(&mut self)
         requires { IsSome (stands self.old).begun }
-        ensures { stands self.new ≡ abandoned (stands self.old) };
+        ensures { stands self.new ≡ abandoned_services (stands self.old) };
 
     /// Takes the rows away that have expired at `now`. Condition: no `begin` is open. Takes no memory.
     fn expire(&mut self, now: u64)
         requires { (stands self.old).begun ≡ None }
-        ensures { stands self.new ≡ expired now (stands self.old) };
+        ensures { stands self.new ≡ unexpired_services now (stands self.old) };
 
     ghost good: { (s : Self) → IsGoodServe (stands s).offer.serve };
 

@@ -28,8 +28,8 @@ use Rattle.service_api.specs.Services.{Rows, Served, IsGoodServe, IsGoodServed, 
 use Rattle.service_api.proofs.InstanceLaws.{found_is}
 use Rattle.service_meaning.specs.declared.service.Service.{Service}
 use Rattle.service_meaning.specs.declared.service.Service.TheVariants as service
-use Rattle.service_meaning.specs.Offered.{InstalledPackages, offered, name_of, type_of, hop_type}
-use Rattle.service_meaning.specs.Answers.{given, noted_answer, raised, without_arguments, of_one, of_two, of_four, of_host, of_int, of_text, key_of, cost_in, distance, hop_answer, put_answer, kept, got_answer, key_answer, delivered, serve_as, no_route, table_full, not_found, expiry_after}
+use Rattle.service_meaning.specs.Offered.{InstalledPackages, offered_service, name_of, type_of, hop_type}
+use Rattle.service_meaning.specs.Answers.{given_answer, noted_answer, raised_answer, without_arguments, of_one, of_two, of_four, of_host, of_int, of_text, key_of, cost_in, distance, hop_answer, put_answer, kept_answer, got_answer, key_answer, delivered_answer, serve_as, no_route, table_full, not_found, expiry_after}
 use Rattle.service_meaning.specs.Serving.{serve_at, serve_offered, serve}
 use Rattle.service_meaning.proofs.Refusals.{offered_is}
 use Rattle.service_meaning.proofs.Leaves.{good_unit, good_bool, good_int, good_host}
@@ -47,13 +47,13 @@ module _ (svc : Svc) (rows : Rows) (gr : AreGoodRows rows) where
   refused_good : IsGoodServed svc (refused_call rows)
   refused_good = record { answer = may_refuse svc; rows = gr }
 
-  given_good : (t : Ty) (v : Value) → svc.result ≡ t → IsGoodValue t v → IsGoodServed svc (given v rows)
+  given_good : (t : Ty) (v : Value) → svc.result ≡ t → IsGoodValue t v → IsGoodServed svc (given_answer v rows)
   given_good t v e g = record { answer = (subst (λ (u : Ty). IsGoodValue u v) (sym e) g, tt); rows = gr }
 
   noted_good : (note : Note) → svc.result ≡ ty.Unit → IsGoodOptionNote (Some note) → IsGoodServed svc (noted_answer note rows)
   noted_good note e g = record { answer = (subst (λ (u : Ty). IsGoodValue u value.Unit) (sym e) good_unit, g); rows = gr }
 
-  raised_good : (x : Exn) → MayRaise svc x → IsGoodServed svc (raised x rows)
+  raised_good : (x : Exn) → MayRaise svc x → IsGoodServed svc (raised_answer x rows)
   raised_good x h = record { answer = h; rows = gr }
 
   -- ---- other arguments are refused
@@ -140,14 +140,14 @@ module _ (svc : Svc) (rows : Rows) (gr : AreGoodRows rows) where
 
   -- ---- the package resident
 
-  put_if : (r : Row) → svc.result ≡ ty.Unit → MayRaise svc table_full → IsGoodValue r.ty r.value → (b : Bool) → fits (put_row r rows.rows) ≡ b → IsGoodServed svc (if b then given value.Unit (record rows { rows = put_row r rows.rows }) else raised table_full rows)
+  put_if : (r : Row) → svc.result ≡ ty.Unit → MayRaise svc table_full → IsGoodValue r.ty r.value → (b : Bool) → fits (put_row r rows.rows) ≡ b → IsGoodServed svc (if b then given_answer value.Unit (record rows { rows = put_row r rows.rows }) else raised_answer table_full rows)
   put_if r e m g true f = record { answer = (subst (λ (u : Ty). IsGoodValue u value.Unit) (sym e) good_unit, tt); rows = put_good r rows g gr f }
   put_if r e m g false f = raised_good table_full m
 
-  kept_good : (a : Ty) (ctx : Ctx) (name : List ℕ) (z : ℤ) (v : Value) (life : ℤ) → svc.result ≡ ty.Unit → MayRaise svc bad_index → MayRaise svc table_full → IsGoodValue a v → IsGoodServed svc (kept a ctx rows name z v life)
+  kept_good : (a : Ty) (ctx : Ctx) (name : List ℕ) (z : ℤ) (v : Value) (life : ℤ) → svc.result ≡ ty.Unit → MayRaise svc bad_index → MayRaise svc table_full → IsGoodValue a v → IsGoodServed svc (kept_answer a ctx rows name z v life)
   kept_good a ctx name z v life e m n g =
       let r : Row = record { name = name; key = z; ty = a; value = v; expiry = expiry_after ctx.now life } in
-      cost_if (int_lt life (pos 1)) (raised bad_index rows) (put_answer r rows) (raised_good bad_index m) (put_if r e n g (fits (put_row r rows.rows)) refl)
+      cost_if (int_lt life (pos 1)) (raised_answer bad_index rows) (put_answer r rows) (raised_good bad_index m) (put_if r e n g (fits (put_row r rows.rows)) refl)
 
   got_answer_good : (t : Ty) (o : Option Value) → svc.result ≡ t → MayRaise svc not_found → ((v : Value) → o ≡ Some v → IsGoodValue t v) → IsGoodServed svc (got_answer o rows)
   got_answer_good t (Some v) e m g = given_good t v e (g v refl)
@@ -159,8 +159,8 @@ module _ (svc : Svc) (rows : Rows) (gr : AreGoodRows rows) where
 
   -- ---- the package host
 
-  delivered_good : (t : Ty) (z : ℤ) (v : Value) → svc.result ≡ ty.Unit → MayRaise svc bad_index → IsGoodValue t v → IsGoodServed svc (delivered z v rows)
-  delivered_good t (pos n) v e m g = cost_if (nat_le n 65535) (noted_answer (Port n v) rows) (raised bad_index rows) (noted_good (Port n v) e (t, g)) (raised_good bad_index m)
+  delivered_good : (t : Ty) (z : ℤ) (v : Value) → svc.result ≡ ty.Unit → MayRaise svc bad_index → IsGoodValue t v → IsGoodServed svc (delivered_answer z v rows)
+  delivered_good t (pos n) v e m g = cost_if (nat_le n 65535) (noted_answer (Port n v) rows) (raised_answer bad_index rows) (noted_good (Port n v) e (t, g)) (raised_good bad_index m)
   delivered_good t (negsuc n) v e m g = raised_good bad_index m
 
 -- ---- each service
@@ -176,7 +176,7 @@ as_good service.GetSource a svc args ctx rows n e gr ga near = none_good svc row
 as_good service.GetNeighbors a svc args ctx rows n e gr ga near = none_good svc rows gr _ (given_good svc rows gr (ty.List hop_type) _ e (good_hops ctx.neighbours near)) args
 as_good service.GetDist a svc args ctx rows n e gr ga near = one_good svc rows gr ty.Host _ (λ v g. host_good svc rows gr (distance ctx rows) (distance_good svc rows gr e (raises_of svc (name_of service.GetDist) no_route n (1, lit< tt, refl)) ctx) (out-Value v)) args ga
 as_good service.NextHop a svc args ctx rows n e gr ga near = one_good svc rows gr ty.Host _ (λ v g. host_good svc rows gr _ (λ h. hop_good svc rows gr e (raises_of svc (name_of service.NextHop) no_route n (1, lit< tt, refl)) (hop ctx.router default_route ctx.here h)) (out-Value v)) args ga
-as_good service.Put a svc args ctx rows n e gr ga near = four_good svc rows gr ty.Str ty.Int a ty.Int _ (λ v w x y g. text_good svc rows gr _ (λ name. int_good svc rows gr _ (λ z. int_good svc rows gr (kept a ctx rows name z x) (λ life. kept_good svc rows gr a ctx name z x life e (raises_of svc (name_of service.Put) bad_index n (1, lit< tt, refl)) (raises_of svc (name_of service.Put) table_full n (2, lit< tt, refl)) g) (out-Value y)) (out-Value w)) (out-Value v)) args ga
+as_good service.Put a svc args ctx rows n e gr ga near = four_good svc rows gr ty.Str ty.Int a ty.Int _ (λ v w x y g. text_good svc rows gr _ (λ name. int_good svc rows gr _ (λ z. int_good svc rows gr (kept_answer a ctx rows name z x) (λ life. kept_good svc rows gr a ctx name z x life e (raises_of svc (name_of service.Put) bad_index n (1, lit< tt, refl)) (raises_of svc (name_of service.Put) table_full n (2, lit< tt, refl)) g) (out-Value y)) (out-Value w)) (out-Value v)) args ga
 as_good service.Get a svc args ctx rows n e gr ga near = two_good svc rows gr ty.Str ty.Int _ (λ v w g. text_good svc rows gr _ (λ name. int_good svc rows gr _ (λ z. got_answer_good svc rows gr a (got (key_of name z) a ctx.now rows.rows) e (raises_of svc (name_of service.Get) not_found n (1, lit< tt, refl)) (λ x f. got_good (key_of name z) a ctx.now rows x gr f)) (out-Value w)) (out-Value v)) args ga
 as_good service.Remove a svc args ctx rows n e gr ga near = two_good svc rows gr ty.Str ty.Int _ (λ v w g. text_good svc rows gr _ (λ name. int_good svc rows gr _ (λ z. record { answer = (subst (λ (u : Ty). IsGoodValue u value.Unit) (sym e) good_unit, tt); rows = without_good (key_of name z) rows gr }) (out-Value w)) (out-Value v)) args ga
 as_good service.GenerateKey a svc args ctx rows n e gr ga near = none_good svc rows gr _ (key_answer_good svc rows gr (fresh_key rows.«next») e (raises_of svc (name_of service.GenerateKey) overflow n (1, lit< tt, refl))) args
@@ -199,10 +199,10 @@ at_good s (Some a) svc args ctx rows f n gr ga near =
     as_good s a svc args ctx rows n i.result gr (params_good a (type_of s).params svc.params args i.params ga) near
 at_good s None svc args ctx rows f n gr ga near = refused_good svc rows gr
 
-offered_good : (p : InstalledPackages) (o : Option Service) (svc : Svc) (args : List Value) (ctx : Ctx) (rows : Rows) → offered p svc.name ≡ o → AreGoodRows rows → AreGoodValues svc.params args → length ctx.neighbours ≤ 8 → IsGoodServed svc (serve_offered o svc args ctx rows)
+offered_good : (p : InstalledPackages) (o : Option Service) (svc : Svc) (args : List Value) (ctx : Ctx) (rows : Rows) → offered_service p svc.name ≡ o → AreGoodRows rows → AreGoodValues svc.params args → length ctx.neighbours ≤ 8 → IsGoodServed svc (serve_offered o svc args ctx rows)
 offered_good p (Some s) svc args ctx rows e gr ga near = at_good s (instance (type_of s) svc) svc args ctx rows refl (offered_is p svc.name s e) gr ga near
 offered_good p None svc args ctx rows e gr ga near = refused_good svc rows gr
 
 pub serve_good : (p : InstalledPackages) → IsGoodServe (serve p)
 unfolding serve
-serve_good p svc args ctx rows gr ga near = offered_good p (offered p svc.name) svc args ctx rows refl gr ga near
+serve_good p svc args ctx rows gr ga near = offered_good p (offered_service p svc.name) svc args ctx rows refl gr ga near

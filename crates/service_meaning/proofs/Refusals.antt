@@ -10,7 +10,7 @@ use Rattle.service_api.specs.declared.ctx.Ctx.{Ctx}
 use Rattle.service_api.specs.Schemes.{instance, is_instance_of}
 use Rattle.service_api.specs.Services.{Rows, RefusesOthers, refused_call}
 use Rattle.service_meaning.specs.declared.service.Service.{Service}
-use Rattle.service_meaning.specs.Offered.{InstalledPackages, name_of, service_named, all_services, if_there, is_there, package_of, offered, type_of, type_offered}
+use Rattle.service_meaning.specs.Offered.{InstalledPackages, name_of, service_named, all_services, if_there, is_there, package_of, offered_service, type_of, type_offered}
 use Rattle.service_meaning.specs.Serving.{serve_at, serve_offered, serve, offer}
 
 refused_at : (t : Option Ty) (s : Service) (args : List Value) (ctx : Ctx) (rows : Rows) → is_some t ≡ false → serve_at t s args ctx rows ≡ refused_call rows
@@ -23,7 +23,7 @@ refused_offered (Some s) svc args ctx rows e = refused_at (instance (type_of s) 
 
 pub refuses : (p : InstalledPackages) → RefusesOthers (offer p)
 unfolding serve
-refuses p svc args ctx rows e = refused_offered (offered p svc.name) svc args ctx rows e
+refuses p svc args ctx rows e = refused_offered (offered_service p svc.name) svc args ctx rows e
 
 module _ (name : List ℕ) (s : Service) where
   -- the recursion's result is an argument, so that the cases stand outside of it
@@ -43,5 +43,5 @@ there_is : (p : InstalledPackages) (o : Option Service) (s : Service) → if_the
 there_is p None s e = e
 there_is p (Some x) s e = if_some (is_there p (package_of x)) x s e
 
-pub offered_is : (p : InstalledPackages) (name : List ℕ) (s : Service) → offered p name ≡ Some s → name ≡ name_of s
+pub offered_is : (p : InstalledPackages) (name : List ℕ) (s : Service) → offered_service p name ≡ Some s → name ≡ name_of s
 offered_is p name s e = named_is name s all_services (there_is p (service_named all_services name) s e)

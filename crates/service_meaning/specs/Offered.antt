@@ -87,12 +87,12 @@ if_there p (Some s) = if is_there p (package_of s) then Some s else None
 if_there p None = None
 
 -- the service of the name, where its package is there
-abbrev pub offered : InstalledPackages → List ℕ → Option Service
-offered p name = if_there p (service_named all_services name)
+abbrev pub offered_service : InstalledPackages → List ℕ → Option Service
+offered_service p name = if_there p (service_named all_services name)
 
 abbrev pub type_offered : Option Service → Option Scheme
 type_offered (Some s) = Some (type_of s)
 type_offered None = None
 
 abbrev pub scheme_of : InstalledPackages → List ℕ → Option Scheme
-scheme_of p name = type_offered (offered p name)
+scheme_of p name = type_offered (offered_service p name)

@@ -8,7 +8,7 @@ use Rattle.service_api.specs.declared.ctx.Ctx.{Ctx}
 use Rattle.service_api.specs.Schemes.{instance}
 use Rattle.service_api.specs.Services.{Rows, Served, Offer, refused_call}
 use Rattle.service_meaning.specs.declared.service.Service.{Service}
-use Rattle.service_meaning.specs.Offered.{InstalledPackages, offered, scheme_of, type_of}
+use Rattle.service_meaning.specs.Offered.{InstalledPackages, offered_service, scheme_of, type_of}
 use Rattle.service_meaning.specs.Answers.{serve_as}
 
 abbrev pub serve_at : Option Ty → Service → List Value → Ctx → Rows → Served
@@ -21,7 +21,7 @@ serve_offered None svc args ctx rows = refused_call rows
 
 -- what a call means where these packages are there
 unfoldable pub serve : InstalledPackages → Svc → List Value → Ctx → Rows → Served
-serve p svc args ctx rows = serve_offered (offered p svc.name) svc args ctx rows
+serve p svc args ctx rows = serve_offered (offered_service p svc.name) svc args ctx rows
 
 abbrev pub offer : InstalledPackages → Offer
 offer p = record { scheme = scheme_of p; serve = serve p }

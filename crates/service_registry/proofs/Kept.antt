@@ -15,7 +15,7 @@ use Rattle.service_api.specs.declared.ctx.Ctx.{Ctx}
 use Rattle.service_api.specs.Services.{Rows, Served, IsGoodValue, AreGoodRows, AreGoodValues, refused_call}
 use Rattle.service_api.specs.Schemes.{instance}
 use Rattle.service_meaning.specs.declared.service.Service.{Service}
-use Rattle.service_meaning.specs.Offered.{InstalledPackages, offered, type_of}
+use Rattle.service_meaning.specs.Offered.{InstalledPackages, offered_service, type_of}
 use Rattle.service_meaning.specs.Serving.{serve, serve_at, serve_offered}
 use Rattle.service_meaning.proofs.Goods.{serve_good}
 use Rattle.service_registry.proofs.ArgumentReads.{with_next}
@@ -24,11 +24,11 @@ use Rattle.service_registry.specs.Meets.{Meets}
 
 -- ---- a call
 
-pub served_none : (p : InstalledPackages) (svc : Svc) (args : List Value) (ctx : Ctx) (rows : Rows) → None ≡ offered p svc.name → serve p svc args ctx rows ≡ refused_call rows
+pub served_none : (p : InstalledPackages) (svc : Svc) (args : List Value) (ctx : Ctx) (rows : Rows) → None ≡ offered_service p svc.name → serve p svc args ctx rows ≡ refused_call rows
 unfolding serve
 served_none p svc args ctx rows e = ap (λ (o : Option Service). serve_offered o svc args ctx rows) (sym e)
 
-pub served_some : (p : InstalledPackages) (svc : Svc) (args : List Value) (ctx : Ctx) (rows : Rows) (s : Service) (t : Option Ty) → Some s ≡ offered p svc.name → t ≡ instance (type_of s) svc → serve p svc args ctx rows ≡ serve_at t s args ctx rows
+pub served_some : (p : InstalledPackages) (svc : Svc) (args : List Value) (ctx : Ctx) (rows : Rows) (s : Service) (t : Option Ty) → Some s ≡ offered_service p svc.name → t ≡ instance (type_of s) svc → serve p svc args ctx rows ≡ serve_at t s args ctx rows
 unfolding serve
 served_some p svc args ctx rows s t e f = ap (λ (o : Option Service). serve_offered o svc args ctx rows) (sym e) ∙ ap (λ (u : Option Ty). serve_at u s args ctx rows) (sym f)
 

@@ -46,8 +46,8 @@ rows_begun t None = None
 rows_begun t (Some o) = Some (rows_of t)
 
 -- what is held of a table and the changes over it, if a `begin` is open
-abbrev pub held : InstalledPackages → Table → Option Layer → Bool → RegistryState
-held p t o ready = record { there = p; rows = rows_now t o; begun = rows_begun t o; ready = ready }
+abbrev pub held_registry : InstalledPackages → Table → Option Layer → Bool → RegistryState
+held_registry p t o ready = record { there = p; rows = rows_now t o; begun = rows_begun t o; ready = ready }
 
 -- changes that were used over the table alone and leave good rows, for which there is room after `ready`
 pub record IsOpen (t : Table) (o : Layer) (ready : Bool) : Type 0 where

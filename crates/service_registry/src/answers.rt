@@ -8,52 +8,52 @@ use plan_base::{Exn, Name, NoMemory};
 use service_api::Answer;
 use std::alloc::Global;
 
-fn raised(alloc: Global, word: &[u8]) -> Result<Answer, NoMemory>
+fn raise_word(alloc: Global, word: &[u8]) -> Result<Answer, NoMemory>
     requires { IsName word.now }
-    ensures { Tells (spec.raised (rules.exception word.now)) result }
+    ensures { Tells (spec.raised_answer (rules.exception word.now)) result }
 {
     Ok(Answer::Raises(Exn(Name::of(alloc, word)?)))
 }
 
 /// The service isn't offered as it is called.
 #[tactic(auto, unfolding(plan_base::specs::Words::is_name, plan_base::specs::Words::is_word, plan_base::specs::Words::is_reserved))]
-pub fn refused(alloc: Global) -> Result<Answer, NoMemory>
+pub fn no_such_service(alloc: Global) -> Result<Answer, NoMemory>
     ensures { Tells api.refused_call result }
 {
-    raised(alloc, b"NoService")
+    raise_word(alloc, b"NoService")
 }
 
 #[tactic(auto, unfolding(plan_base::specs::Words::is_name, plan_base::specs::Words::is_word, plan_base::specs::Words::is_reserved))]
 pub fn no_route(alloc: Global) -> Result<Answer, NoMemory>
-    ensures { Tells (spec.raised spec.no_route) result }
+    ensures { Tells (spec.raised_answer spec.no_route) result }
 {
-    raised(alloc, b"NoRoute")
+    raise_word(alloc, b"NoRoute")
 }
 
 #[tactic(auto, unfolding(plan_base::specs::Words::is_name, plan_base::specs::Words::is_word, plan_base::specs::Words::is_reserved))]
 pub fn bad_index(alloc: Global) -> Result<Answer, NoMemory>
-    ensures { Tells (spec.raised rules.bad_index) result }
+    ensures { Tells (spec.raised_answer rules.bad_index) result }
 {
-    raised(alloc, b"BadIndex")
+    raise_word(alloc, b"BadIndex")
 }
 
 #[tactic(auto, unfolding(plan_base::specs::Words::is_name, plan_base::specs::Words::is_word, plan_base::specs::Words::is_reserved))]
 pub fn table_full(alloc: Global) -> Result<Answer, NoMemory>
-    ensures { Tells (spec.raised spec.table_full) result }
+    ensures { Tells (spec.raised_answer spec.table_full) result }
 {
-    raised(alloc, b"TableFull")
+    raise_word(alloc, b"TableFull")
 }
 
 #[tactic(auto, unfolding(plan_base::specs::Words::is_name, plan_base::specs::Words::is_word, plan_base::specs::Words::is_reserved))]
 pub fn not_found(alloc: Global) -> Result<Answer, NoMemory>
-    ensures { Tells (spec.raised spec.not_found) result }
+    ensures { Tells (spec.raised_answer spec.not_found) result }
 {
-    raised(alloc, b"NotFound")
+    raise_word(alloc, b"NotFound")
 }
 
 #[tactic(auto, unfolding(plan_base::specs::Words::is_name, plan_base::specs::Words::is_word, plan_base::specs::Words::is_reserved))]
 pub fn overflow(alloc: Global) -> Result<Answer, NoMemory>
-    ensures { Tells (spec.raised rules.overflow) result }
+    ensures { Tells (spec.raised_answer rules.overflow) result }
 {
-    raised(alloc, b"Overflow")
+    raise_word(alloc, b"Overflow")
 }

@@ -3,7 +3,7 @@ ghost use Rattle.service_api.specs.declared.ctx.Ctx.{Ctx as ACtx};
 ghost use Rattle.service_meaning.specs.Answers as spec;
 ghost use Rattle.service_registry.specs.Meets.{Tells};
 
-use crate::answers::{bad_index, refused};
+use crate::answers::{bad_index, no_such_service};
 use crate::arguments::as_int;
 use plan_base::{NoMemory, Value};
 use plan_copies::Copied;
@@ -17,12 +17,12 @@ pub fn print(alloc: Global, args: &[Value]) -> Result<Answer, NoMemory>
 {
     match args {
         [v] => Ok(Answer::Gives(Value::Unit, Some(Note::Print(v.copy(alloc)?)))),
-        _ => refused(alloc),
+        _ => no_such_service(alloc),
     }
 }
 
-fn delivered(alloc: Global, port: i64, v: &Value) -> Result<Answer, NoMemory>
-    ensures { Tells (spec.delivered port v.now) result }
+fn deliver_to_port(alloc: Global, port: i64, v: &Value) -> Result<Answer, NoMemory>
+    ensures { Tells (spec.delivered_answer port v.now) result }
 {
     match u16::try_from(port) {
         Ok(port) => Ok(Answer::Gives(Value::Unit, Some(Note::Port(port, v.copy(alloc)?)))),
@@ -35,10 +35,10 @@ pub fn deliver(alloc: Global, args: &[Value]) -> Result<Answer, NoMemory>
     ensures { (a : AType) (ctx : ACtx) → Tells (spec.serve_as Service.Deliver a args.now ctx) result }
 {
     let [port, v] = args else {
-        return refused(alloc);
+        return no_such_service(alloc);
     };
     let Some(port) = as_int(port) else {
-        return refused(alloc);
+        return no_such_service(alloc);
     };
-    delivered(alloc, port, v)
+    deliver_to_port(alloc, port, v)
 }

@@ -6,7 +6,7 @@ ghost use Rattle.service_meaning.specs.Answers as spec;
 ghost use Rattle.service_meaning.specs.Offered as offered;
 ghost use Rattle.service_registry.specs.Meets.{Tells};
 
-use crate::answers::{no_route, refused};
+use crate::answers::{no_route, no_such_service};
 use crate::arguments::as_host;
 use crate::types::hop_type;
 use plan_base::{Dev, Host, Name, NoMemory, Value, Values};
@@ -21,7 +21,7 @@ pub fn this_host(alloc: Global, args: &[Value], ctx: &Ctx) -> Result<Answer, NoM
 {
     match args {
         [] => Ok(Answer::Gives(Value::Host(ctx.here), None)),
-        [_, ..] => refused(alloc),
+        [_, ..] => no_such_service(alloc),
     }
 }
 
@@ -30,10 +30,10 @@ pub fn this_host_is(alloc: Global, args: &[Value], ctx: &Ctx) -> Result<Answer, 
     ensures { (a : AType) → Tells (spec.serve_as Service.ThisHostIs a args.now ctx.entry.now) result }
 {
     let [host] = args else {
-        return refused(alloc);
+        return no_such_service(alloc);
     };
     let Some(host) = as_host(host) else {
-        return refused(alloc);
+        return no_such_service(alloc);
     };
     Ok(Answer::Gives(Value::Bool(host.0 == ctx.here.0), None))
 }
@@ -44,7 +44,7 @@ pub fn get_rb(alloc: Global, args: &[Value], ctx: &Ctx) -> Result<Answer, NoMemo
 {
     match args {
         [] => Ok(Answer::Gives(Value::Int(i64::from(ctx.purse)), None)),
-        [_, ..] => refused(alloc),
+        [_, ..] => no_such_service(alloc),
     }
 }
 
@@ -54,7 +54,7 @@ pub fn get_source(alloc: Global, args: &[Value], ctx: &Ctx) -> Result<Answer, No
 {
     match args {
         [] => Ok(Answer::Gives(Value::Host(ctx.source), None)),
-        [_, ..] => refused(alloc),
+        [_, ..] => no_such_service(alloc),
     }
 }
 
@@ -78,7 +78,7 @@ fn hop_values(alloc: Global, neighbours: &[(Host, Dev)]) -> Result<Values, NoMem
 }
 
 fn neighbours(alloc: Global, ctx: &Ctx) -> Result<Answer, NoMemory>
-    ensures { Tells (spec.given (value.List offered.hop_type (map (λ n. spec.hop_value n.0 n.1) ctx.entry.now.neighbours))) result }
+    ensures { Tells (spec.given_answer (value.List offered.hop_type (map (λ n. spec.hop_value n.0 n.1) ctx.entry.now.neighbours))) result }
 {
     let values = hop_values(alloc, ctx.neighbours.as_slice())?;
     let item = Boxed::new(alloc, hop_type(alloc)?)?;
@@ -91,7 +91,7 @@ pub fn get_neighbors(alloc: Global, args: &[Value], ctx: &Ctx) -> Result<Answer,
 {
     match args {
         [] => neighbours(alloc, ctx),
-        [_, ..] => refused(alloc),
+        [_, ..] => no_such_service(alloc),
     }
 }
 
@@ -124,10 +124,10 @@ pub fn get_dist(alloc: Global, args: &[Value], ctx: &Ctx) -> Result<Answer, NoMe
     ensures { (a : AType) → Tells (spec.serve_as Service.GetDist a args.now ctx.entry.now) result }
 {
     let [host] = args else {
-        return refused(alloc);
+        return no_such_service(alloc);
     };
     let Some(host) = as_host(host) else {
-        return refused(alloc);
+        return no_such_service(alloc);
     };
     distance(alloc, ctx, host)
 }
@@ -154,10 +154,10 @@ pub fn next_hop(alloc: Global, args: &[Value], ctx: &Ctx) -> Result<Answer, NoMe
     ensures { (a : AType) → Tells (spec.serve_as Service.NextHop a args.now ctx.entry.now) result }
 {
     let [host] = args else {
-        return refused(alloc);
+        return no_such_service(alloc);
     };
     let Some(host) = as_host(host) else {
-        return refused(alloc);
+        return no_such_service(alloc);
     };
     let route = default_route(alloc)?;
     hop_answer(alloc, ctx.router.next(&route, ctx.here, host))

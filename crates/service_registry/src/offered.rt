@@ -59,7 +59,7 @@ fn named_among(services: &[Service], name: &Name) -> Option<Service>
     None
 }
 
-fn named(name: &Name) -> Option<Service>
+fn service_of_name(name: &Name) -> Option<Service>
     ensures { result ≡ spec.service_named spec.all_services name.now }
 {
     let services = [
@@ -81,10 +81,10 @@ fn named(name: &Name) -> Option<Service>
 }
 
 /// The service of the name, where its package is there.
-pub fn offered(there: InstalledPackages, name: &Name) -> Option<Service>
-    ensures { result ≡ spec.offered (present_of there) name.now }
+pub fn installed_service(there: InstalledPackages, name: &Name) -> Option<Service>
+    ensures { result ≡ spec.offered_service (present_of there) name.now }
 {
-    match named(name) {
+    match service_of_name(name) {
         Some(service) => {
             if there.has(package_of(service)) {
                 Some(service)

@@ -4,8 +4,8 @@ ghost use Rattle.service_registry.specs.RegistryState.{standing};
 ghost use Rattle.service_registry.specs.Laws.{registry_good, registry_refuses};
 
 use crate::installed_packages::InstalledPackages;
-use crate::offered::offered;
-use crate::serving::served;
+use crate::offered::installed_service;
+use crate::serving::answer_call;
 use crate::types::type_of;
 use plan_base::{Name, NoMemory, Svc, Values};
 use resident_tables::{Overlay, Tables};
@@ -28,7 +28,7 @@ pub struct Registry {
 
 impl Model for Registry {
     ghost use Rattle.service_api.specs.Services.{AreGoodRows};
-    ghost use Rattle.service_registry.specs.RegistryState.{RegistryState, held_code, held, rows_of, IsKept};
+    ghost use Rattle.service_registry.specs.RegistryState.{RegistryState, held_code, held_registry, rows_of, IsKept};
 
     ghost Value = { RegistryState };
 
@@ -36,7 +36,7 @@ impl Model for Registry {
 
     ghost use Rattle.service_registry.specs.Packages.{present_of};
 
-    ghost view = { λ r. held (present_of r.there) r.tables r.changes r.is_ready };
+    ghost view = { λ r. held_registry (present_of r.there) r.tables r.changes r.is_ready };
 
     ghost invariant = { λ r. AreGoodRows (rows_of r.tables) × IsKept r.tables r.changes r.is_ready };
 }
@@ -82,7 +82,7 @@ impl Services for Registry {
     ghost refuses = { registry_refuses };
 
     fn scheme(&self, alloc: Global, name: &Name) -> Result<Option<Scheme>, NoMemory> {
-        match offered(self.there, name) {
+        match installed_service(self.there, name) {
             Some(service) => Ok(Some(type_of(alloc, service)?)),
             None => Ok(None),
         }
@@ -98,7 +98,7 @@ impl Services for Registry {
         let Some(mut changes) = self.changes.take() else {
             unreachable!()
         };
-        let answer = served(
+        let answer = answer_call(
             alloc,
             self.there,
             &self.tables,

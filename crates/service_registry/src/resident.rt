@@ -9,7 +9,7 @@ ghost use Rattle.service_registry.specs.Meets.{Meets};
 ghost use Rattle.table_rows.specs.declared.row.Row.{Row as ARow};
 ghost use Rattle.table_rows.specs.Rows.{fresh_key};
 
-use crate::answers::{bad_index, not_found, overflow, refused, table_full};
+use crate::answers::{bad_index, no_such_service, not_found, overflow, table_full};
 use crate::arguments::{as_int, as_text};
 use plan_base::{NoMemory, Ty, Value};
 use resident_tables::{Overlay, TableFault, Tables};
@@ -31,17 +31,17 @@ pub fn put(
     ensures over { IsOver base.now.rows changes.new }
 {
     if args.len() != 4 {
-        return refused(alloc);
+        return no_such_service(alloc);
     }
     let Some(name) = as_text(&args[0]) else {
-        return refused(alloc);
+        return no_such_service(alloc);
     };
     let Some(number) = as_int(&args[1]) else {
-        return refused(alloc);
+        return no_such_service(alloc);
     };
     let value = &args[2];
     let Some(life) = as_int(&args[3]) else {
-        return refused(alloc);
+        return no_such_service(alloc);
     };
     if life < 1 {
         return bad_index(alloc);
@@ -66,13 +66,13 @@ pub fn get(
     ensures { Meets (spec.serve_as Service.Get a.now args.now ctx.entry.now (rows_over base.now changes.now)) (rows_over base.now changes.now) result (rows_over base.now changes.now) }
 {
     if args.len() != 2 {
-        return refused(alloc);
+        return no_such_service(alloc);
     }
     let Some(name) = as_text(&args[0]) else {
-        return refused(alloc);
+        return no_such_service(alloc);
     };
     let Some(number) = as_int(&args[1]) else {
-        return refused(alloc);
+        return no_such_service(alloc);
     };
     match changes.get(alloc, base, name, number, a, ctx.now) {
         Ok(value) => Ok(Answer::Gives(value, None)),
@@ -95,13 +95,13 @@ pub fn remove(
     ensures over { IsOver base.now.rows changes.new }
 {
     if args.len() != 2 {
-        return refused(alloc);
+        return no_such_service(alloc);
     }
     let Some(name) = as_text(&args[0]) else {
-        return refused(alloc);
+        return no_such_service(alloc);
     };
     let Some(number) = as_int(&args[1]) else {
-        return refused(alloc);
+        return no_such_service(alloc);
     };
     changes.remove(alloc, base, name, number)?;
     Ok(Answer::Gives(Value::Unit, None))
@@ -128,6 +128,6 @@ pub fn generate_key(
 {
     match args {
         [] => fresh_key(alloc, changes),
-        [_, ..] => refused(alloc),
+        [_, ..] => no_such_service(alloc),
     }
 }

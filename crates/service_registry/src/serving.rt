@@ -8,11 +8,11 @@ ghost use Rattle.service_registry.specs.RegistryState.{rows_over};
 ghost use Rattle.service_registry.specs.Meets.{Meets};
 ghost use Rattle.service_registry.specs.Packages.{present_of};
 
-use crate::answers::refused;
+use crate::answers::no_such_service;
 use crate::host::{deliver, print};
 use crate::installed_packages::InstalledPackages;
 use crate::net::{get_dist, get_neighbors, get_rb, get_source, next_hop, this_host, this_host_is};
-use crate::offered::offered;
+use crate::offered::installed_service;
 use crate::resident::{generate_key, get, put, remove};
 use crate::types::type_of;
 use plan_base::{NoMemory, Svc, Ty, Value};
@@ -54,7 +54,7 @@ fn served_as(
 }
 
 /// The type that the declaration takes for `Any`, or `None` where it is no instance of the service's type.
-fn taken(alloc: Global, service: Service, svc: &Svc) -> Result<Option<Ty>, NoMemory>
+fn taken_type(alloc: Global, service: Service, svc: &Svc) -> Result<Option<Ty>, NoMemory>
     ensures { IfOk result (λ t. t ≡ instance (offered.type_of service) svc.now) }
 {
     let scheme = type_of(alloc, service)?;
@@ -78,13 +78,13 @@ fn served_at(
 {
     match found {
         Some(a) => served_as(alloc, base, changes, service, a, args, ctx),
-        None => refused(alloc),
+        None => no_such_service(alloc),
     }
 }
 
 /// What a call answers where these packages are there. Condition: the changes were used over `base` alone.
 #[tactic(auto, unfolding(service_meaning::specs::Serving::serve))]
-pub fn served(
+pub fn answer_call(
     alloc: Global,
     there: InstalledPackages,
     base: &Tables,
@@ -97,9 +97,9 @@ pub fn served(
     ensures meets { Meets (serve (present_of there) svc.now args.now ctx.entry.now (rows_over base.now changes.old)) (rows_over base.now changes.old) result (rows_over base.now changes.new) }
     ensures over { IsOver base.now.rows changes.new }
 {
-    let Some(service) = offered(there, &svc.name) else {
-        return refused(alloc);
+    let Some(service) = installed_service(there, &svc.name) else {
+        return no_such_service(alloc);
     };
-    let found = taken(alloc, service, svc)?;
+    let found = taken_type(alloc, service, svc)?;
     served_at(alloc, base, changes, service, &found, args, ctx)
 }

@@ -12,7 +12,7 @@ use Rattle.service_api.specs.Services.{IsGoodChunk}
 use Rattle.plan_meaning.specs.declared.sent.Sent.{Sent}
 use Rattle.plan_meaning.specs.declared.outcome.Visit.{Visit}
 use Rattle.plan_meaning.specs.Safe.{IsGoodSent, AreGoodPackets}
-use Rattle.settled_visit.specs.Settles.{IsPlain, handler_for, handed, telling, telling_of, settled}
+use Rattle.settled_visit.specs.Settles.{IsPlain, handler_for, handed_packet, telling, telling_of, visit_settled}
 use Rattle.settled_visit.proofs.Handlers.{told_typed, told_formed}
 use Rattle.settled_visit.proofs.Tellings.{Tells, tells}
 
@@ -23,17 +23,17 @@ sent_plain (s ∷ ss) g = All-cons IsPlain s ss (All-head IsGoodSent s ss g).1 (
 
 -- whatever holds of what the visit sends with the handler, and of the packet that tells the source, holds of all
 module _ (P : Sent → Type 0) where
-  all_handed : (h : Option Name) (ss : List Sent) → All (λ s. P (handed h s)) ss → All P (map (handed h) ss)
+  all_handed : (h : Option Name) (ss : List Sent) → All (λ s. P (handed_packet h s)) ss → All P (map (handed_packet h) ss)
   all_handed h [] a = All-nil P
-  all_handed h (s ∷ ss) a = All-cons P (handed h s) (map (handed h) ss) (All-head (λ s. P (handed h s)) s ss a) (all_handed h ss (All-tail (λ s. P (handed h s)) s ss a))
+  all_handed h (s ∷ ss) a = All-cons P (handed_packet h s) (map (handed_packet h) ss) (All-head (λ s. P (handed_packet h s)) s ss a) (all_handed h ss (All-tail (λ s. P (handed_packet h s)) s ss a))
 
   all_told : (o : Option Sent) → ((t : Sent) → o ≡ Some t → P t) → All P (option_to_list o)
   all_told None k = All-nil P
   all_told (Some t) k = All-cons P t [] (k t refl) (All-nil P)
 
-  pub all_settled : (p : Packet) (ctx : Ctx) (v : Visit) → All (λ s. P (handed p.handler s)) v.outbox → ((t : Sent) → Tells p ctx v t → P t) → All P (settled p ctx v).visit.outbox
-  unfolding settled
-  all_settled p ctx v a k = All-append P (map (handed p.handler) v.outbox) (option_to_list (telling_of p ctx v)) (all_handed p.handler v.outbox a) (all_told (telling_of p ctx v) (λ t e. k t (tells p ctx v t e)))
+  pub all_settled : (p : Packet) (ctx : Ctx) (v : Visit) → All (λ s. P (handed_packet p.handler s)) v.outbox → ((t : Sent) → Tells p ctx v t → P t) → All P (visit_settled p ctx v).visit.outbox
+  unfolding visit_settled
+  all_settled p ctx v a k = All-append P (map (handed_packet p.handler) v.outbox) (option_to_list (telling_of p ctx v)) (all_handed p.handler v.outbox a) (all_told (telling_of p ctx v) (λ t e. k t (tells p ctx v t e)))
 
 -- ---- handlers that are there
 
@@ -42,7 +42,7 @@ handler_cases true c n e = e
 handler_cases false c n e = tt
 
 -- the handler that goes on with a packet may handle there
-pub handed_may : (h : Option Name) (s : Sent) → MayHandle s.packet.chunk (handed h s).packet.handler
+pub handed_may : (h : Option Name) (s : Sent) → MayHandle s.packet.chunk (handed_packet h s).packet.handler
 handed_may None s = tt
 handed_may (Some n) s = handler_cases (is_handler s.packet.chunk.code n) s.packet.chunk n refl
 
@@ -51,9 +51,9 @@ pub record IsGoodSettled (s : Sent) : Type 0 where
   pub chunk : IsGoodChunk s.packet.chunk
   pub handler : MayHandle s.packet.chunk s.packet.handler
 
-handed_good : (h : Option Name) (ss : List Sent) → AreGoodPackets ss → All (λ s. IsGoodSettled (handed h s)) ss
-handed_good h [] g = All-nil (λ s. IsGoodSettled (handed h s))
-handed_good h (s ∷ ss) g = All-cons (λ s. IsGoodSettled (handed h s)) s ss (record { chunk = (All-head IsGoodSent s ss g).0; handler = handed_may h s }) (handed_good h ss (All-tail IsGoodSent s ss g))
+handed_good : (h : Option Name) (ss : List Sent) → AreGoodPackets ss → All (λ s. IsGoodSettled (handed_packet h s)) ss
+handed_good h [] g = All-nil (λ s. IsGoodSettled (handed_packet h s))
+handed_good h (s ∷ ss) g = All-cons (λ s. IsGoodSettled (handed_packet h s)) s ss (record { chunk = (All-head IsGoodSent s ss g).0; handler = handed_may h s }) (handed_good h ss (All-tail IsGoodSent s ss g))
 
 tells_good : (p : Packet) (ctx : Ctx) (v : Visit) (t : Sent) → IsGoodChunk p.chunk → MayHandle p.chunk p.handler → Tells p ctx v t → IsGoodSettled t
 tells_good p ctx v t g m k =
@@ -68,19 +68,19 @@ tells_good p ctx v t g m k =
     subst IsGoodSettled (sym k.is) good
 
 -- all that a settled visit of a typed packet sends is typed, and its handlers may handle
-pub settled_good : (p : Packet) (ctx : Ctx) (v : Visit) → IsGoodChunk p.chunk → MayHandle p.chunk p.handler → AreGoodPackets v.outbox → All IsGoodSettled (settled p ctx v).visit.outbox
+pub settled_good : (p : Packet) (ctx : Ctx) (v : Visit) → IsGoodChunk p.chunk → MayHandle p.chunk p.handler → AreGoodPackets v.outbox → All IsGoodSettled (visit_settled p ctx v).visit.outbox
 settled_good p ctx v g m a = all_settled IsGoodSettled p ctx v (handed_good p.handler v.outbox a) (λ t k. tells_good p ctx v t g m k)
 
 -- ---- packets without a handler
 
-handed_plain : (h : Option Name) (s : Sent) → h ≡ None → IsPlain (handed h s)
+handed_plain : (h : Option Name) (s : Sent) → h ≡ None → IsPlain (handed_packet h s)
 handed_plain None s e = refl
 handed_plain (Some n) s e = cc
 
-all_plain : (h : Option Name) (ss : List Sent) → h ≡ None → All (λ s. IsPlain (handed h s)) ss
-all_plain h [] e = All-nil (λ s. IsPlain (handed h s))
-all_plain h (s ∷ ss) e = All-cons (λ s. IsPlain (handed h s)) s ss (handed_plain h s e) (all_plain h ss e)
+all_plain : (h : Option Name) (ss : List Sent) → h ≡ None → All (λ s. IsPlain (handed_packet h s)) ss
+all_plain h [] e = All-nil (λ s. IsPlain (handed_packet h s))
+all_plain h (s ∷ ss) e = All-cons (λ s. IsPlain (handed_packet h s)) s ss (handed_plain h s e) (all_plain h ss e)
 
 -- the settled visit of a packet without a handler sends none with one
-pub settled_plain : (p : Packet) (ctx : Ctx) (v : Visit) → p.handler ≡ None → All IsPlain (settled p ctx v).visit.outbox
+pub settled_plain : (p : Packet) (ctx : Ctx) (v : Visit) → p.handler ≡ None → All IsPlain (visit_settled p ctx v).visit.outbox
 settled_plain p ctx v e = all_settled IsPlain p ctx v (all_plain p.handler v.outbox e) (λ t k. ap (λ (x : Sent). x.packet.handler) k.is)

@@ -12,26 +12,26 @@ use Rattle.plan_meaning.specs.declared.outcome.Visit.{Visit}
 use Rattle.plan_meaning.specs.Visit.{bounds}
 use Rattle.plan_base.specs.declared.memory.NoMemory.{NoMemory}
 use Rattle.settled_visit.specs.declared.settling.Settled.{Settled}
-use Rattle.settled_visit.specs.Settles.{telling_of, handed, left_beside, settled}
+use Rattle.settled_visit.specs.Settles.{telling_of, handed_packet, left_beside, visit_settled}
 use Rattle.settled_visit.proofs.Tellings.{tells}
 
-pub same_bounds : (h : Option Name) (outbox : List Sent) → bounds (map (handed h) outbox) ≡ bounds outbox
+pub same_bounds : (h : Option Name) (outbox : List Sent) → bounds (map (handed_packet h) outbox) ≡ bounds outbox
 same_bounds h [] = refl
 same_bounds h (s ∷ ss) =
-    omega (arith, same_bounds h ss, sum_by-cons (λ (x : Sent). x.packet.bound) (handed h s) (map (handed h) ss), sum_by-cons (λ (x : Sent). x.packet.bound) s ss)
+    omega (arith, same_bounds h ss, sum_by-cons (λ (x : Sent). x.packet.bound) (handed_packet h s) (map (handed_packet h) ss), sum_by-cons (λ (x : Sent). x.packet.bound) s ss)
 
 parts_balance : (h : Option Name) (outbox : List Sent) (left : ℕ) (told : Option Sent) → ((t : Sent) → told ≡ Some t → t.packet.bound ≡ left)
-    → left_beside left told + bounds (map (handed h) outbox ++ option_to_list told) ≡ left + bounds outbox
-parts_balance h outbox left None k = omega (arith, same_bounds h outbox, ap bounds (append-nil (map (handed h) outbox)))
-parts_balance h outbox left (Some t) k = omega (arith, same_bounds h outbox, k t refl, sum_by_push (λ (x : Sent). x.packet.bound) (map (handed h) outbox) t)
+    → left_beside left told + bounds (map (handed_packet h) outbox ++ option_to_list told) ≡ left + bounds outbox
+parts_balance h outbox left None k = omega (arith, same_bounds h outbox, ap bounds (append-nil (map (handed_packet h) outbox)))
+parts_balance h outbox left (Some t) k = omega (arith, same_bounds h outbox, k t refl, sum_by_push (λ (x : Sent). x.packet.bound) (map (handed_packet h) outbox) t)
 
 -- what was paid, is left and is sent stays in sum
-pub settled_balance : (p : Packet) (ctx : Ctx) (v : Visit) → (settled p ctx v).visit.evals + (settled p ctx v).visit.left + bounds (settled p ctx v).visit.outbox ≡ v.evals + v.left + bounds v.outbox
-unfolding settled
+pub settled_balance : (p : Packet) (ctx : Ctx) (v : Visit) → (visit_settled p ctx v).visit.evals + (visit_settled p ctx v).visit.left + bounds (visit_settled p ctx v).visit.outbox ≡ v.evals + v.left + bounds v.outbox
+unfolding visit_settled
 settled_balance p ctx v = omega (arith, parts_balance p.handler v.outbox v.left (telling_of p ctx v) (λ t e. ap (λ (x : Sent). x.packet.bound) (tells p ctx v t e).is))
 
 -- so does what a call answers, where it answers that
-pub ok_balance : (p : Packet) (ctx : Ctx) (v : Visit) (r : Result Settled NoMemory) → IfOk r (λ s. s ≡ settled p ctx v)
+pub ok_balance : (p : Packet) (ctx : Ctx) (v : Visit) (r : Result Settled NoMemory) → IfOk r (λ s. s ≡ visit_settled p ctx v)
     → IfOk r (λ s. s.visit.evals + s.visit.left + bounds s.visit.outbox ≡ v.evals + v.left + bounds v.outbox)
 ok_balance p ctx v (Ok s) e = subst (λ (x : Settled). x.visit.evals + x.visit.left + bounds x.visit.outbox ≡ v.evals + v.left + bounds v.outbox) (sym e) (settled_balance p ctx v)
 ok_balance p ctx v (Err x) e = e

@@ -32,8 +32,8 @@ handler_for None p = None
 handler_for (Some n) p = if is_handler p.chunk.code n then Some n else None
 
 -- a packet that is sent, with that handler
-abbrev pub handed : Option Name → Sent → Sent
-handed h s = record s { packet = record s.packet { handler = handler_for h s.packet } }
+abbrev pub handed_packet : Option Name → Sent → Sent
+handed_packet h s = record s { packet = record s.packet { handler = handler_for h s.packet } }
 
 -- ---- what is told
 
@@ -96,10 +96,10 @@ handled_by h (Some t) = h
 -- a visit with the packet that tells the source, if there is one, sent last
 abbrev pub with_telling : Option Name → Visit → Option Sent → Settled
 with_telling h v told = record {
-  visit = record v { left = left_beside v.left told; outbox = map (handed h) v.outbox ++ option_to_list told };
+  visit = record v { left = left_beside v.left told; outbox = map (handed_packet h) v.outbox ++ option_to_list told };
   handled = handled_by h told;
 }
 
 -- the visit of a packet in those surroundings, settled
-unfoldable pub settled : Packet → Ctx → Visit → Settled
-settled p ctx v = with_telling p.handler v (telling_of p ctx v)
+unfoldable pub visit_settled : Packet → Ctx → Visit → Settled
+visit_settled p ctx v = with_telling p.handler v (telling_of p ctx v)

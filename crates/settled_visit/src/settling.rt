@@ -24,9 +24,9 @@ pub struct Settled {
 }
 
 /// A packet that is sent, with the handler where its own code has such a function. Condition: it has none yet.
-fn handed(alloc: Global, handler: &Option<Name>, sent: Sent) -> Result<Sent, NoMemory>
+fn with_handler(alloc: Global, handler: &Option<Name>, sent: Sent) -> Result<Sent, NoMemory>
     requires { spec.IsPlain sent }
-    ensures { IfOk result (λ s. s ≡ spec.handed handler.now sent) }
+    ensures { IfOk result (λ s. s ≡ spec.handed_packet handler.now sent) }
 {
     let Some(name) = handler else {
         return Ok(sent);
@@ -45,11 +45,11 @@ fn handed(alloc: Global, handler: &Option<Name>, sent: Sent) -> Result<Sent, NoM
 /// All that a visit sends, with the handler. Condition: none of it has one yet.
 fn all_handed(alloc: Global, handler: &Option<Name>, outbox: Outbox) -> Result<Outbox, NoMemory>
     requires { All spec.IsPlain outbox }
-    ensures { IfOk result (λ sends. sends ≡ map (spec.handed handler.now) outbox) }
+    ensures { IfOk result (λ sends. sends ≡ map (spec.handed_packet handler.now) outbox) }
 {
     let mut sends = Items::new(alloc);
     for sent in outbox.into_vec() {
-        sends.add(handed(alloc, handler, sent)?)?;
+        sends.add(with_handler(alloc, handler, sent)?)?;
     }
     Ok(sends)
 }
@@ -122,11 +122,11 @@ fn with_telling(
 }
 
 /// Settles the visit of a packet by its parts. Conditions: those of `settle`.
-#[tactic(auto, unfolding(crate::specs::Settles::settled))]
+#[tactic(auto, unfolding(crate::specs::Settles::visit_settled))]
 fn settle_parts(alloc: Global, p: &CheckedPacket, v: Visit, ctx: &Ctx) -> Result<Settled, NoMemory>
     requires plain { All spec.IsPlain v.outbox }
     requires left { v.left ≤ 65535 }
-    ensures { IfOk result (λ s. s ≡ spec.settled p.now ctx.entry.now v) }
+    ensures { IfOk result (λ s. s ≡ spec.visit_settled p.now ctx.entry.now v) }
 {
     let told = telling_of(alloc, p, ctx, v.left, &v.outcome)?;
     with_telling(alloc, p.handler(), v, told)
@@ -143,7 +143,7 @@ pub fn settle(alloc: Global, p: &CheckedPacket, v: Visit, ctx: &Ctx) -> Result<S
     requires plain { All spec.IsPlain v.outbox }
     requires left { v.left ≤ 65535 }
     requires source { ctx.now.source ≡ p.now.family.source }
-    ensures settled { IfOk result (λ s. s ≡ spec.settled p.now ctx.entry.now v) }
+    ensures settled { IfOk result (λ s. s ≡ spec.visit_settled p.now ctx.entry.now v) }
     ensures balance { IfOk result (λ s. s.visit.evals + s.visit.left + bounds s.visit.outbox ≡ v.evals + v.left + bounds v.outbox) }
 {
     settle_parts(alloc, p, v, ctx)

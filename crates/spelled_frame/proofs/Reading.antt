@@ -73,14 +73,14 @@ pub has_stamp : (bytes : List ℕ) (w : What) → IsSpelled Two bytes w → 22 �
 has_stamp bytes w h = long bytes (frame_in Two bytes).stamp (frame_in Two bytes).frame h.accepted h.way
 
 module _ (old new : List ℕ) (link : ℕ) (k : (s : Stamp) (x : PlainFrame) → SpellsStamped old (record { stamp = Some s; frame = x }) → SpellsStamped new (record { stamp = Some (record { boot = s.boot; link = link }); frame = x })) where
-  renumbered : (o : Option Stamp) (y : PlainFrame) → AcceptsBy Two old (record { stamp = o; frame = y }) → IsOnItsWay y → AcceptsBy Two new (record { stamp = stamp_with link o; frame = y })
-  renumbered None (PlainFrame.Packet p) a w = absurd a.read
-  renumbered None (PlainFrame.Advert b) a w = absurd a.read
-  renumbered None (PlainFrame.Ask bound c) a w = absurd w
-  renumbered (Some s) y a w = let n = k s y (record { short = a.short; fits = (a.fits, a.read); is = a.is }) in record { short = n.short; fits = n.fits.0; read = n.fits.1; is = n.is; typed = a.typed; handler = a.handler }
+  renumbered_is_accepted : (o : Option Stamp) (y : PlainFrame) → AcceptsBy Two old (record { stamp = o; frame = y }) → IsOnItsWay y → AcceptsBy Two new (record { stamp = stamp_with link o; frame = y })
+  renumbered_is_accepted None (PlainFrame.Packet p) a w = absurd a.read
+  renumbered_is_accepted None (PlainFrame.Advert b) a w = absurd a.read
+  renumbered_is_accepted None (PlainFrame.Ask bound c) a w = absurd w
+  renumbered_is_accepted (Some s) y a w = let n = k s y (record { short = a.short; fits = (a.fits, a.read); is = a.is }) in record { short = n.short; fits = n.fits.0; read = n.fits.1; is = n.is; typed = a.typed; handler = a.handler }
 
   two_renumbered : (w : What) → IsSpelled Two old w → AcceptsBy Two new (numbered_frame link (frame_in Two old))
-  two_renumbered w h = renumbered (frame_in Two old).stamp (frame_in Two old).frame h.accepted h.way
+  two_renumbered w h = renumbered_is_accepted (frame_in Two old).stamp (frame_in Two old).frame h.accepted h.way
 
   pub two_numbered : (w : What) → IsSpelled Two old w → frame_in Two new ≡ numbered_frame link (frame_in Two old)
   two_numbered w h = frame_is_read Two new (numbered_frame link (frame_in Two old)) (two_renumbered w h)

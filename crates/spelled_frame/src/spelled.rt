@@ -172,7 +172,7 @@ impl SpelledFrame {
     }
 
     /// The frame with this number, where it bears a stamp. Takes no memory.
-    pub fn numbered(self, link: u64) -> SpelledFrame
+    pub fn with_number(self, link: u64) -> SpelledFrame
         ensures { result ≡ spec.numbered_frame link self }
     {
         let SpelledFrame {

@@ -20,7 +20,7 @@ fn is_text(bytes: &[u8]) -> bool
 }
 
 /// A copy of bytes.
-fn copied(alloc: Global, bytes: &[u8]) -> Result<Text, NoMemory>
+fn copy_bytes(alloc: Global, bytes: &[u8]) -> Result<Text, NoMemory>
     ensures { IfOk result (λ text. text ≡ bytes.now) }
 {
     Ok(Text::of(Vec::from_slice(alloc, bytes)?))
@@ -31,9 +31,9 @@ fn text_or(alloc: Global, others: &[u8], bytes: &[u8]) -> Result<Text, NoMemory>
     ensures { IfOk result (λ text. text ≡ utf8_or others.now bytes.now) }
 {
     if is_text(bytes) {
-        copied(alloc, bytes)
+        copy_bytes(alloc, bytes)
     } else {
-        copied(alloc, others)
+        copy_bytes(alloc, others)
     }
 }
 
@@ -43,7 +43,7 @@ fn text_of(alloc: Global, others: &[u8], argument: &Argument) -> Result<Text, No
 {
     match argument {
         Argument::Whole(bytes) => text_or(alloc, others, bytes.as_slice()),
-        Argument::TooLong => copied(alloc, others),
+        Argument::TooLong => copy_bytes(alloc, others),
     }
 }
 
@@ -76,6 +76,6 @@ pub fn program_of(alloc: Global, arguments: &Arguments) -> Result<Text, NoMemory
 {
     match arguments.as_slice() {
         [own, ..] => text_of(alloc, b"planet", own),
-        [] => copied(alloc, b"planet"),
+        [] => copy_bytes(alloc, b"planet"),
     }
 }

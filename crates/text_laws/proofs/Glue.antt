@@ -132,8 +132,8 @@ bool_part false = is_text (key_part keys.False) refl refl
 -- ---- symbols
 
 -- a blank
-abbrev pub spaced : ℕ → Bool
-spaced b = b == 32
+abbrev pub is_space : ℕ → Bool
+is_space b = b == 32
 
 -- a symbol that no further byte makes longer
 abbrev IsWhole : Symbol → Type 0
@@ -171,12 +171,12 @@ before_blank symbols.Underscore bs = refl
 blank_first : (b : ℕ) → (b == 32) ≡ true → b ≡ 32
 blank_first b h = grind (arith, nat_tests)
 
-before_spaced : (s : Symbol) (rest : List ℕ) → spaced (get_or rest 0 0) ≡ true → symbol_at (symbol_text s ++ rest) ≡ Some s
+before_spaced : (s : Symbol) (rest : List ℕ) → is_space (get_or rest 0 0) ≡ true → symbol_at (symbol_text s ++ rest) ≡ Some s
 before_spaced s [] h = absurd (cc)
 before_spaced s (b ∷ bs) h = subst (λ c. symbol_at (symbol_text s ++ c ∷ bs) ≡ Some s) (sym (blank_first b h)) (before_blank s bs)
 
 -- a symbol with a blank behind it
-pub spaced_part : {f : ℕ → Bool} (s : Symbol) → is_solid (get_or (symbol_text s) 0 0) ≡ true → f (get_or (symbol_text s) 0 0) ≡ true → Part f spaced (symbol_text s) (mark s)
+pub spaced_part : {f : ℕ → Bool} (s : Symbol) → is_solid (get_or (symbol_text s) 0 0) ≡ true → f (get_or (symbol_text s) 0 0) ≡ true → Part f is_space (symbol_text s) (mark s)
 spaced_part s solid e = token_part (kind.Symbol s) (symbol_text s) (symbol s) solid e (λ rest h. before_spaced s rest h)
 
 colon_whole : (rest : List ℕ) → begins (get_or rest 0 0) ≡ true → symbol_at (symbol_text symbols.Colon ++ rest) ≡ Some symbols.Colon

@@ -2,7 +2,7 @@
 use Rattle.std.proofs.Common.{◌≡◌, ℕ, ◌<◌, Bool, List, [], ◌∷◌, ◌++◌, length, refl, sym, ap, ◌∙◌, arith, append_assoc}
 use Rattle.std.specs.List.{flat_map}
 use Rattle.plan_lexer.specs.declared.token.TokenKind.{TokenKind}
-use Rattle.printed_forms.specs.Pieces.{listed}
+use Rattle.printed_forms.specs.Pieces.{listed_pieces}
 use Rattle.text_laws.specs.Lexes.{Lexes}
 use Rattle.text_laws.proofs.Segments.{begins, calm, anything, Part, ◌>>◌}
 use Rattle.text_laws.proofs.Glue.{is_text}
@@ -17,15 +17,15 @@ four a b c d = sym (append_assoc a (b ++ c) d ∙ ap (λ s. a ++ s) (append_asso
 
 module _ {X : Type 0} (f : X → List ℕ) (g : X → List TokenKind) (between : List ℕ) (sep : List TokenKind) (B : Part calm begins between sep)
     (close : List ℕ) (shut : List TokenKind) {to : ℕ → Bool} (C : Part calm to close shut) where
-  further : (xs : List X) → AllParts calm f g xs → Part calm to (listed between between f xs ++ close) (listed sep sep g xs ++ shut)
+  further : (xs : List X) → AllParts calm f g xs → Part calm to (listed_pieces between between f xs ++ close) (listed_pieces sep sep g xs ++ shut)
   further [] h = C
-  further (x ∷ xs) h = is_text (B >> (h.0 >> further xs h.1)) (four between (f x) (listed between between f xs) close) (four sep (g x) (listed sep sep g xs) shut)
+  further (x ∷ xs) h = is_text (B >> (h.0 >> further xs h.1)) (four between (f x) (listed_pieces between between f xs) close) (four sep (g x) (listed_pieces sep sep g xs) shut)
 
-  pub some_listed : (xs : List X) → 0 < length xs → AllParts calm f g xs → Part begins to (listed between [] f xs ++ close) (listed sep [] g xs ++ shut)
+  pub some_listed : (xs : List X) → 0 < length xs → AllParts calm f g xs → Part begins to (listed_pieces between [] f xs ++ close) (listed_pieces sep [] g xs ++ shut)
   some_listed [] n h = absurd (omega arith)
-  some_listed (x ∷ xs) n h = is_text (h.0 >> further xs h.1) (sym (append_assoc (f x) (listed between between f xs) close)) (sym (append_assoc (g x) (listed sep sep g xs) shut))
+  some_listed (x ∷ xs) n h = is_text (h.0 >> further xs h.1) (sym (append_assoc (f x) (listed_pieces between between f xs) close)) (sym (append_assoc (g x) (listed_pieces sep sep g xs) shut))
 
-  pub all_listed : Part begins to close shut → (xs : List X) → AllParts calm f g xs → Part begins to (listed between [] f xs ++ close) (listed sep [] g xs ++ shut)
+  pub all_listed : Part begins to close shut → (xs : List X) → AllParts calm f g xs → Part begins to (listed_pieces between [] f xs ++ close) (listed_pieces sep [] g xs ++ shut)
   all_listed D [] h = D
   all_listed D (x ∷ xs) h = some_listed (x ∷ xs) (omega arith) h
 

@@ -13,7 +13,7 @@ use Rattle.plan_lexer.specs.Tables.{key_text, symbol_text}
 use Rattle.plan_lexer.specs.declared.token.Key.TheVariants as keys
 use Rattle.plan_lexer.specs.declared.token.Symbol.TheVariants as symbols
 use Rattle.plan_lexer.specs.declared.token.TokenKind.TheVariants as kind
-use Rattle.printed_forms.specs.Pieces.{listed, commas}
+use Rattle.printed_forms.specs.Pieces.{listed_pieces, commas}
 use Rattle.printed_forms.specs.Printed.{type_text, svc_text, exn_text, param_text, fun_text, program_text}
 use Rattle.text_laws.specs.Lexes.{Lexes}
 use Rattle.text_laws.specs.PrintedTokens.{mark, word, type_kinds, svc_kinds, exn_kinds, param_kinds, fun_kinds, program_kinds}
@@ -42,7 +42,7 @@ svc_part s h = then_line (is_text
     (key_part keys.Svc >> blank_part refl >> name_part s.name h.name >> (blank_part refl >> colon_part {f = anything} refl >> blank_part refl >> paren_part {f = anything} refl)
     >> all_listed type_text type_kinds (codes ", ") (mark symbols.Comma) comma_glue (codes ") -> ") (mark symbols.ParenClose ++ mark symbols.Arrow) (result_glue refl) (result_glue refl) s.params (types_parts s.params h.params))
     (sym (append_assoc (codes "svc " ++ s.name ++ codes " : (") (commas type_text s.params) (codes ") -> ")))
-    (sym (append_assoc (word keys.Svc ++ kind.Word s.name ∷ [] ++ mark symbols.Colon ++ mark symbols.ParenOpen ++ listed (mark symbols.Comma) [] type_kinds s.params) (mark symbols.ParenClose) (mark symbols.Arrow)))
+    (sym (append_assoc (word keys.Svc ++ kind.Word s.name ∷ [] ++ mark symbols.Colon ++ mark symbols.ParenOpen ++ listed_pieces (mark symbols.Comma) [] type_kinds s.params) (mark symbols.ParenClose) (mark symbols.Arrow)))
     >> type_part h.result.0)
 
 exn_part : (x : Name) → IsName x → Part begins anything (exn_text x) (exn_kinds x)
@@ -62,7 +62,7 @@ fun_part f h = then_line (is_text
     (key_part keys.Fun >> blank_part refl >> name_part f.name h.name >> paren_part refl
     >> all_listed param_text param_kinds (codes ", ") (mark symbols.Comma) comma_glue (codes ") : ") (mark symbols.ParenClose ++ mark symbols.Colon) (type_glue refl) (type_glue refl) f.params (params_parts f.params h.params))
     (sym (append_assoc (codes "fun " ++ f.name ++ codes "(") (commas param_text f.params) (codes ") : ")))
-    (sym (append_assoc (word keys.Fun ++ kind.Word f.name ∷ [] ++ mark symbols.ParenOpen ++ listed (mark symbols.Comma) [] param_kinds f.params) (mark symbols.ParenClose) (mark symbols.Colon)))
+    (sym (append_assoc (word keys.Fun ++ kind.Word f.name ∷ [] ++ mark symbols.ParenOpen ++ listed_pieces (mark symbols.Comma) [] param_kinds f.params) (mark symbols.ParenClose) (mark symbols.Colon)))
     >> type_part h.result.0 >> (blank_part refl >> spaced_part {f = anything} symbols.Equal refl refl >> blank_part refl) >> expr_part h.body)
 
 svcs_parts : (ss : List Svc) → AllProper IsProperSvc ss → AllParts anything svc_text svc_kinds ss

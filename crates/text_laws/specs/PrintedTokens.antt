@@ -18,7 +18,7 @@ use Rattle.plan_lexer.specs.declared.token.Symbol.{Symbol}
 use Rattle.plan_lexer.specs.declared.token.Symbol.TheVariants as symbol
 use Rattle.plan_lexer.specs.declared.token.TokenKind.{TokenKind}
 use Rattle.plan_lexer.specs.declared.token.TokenKind.TheVariants as kind
-use Rattle.printed_forms.specs.Pieces.{listed}
+use Rattle.printed_forms.specs.Pieces.{listed_pieces}
 
 abbrev pub Kinds : Type 0
 Kinds = List TokenKind
@@ -35,7 +35,7 @@ name x = kind.Word x ∷ []
 
 -- tokens with a comma between two
 abbrev pub comma_kinds : {X : Type 0} → (X → Kinds) → List X → Kinds
-comma_kinds kinds xs = listed (mark symbol.Comma) [] kinds xs
+comma_kinds kinds xs = listed_pieces (mark symbol.Comma) [] kinds xs
 
 -- a type
 abbrev pub type_kinds_level : {X : Type 0} → (X → Kinds) → Ty-F X → Kinds
@@ -49,7 +49,7 @@ type_kinds_level kinds Ty-F.Host = word key.Host
 type_kinds_level kinds Ty-F.Dev = word key.Dev
 type_kinds_level kinds Ty-F.Chunk = word key.Chunk
 type_kinds_level kinds (Ty-F.List t) = kinds t ++ word key.List
-type_kinds_level kinds (Ty-F.Tuple ts) = mark symbol.ParenOpen ++ listed (mark symbol.Star) [] kinds ts ++ mark symbol.ParenClose
+type_kinds_level kinds (Ty-F.Tuple ts) = mark symbol.ParenOpen ++ listed_pieces (mark symbol.Star) [] kinds ts ++ mark symbol.ParenClose
 
 unfoldable pub type_kinds : Ty → Kinds
 type_kinds = fold-Ty Kinds (type_kinds_level (λ s. s))
@@ -132,7 +132,7 @@ expr_kinds_level kinds clause (Expr-F.Not a) = mark symbol.ParenOpen ++ word key
 expr_kinds_level kinds clause (Expr-F.Binary o a b) = mark symbol.ParenOpen ++ kinds a ++ op_kinds o ++ kinds b ++ mark symbol.ParenClose
 expr_kinds_level kinds clause (Expr-F.Part i a) = mark symbol.ParenOpen ++ (kind.Part i ∷ []) ++ kinds a ++ mark symbol.ParenClose
 expr_kinds_level kinds clause (Expr-F.Raise x t) = raise_kinds x t
-expr_kinds_level kinds clause (Expr-F.Try a cs) = word key.Try ++ kinds a ++ word key.Handle ++ listed (mark symbol.Bar) [] clause cs ++ word key.End
+expr_kinds_level kinds clause (Expr-F.Try a cs) = word key.Try ++ kinds a ++ word key.Handle ++ listed_pieces (mark symbol.Bar) [] clause cs ++ word key.End
 expr_kinds_level kinds clause (Expr-F.Foldl f a l) =
     word key.Foldl ++ mark symbol.ParenOpen ++ name f ++ mark symbol.Comma ++ kinds a ++ mark symbol.Comma ++ kinds l ++ mark symbol.ParenClose
 expr_kinds_level kinds clause (Expr-F.Foldr f a l) =

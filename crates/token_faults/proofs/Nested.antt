@@ -210,9 +210,9 @@ behind_more start c more next k at depth b h = by_byte (b == 40) refl (c == 42) 
     by_byte false e q f true g false j = plain (mark_is false q true false e f g j)
     by_byte false e q f false g t j = plain (mark_is false q false t e f g j)
 
-known : (start : ℕ) (text : List ℕ) (next : ℕ) → IsKnown start text next
-known start [] next = record { alone = λ at depth h. cc; behind = λ at depth b h. cc }
-known start (c ∷ more) next = let k = known start more next in record { alone = alone_more start c more next k; behind = behind_more start c more next k }
+text_is_known : (start : ℕ) (text : List ℕ) (next : ℕ) → IsKnown start text next
+text_is_known start [] next = record { alone = λ at depth h. cc; behind = λ at depth b h. cc }
+text_is_known start (c ∷ more) next = let k = text_is_known start more next in record { alone = alone_more start c more next k; behind = behind_more start c more next k }
 
 -- a reading ends further on
 later_on : (start at depth : ℕ) (last : _) (text : List ℕ) (next : ℕ) → comment_from start at depth last text ≡ Ok next → at < next
@@ -258,7 +258,7 @@ inside_of (comment i) = i
 comment_ends : (at : ℕ) (text : List ℕ) (next : ℕ) → comment_at at text ≡ Ok next → EndsAt at next (40 ∷ 42 ∷ text)
 unfolding comment_at left_by Closed
 comment_ends at text next h =
-    let c = (known at text next).alone (at + 2) 0 h in
+    let c = (text_is_known at text next).alone (at + 2) 0 h in
     record { rest = c.rest; closed = comment c.closed; place = (let f = c.place in omega (arith, f)) }
 
 further : (at : ℕ) (text : List ℕ) (next : ℕ) → comment_at at text ≡ Ok next → nat_lt at next ≡ true
@@ -297,8 +297,8 @@ module _ (at : ℕ) (text : List ℕ) where
           cc
       by_answer (inr p) = let o : ◌≡◌ {A = Move} (Err p.0) (Ok (Some k, next)) = sym (move_err at text p.0 p.1) ∙ h in cc
 
-  pub passed : (next : ℕ) → (move_at at (40 ∷ 42 ∷ text) ≡ Ok (None, next)) ↔ EndsAt at next (40 ∷ 42 ∷ text)
-  passed next = (there, back)
+  pub passed_where_ended : (next : ℕ) → (move_at at (40 ∷ 42 ∷ text) ≡ Ok (None, next)) ↔ EndsAt at next (40 ∷ 42 ∷ text)
+  passed_where_ended next = (there, back)
     where
       there : move_at at (40 ∷ 42 ∷ text) ≡ Ok (None, next) → EndsAt at next (40 ∷ 42 ∷ text)
       there h = by_answer answer
@@ -317,8 +317,8 @@ module _ (at : ℕ) (text : List ℕ) where
           let same : c.0 ≡ next = omega (arith, p, q) in
           move_ok at text next (c.1 ∙ ap Ok same)
 
-  pub refused : (e : LexFault) → (move_at at (40 ∷ 42 ∷ text) ≡ Err e) ↔ Unclosed e at (40 ∷ 42 ∷ text)
-  refused e = (there, back)
+  pub refused_where_unclosed : (e : LexFault) → (move_at at (40 ∷ 42 ∷ text) ≡ Err e) ↔ Unclosed e at (40 ∷ 42 ∷ text)
+  refused_where_unclosed e = (there, back)
     where
       there : move_at at (40 ∷ 42 ∷ text) ≡ Err e → Unclosed e at (40 ∷ 42 ∷ text)
       there h = by_answer answer

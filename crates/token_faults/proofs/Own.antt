@@ -19,7 +19,7 @@ use Rattle.token_faults.specs.Comments.{Unclosed}
 use Rattle.token_faults.proofs.Moves.{string_move, char_move, blob_move, comment_move, err_moved, after_comment}
 use Rattle.token_faults.proofs.Quotes.{strings, chars}
 use Rattle.token_faults.proofs.Blobs.{blobs}
-use Rattle.token_faults.proofs.Nested.{refused}
+use Rattle.token_faults.proofs.Nested.{refused_where_unclosed}
 
 -- what is read, or refused for a reason of the text's own
 Own : {A : Type 0} → Result A LexFault → Type 0
@@ -89,7 +89,7 @@ blob_own at text = own_by (blob_at at text) (λ e h. own e ((blobs at text e).0 
     own e (no_second pairs bytes more h high b is s v m n q) = λ k. let z : BadChar (at + 2 + length pairs + 1) ≡ NoMemory = sym q ∙ k in cc
 
 comment_own : (at : ℕ) (text : List ℕ) → Own (comment_at at text)
-comment_own at text = own_by (comment_at at text) (λ e h. own e ((refused at text e).0 (comment_move at text ∙ ap (λ r. r >>= after_comment at text) h)))
+comment_own at text = own_by (comment_at at text) (λ e h. own e ((refused_where_unclosed at text e).0 (comment_move at text ∙ ap (λ r. r >>= after_comment at text) h)))
   where
     own : (e : LexFault) → Unclosed e at (40 ∷ 42 ∷ text) → e ≢ NoMemory
     own e u = λ h. let z : OpenComment at ≡ NoMemory = sym u.is ∙ h in cc

@@ -251,9 +251,9 @@ module _ (at : ℕ) (text : List ℕ) (e : LexFault) (refused : token_at at text
       go false a false b false c true d i = of_hash apart (byte 35 d) i
       go false a false b false c false d i = of_symbol (symbol_at text) i
 
-  pub sorted : IsStray text → StrayFault e at text
+  pub stray_has_fault : IsStray text → StrayFault e at text
   unfolding token_at
-  sorted stray = go (is_ascii_alphabetic (get_or text 0 0)) refl (is_ascii_digit (get_or text 0 0)) refl (get_or text 0 0 == 34) refl (get_or text 0 0 == 39) refl refused
+  stray_has_fault stray = go (is_ascii_alphabetic (get_or text 0 0)) refl (is_ascii_digit (get_or text 0 0)) refl (get_or text 0 0 == 34) refl (get_or text 0 0 == 39) refl refused
     where
       byte : (b : ℕ) → (get_or text 0 0 == b) ≡ true → get_or text 0 0 ≡ b
       byte b q = grind (arith, nat_tests)
@@ -355,7 +355,7 @@ refuses at text e stray (no_token none q) = go (token_at at text) refl
   where
     go : (r : Result (TokenKind × ℕ) LexFault) → token_at at text ≡ r → token_at at text ≡ Err e
     go (Ok t) h = let f = token_sound at text t.0 t.1 h in absurd (none f.front f.rest f.splits (has_form t.0 f.front f.spells))
-    go (Err d) h = h ∙ ap Err (formless d at text none (sorted at text d h stray) ∙ sym q)
+    go (Err d) h = h ∙ ap Err (formless d at text none (stray_has_fault at text d h stray) ∙ sym q)
 
 -- ---- as a move
 
@@ -367,6 +367,6 @@ move_is at text s =
 
 pub strays : (at : ℕ) (text : List ℕ) (e : LexFault) → IsStray text → (move_at at text ≡ Err e) ↔ StrayFault e at text
 strays at text e s = (
-  λ h. sorted at text e (then_err (token_at at text) (λ t. (Some t.0, t.1)) e (sym (move_is at text s) ∙ h)) s,
+  λ h. stray_has_fault at text e (then_err (token_at at text) (λ t. (Some t.0, t.1)) e (sym (move_is at text s) ∙ h)) s,
   λ f. move_is at text s ∙ err_then (token_at at text) _ e (refuses at text e s f),
 )

@@ -78,7 +78,7 @@ pub(crate) fn read_entry(alloc: Global, line: &[u8]) -> Result<Option<Entry>, No
 }
 
 /// A number behind its name, and what stands behind the blank after it.
-fn named(text: &[u8]) -> Option<(u64, &[u8])> {
+fn number_behind(text: &[u8]) -> Option<(u64, &[u8])> {
     let (_, rest) = cut(text);
     let (number, rest) = cut(rest);
     Some((long(number)?, rest))
@@ -86,9 +86,9 @@ fn named(text: &[u8]) -> Option<(u64, &[u8])> {
 
 /// The row with what the rest of its line may say: evals, what is under way and what is left.
 fn with_rest(row: Row, rest: &[u8]) -> Option<Row> {
-    let (evals, rest) = named(rest)?;
-    let (live, rest) = named(rest)?;
-    let (left, _) = named(rest)?;
+    let (evals, rest) = number_behind(rest)?;
+    let (live, rest) = number_behind(rest)?;
+    let (left, _) = number_behind(rest)?;
     Some(Row {
         evals,
         live,
@@ -101,8 +101,8 @@ fn with_rest(row: Row, rest: &[u8]) -> Option<Row> {
 fn guess_row(line: &[u8]) -> Option<Row> {
     let (family, rest) = cut(line);
     let family = family_of(family)?;
-    let (granted, rest) = named(rest)?;
-    let (hops, rest) = named(rest)?;
+    let (granted, rest) = number_behind(rest)?;
+    let (hops, rest) = number_behind(rest)?;
     let row = Row {
         family,
         granted,

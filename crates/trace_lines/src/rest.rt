@@ -19,7 +19,7 @@ fn is(text: &[u8], word: &[u8]) -> bool {
 }
 
 /// The number behind a sign, as in `@1` and `%1`.
-fn signed(word: &[u8]) -> Option<u32> {
+fn signed_number(word: &[u8]) -> Option<u32> {
     short(word.get(1..)?)
 }
 
@@ -59,7 +59,7 @@ fn is_refusal(text: &[u8]) -> bool {
         || (text.starts_with(b"BadFrame ") && text.len() > 9)
 }
 
-fn copied(alloc: Global, text: &[u8]) -> Result<Bytes, NoMemory> {
+fn copy_bytes(alloc: Global, text: &[u8]) -> Result<Bytes, NoMemory> {
     Ok(Bytes::of(Vec::from_slice(alloc, text)?))
 }
 
@@ -69,9 +69,9 @@ fn dropped_for(h: Host, reason: Reason, text: &[u8]) -> Option<Line> {
 }
 
 /// What was dropped or refused at a host.
-fn dropped(alloc: Global, h: Host, text: &[u8]) -> Result<Option<Line>, NoMemory> {
+fn drop_line(alloc: Global, h: Host, text: &[u8]) -> Result<Option<Line>, NoMemory> {
     if is_refusal(text) {
-        return Ok(Some(Line::Refused(h, copied(alloc, text)?)));
+        return Ok(Some(Line::Refused(h, copy_bytes(alloc, text)?)));
     }
     let (word, rest) = cut(text);
     let Some(reason) = reason_of(word) else {
@@ -114,12 +114,12 @@ fn end_of(text: &[u8]) -> Option<End<'_>> {
     })
 }
 
-fn gave(alloc: Global, h: Host, text: &[u8]) -> Result<Option<Line>, NoMemory> {
+fn value_line(alloc: Global, h: Host, text: &[u8]) -> Result<Option<Line>, NoMemory> {
     match end_of(text) {
         Some(end) => Ok(Some(Line::Gave(
             h,
             end.family,
-            copied(alloc, end.how)?,
+            copy_bytes(alloc, end.how)?,
             end.evals,
             end.left,
         ))),
@@ -127,12 +127,12 @@ fn gave(alloc: Global, h: Host, text: &[u8]) -> Result<Option<Line>, NoMemory> {
     }
 }
 
-fn raised(alloc: Global, h: Host, text: &[u8]) -> Result<Option<Line>, NoMemory> {
+fn raised_line(alloc: Global, h: Host, text: &[u8]) -> Result<Option<Line>, NoMemory> {
     match end_of(text) {
         Some(end) => Ok(Some(Line::Raised(
             h,
             end.family,
-            copied(alloc, end.how)?,
+            copy_bytes(alloc, end.how)?,
             end.evals,
             end.left,
         ))),
@@ -140,85 +140,85 @@ fn raised(alloc: Global, h: Host, text: &[u8]) -> Result<Option<Line>, NoMemory>
     }
 }
 
-fn printed(alloc: Global, h: Host, text: &[u8]) -> Result<Option<Line>, NoMemory> {
+fn print_line(alloc: Global, h: Host, text: &[u8]) -> Result<Option<Line>, NoMemory> {
     if text.is_empty() {
         return Ok(None);
     }
-    Ok(Some(Line::Printed(h, copied(alloc, text)?)))
+    Ok(Some(Line::Printed(h, copy_bytes(alloc, text)?)))
 }
 
-fn delivered(alloc: Global, h: Host, text: &[u8]) -> Result<Option<Line>, NoMemory> {
+fn port_line(alloc: Global, h: Host, text: &[u8]) -> Result<Option<Line>, NoMemory> {
     let (port, text) = cut(text);
     match short(port) {
         Some(n) if n <= 65_535 && !text.is_empty() => {
-            Ok(Some(Line::Delivered(h, n, copied(alloc, text)?)))
+            Ok(Some(Line::Delivered(h, n, copy_bytes(alloc, text)?)))
         }
         _ => Ok(None),
     }
 }
 
-fn spent(h: Host, text: &[u8]) -> Option<Line> {
+fn spent_line(h: Host, text: &[u8]) -> Option<Line> {
     let (family, rest) = cut(text);
     let (_, left) = cut(rest);
     Some(Line::Spent(h, family_of(family)?, short(left)?))
 }
 
 /// A handler that is called, as `1.1 oops bound 3`.
-fn handled(alloc: Global, h: Host, text: &[u8]) -> Result<Option<Line>, NoMemory> {
+fn handler_line(alloc: Global, h: Host, text: &[u8]) -> Result<Option<Line>, NoMemory> {
     let (family, rest) = cut(text);
     let (name, rest) = cut(rest);
     let (_, bound) = cut(rest);
     match (family_of(family), short(bound)) {
         (Some(f), Some(bound)) if !name.is_empty() => {
-            Ok(Some(Line::Handled(h, f, copied(alloc, name)?, bound)))
+            Ok(Some(Line::Handled(h, f, copy_bytes(alloc, name)?, bound)))
         }
         _ => Ok(None),
     }
 }
 
-fn queued(h: Host, text: &[u8]) -> Option<Line> {
+fn queue_line(h: Host, text: &[u8]) -> Option<Line> {
     let (dev, rest) = cut(text);
     let (f, bound) = bound_of(rest)?;
-    Some(Line::Queued(h, Dev(signed(dev)?), f, bound))
+    Some(Line::Queued(h, Dev(signed_number(dev)?), f, bound))
 }
 
-fn sent(h: Host, text: &[u8]) -> Option<Line> {
+fn send_line(h: Host, text: &[u8]) -> Option<Line> {
     let (dev, what) = cut(text);
     let what = if is(what, b"advert") {
         What::Advert
     } else {
         What::Packet(family_of(what)?)
     };
-    Some(Line::Sent(h, Dev(signed(dev)?), what))
+    Some(Line::Sent(h, Dev(signed_number(dev)?), what))
 }
 
-fn arrived(h: Host, text: &[u8]) -> Option<Line> {
+fn arrive_line(h: Host, text: &[u8]) -> Option<Line> {
     if is(text, b"control") {
         Some(Line::Asked(h))
     } else {
-        Some(Line::Arrived(h, Dev(signed(text)?)))
+        Some(Line::Arrived(h, Dev(signed_number(text)?)))
     }
 }
 
-fn injected(h: Host, text: &[u8]) -> Option<Line> {
+fn inject_line(h: Host, text: &[u8]) -> Option<Line> {
     let (f, bound) = bound_of(text)?;
     Some(Line::Injected(h, f, bound))
 }
 
-fn forged(h: Host, text: &[u8]) -> Option<Line> {
+fn forged_line(h: Host, text: &[u8]) -> Option<Line> {
     let (f, bound) = bound_of(text)?;
     Some(Line::Forged(h, f, bound))
 }
 
-fn advert(h: Host, text: &[u8]) -> Option<Line> {
-    Some(Line::Advert(h, Dev(signed(text)?)))
+fn advert_line(h: Host, text: &[u8]) -> Option<Line> {
+    Some(Line::Advert(h, Dev(signed_number(text)?)))
 }
 
-fn heard(h: Host, text: &[u8]) -> Option<Line> {
-    Some(Line::Heard(h, Dev(signed(text)?)))
+fn heard_line(h: Host, text: &[u8]) -> Option<Line> {
+    Some(Line::Heard(h, Dev(signed_number(text)?)))
 }
 
-fn ticked(h: Host, text: &[u8]) -> Option<Line> {
+fn tick_line(h: Host, text: &[u8]) -> Option<Line> {
     let (_, now) = cut(text);
     Some(Line::Ticked(h, long(now)?))
 }
@@ -226,23 +226,23 @@ fn ticked(h: Host, text: &[u8]) -> Option<Line> {
 /// The line without a text of its own that a word makes at a host with what stands behind.
 fn plain_at_host(word: &[u8], h: Host, text: &[u8]) -> Option<Line> {
     if is(word, b"inject") {
-        injected(h, text)
+        inject_line(h, text)
     } else if is(word, b"forged") {
-        forged(h, text)
+        forged_line(h, text)
     } else if is(word, b"arrive") {
-        arrived(h, text)
+        arrive_line(h, text)
     } else if is(word, b"spent") {
-        spent(h, text)
+        spent_line(h, text)
     } else if is(word, b"queue") {
-        queued(h, text)
+        queue_line(h, text)
     } else if is(word, b"send") {
-        sent(h, text)
+        send_line(h, text)
     } else if is(word, b"advert") {
-        advert(h, text)
+        advert_line(h, text)
     } else if is(word, b"heard") {
-        heard(h, text)
+        heard_line(h, text)
     } else if is(word, b"tick") {
-        ticked(h, text)
+        tick_line(h, text)
     } else {
         None
     }
@@ -251,23 +251,23 @@ fn plain_at_host(word: &[u8], h: Host, text: &[u8]) -> Option<Line> {
 /// The line that a word makes at a host with what stands behind.
 fn at_host(alloc: Global, word: &[u8], h: Host, text: &[u8]) -> Result<Option<Line>, NoMemory> {
     if is(word, b"print") {
-        printed(alloc, h, text)
+        print_line(alloc, h, text)
     } else if is(word, b"port") {
-        delivered(alloc, h, text)
+        port_line(alloc, h, text)
     } else if is(word, b"value") {
-        gave(alloc, h, text)
+        value_line(alloc, h, text)
     } else if is(word, b"raised") {
-        raised(alloc, h, text)
+        raised_line(alloc, h, text)
     } else if is(word, b"drop") {
-        dropped(alloc, h, text)
+        drop_line(alloc, h, text)
     } else if is(word, b"handler") {
-        handled(alloc, h, text)
+        handler_line(alloc, h, text)
     } else {
         Ok(plain_at_host(word, h, text))
     }
 }
 
-fn wire(alloc: Global, text: &[u8]) -> Result<Option<Line>, NoMemory> {
+fn wire_line(alloc: Global, text: &[u8]) -> Result<Option<Line>, NoMemory> {
     let (number, hex) = cut(text);
     let Some(n) = short(number) else {
         return Ok(None);
@@ -278,18 +278,18 @@ fn wire(alloc: Global, text: &[u8]) -> Result<Option<Line>, NoMemory> {
     if !hex.iter().all(|b| b.is_ascii_hexdigit()) {
         return Ok(None);
     }
-    Ok(Some(Line::WireShown(n, copied(alloc, hex)?)))
+    Ok(Some(Line::WireShown(n, copy_bytes(alloc, hex)?)))
 }
 
-fn off(text: &[u8]) -> Option<Line> {
+fn off_line(text: &[u8]) -> Option<Line> {
     Some(Line::Off(short(text)?))
 }
 
-fn again(text: &[u8]) -> Option<Line> {
+fn again_line(text: &[u8]) -> Option<Line> {
     Some(Line::Again(short(text)?))
 }
 
-fn lost(text: &[u8]) -> Option<Line> {
+fn lost_line(text: &[u8]) -> Option<Line> {
     if is(text, b"advert") {
         return Some(Line::LostAdvert);
     }
@@ -300,13 +300,13 @@ fn lost(text: &[u8]) -> Option<Line> {
 /// The line that a word makes without a host.
 fn without_host(alloc: Global, word: &[u8], text: &[u8]) -> Result<Option<Line>, NoMemory> {
     if is(word, b"wire") {
-        wire(alloc, text)
+        wire_line(alloc, text)
     } else if is(word, b"off") {
-        Ok(off(text))
+        Ok(off_line(text))
     } else if is(word, b"again") {
-        Ok(again(text))
+        Ok(again_line(text))
     } else if is(word, b"lost") {
-        Ok(lost(text))
+        Ok(lost_line(text))
     } else if is(word, b"nothing") {
         Ok(Some(Line::Nothing))
     } else {
@@ -319,7 +319,7 @@ pub(crate) fn line_of(alloc: Global, text: &[u8]) -> Result<Option<Line>, NoMemo
     let (word, rest) = cut(text);
     let (second, behind) = cut(rest);
     if second.first() == Some(&b'@') {
-        return match signed(second) {
+        return match signed_number(second) {
             Some(h) => at_host(alloc, word, Host(h), behind),
             None => Ok(None),
         };

@@ -26,8 +26,8 @@ escaped_from seen [] = []
 escaped_from seen (b ∷ bs) = byte_text seen b ++ escaped_from (seen_with seen b) bs
 
 -- a text in the picture
-abbrev pub escaped : List ℕ → List ℕ
-escaped text = escaped_from 0 text
+abbrev pub escaped_text : List ℕ → List ℕ
+escaped_text text = escaped_from 0 text
 
 -- no `<`, no `>`, no quote
 abbrev pub is_harmless : ℕ → Bool
@@ -45,7 +45,7 @@ cut_place text =
     (if begins_character (get_or text 34 0) then 34 else 33))
 
 -- a label of at most 36 bytes as it is; of a longer one the front, and the whole as a note that is shown on request
-unfoldable pub shown : List ℕ → List ℕ
-shown text =
-    if nat_le (length text) 36 then escaped text else
-    (codes "<title>" ++ (escaped text ++ (codes "</title>" ++ (escaped (take (cut_place text) text) ++ codes ".."))))
+unfoldable pub shown_label : List ℕ → List ℕ
+shown_label text =
+    if nat_le (length text) 36 then escaped_text text else
+    (codes "<title>" ++ (escaped_text text ++ (codes "</title>" ++ (escaped_text (take (cut_place text) text) ++ codes ".."))))

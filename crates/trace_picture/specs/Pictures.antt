@@ -11,7 +11,7 @@ use Rattle.trace_picture.specs.declared.drawing.Mark.{Mark}
 use Rattle.trace_picture.specs.declared.drawing.Drawing.{Drawing}
 use Rattle.trace_picture.specs.Places.{x_of, y_of, point_text, path_text, text_text}
 use Rattle.trace_picture.specs.Signs.{stroke_word, kind_word, sign_path}
-use Rattle.trace_picture.specs.Escapes.{shown}
+use Rattle.trace_picture.specs.Escapes.{shown_label}
 use Rattle.trace_picture.specs.Styles.{style_text}
 
 abbrev pub close_path : List ℕ
@@ -79,7 +79,7 @@ label_y _ row = row * 18 + 70
 
 -- a label, or nothing
 unfoldable pub labelled_text : List ℕ → Mark → List ℕ
-labelled_text label m = if length label == 0 then [] else text_text (kind_word m.kind) (x_of m.at.across + 9) (label_y m.kind m.at.row) ++ (shown label ++ close_text)
+labelled_text label m = if length label == 0 then [] else text_text (kind_word m.kind) (x_of m.at.across + 9) (label_y m.kind m.at.row) ++ (shown_label label ++ close_text)
 
 -- a mark: its sign and its label
 unfoldable pub mark_text : Mark → List ℕ

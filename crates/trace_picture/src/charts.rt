@@ -50,7 +50,7 @@ impl From<NoMemory> for ChartFault {
 }
 
 /// The SVG text of a drawing.
-fn written(alloc: Global, d: &Drawing) -> Result<Bytes, NoMemory>
+fn drawing_text(alloc: Global, d: &Drawing) -> Result<Bytes, NoMemory>
     ensures { IfOk result (λ picture. picture ≡ picture_text d.now) }
 {
     let mut picture = Bytes::new(alloc);
@@ -67,6 +67,6 @@ pub fn chart(alloc: Global, bytes: &[u8]) -> Result<Bytes, ChartFault>
     }
     let trace = read_trace(alloc, bytes)?;
     let drawing = draw(alloc, &trace)?;
-    let picture = written(alloc, &drawing)?;
+    let picture = drawing_text(alloc, &drawing)?;
     Ok(picture)
 }

@@ -1,6 +1,6 @@
 ghost use Rattle.std.specs.Prelude.{◌≡◌, ◌++◌, codes, ◌<◌, ◌≤◌, ◌==◌, ◌&&◌, ◌||◌, true, length, take, get_or, nat_lt, nat_le, OnOk};
 ghost use Rattle.std.specs.List.{list_all};
-ghost use Rattle.trace_picture.specs.Escapes.{byte_text, seen_with, escaped_from, escaped, is_harmless, begins_character, cut_place, shown};
+ghost use Rattle.trace_picture.specs.Escapes.{byte_text, seen_with, escaped_from, escaped_text, is_harmless, begins_character, cut_place, shown_label};
 
 use crate::pieces::put;
 use plan_base::{Bytes, NoMemory};
@@ -72,8 +72,8 @@ fn seen_with(seen: u8, b: u8) -> u8
 /// Appends a text in which the signs of XML are replaced by their names, and what is no character
 /// of XML by U+FFFD.
 pub fn put_escaped(out: &mut Bytes, text: &[u8]) -> Result<(), NoMemory>
-    ensures whole { OnOk result (out.new ≡ out.old ++ escaped text.now) }
-    ensures harmless { OnOk result (list_all is_harmless (escaped text.now) ≡ true) }
+    ensures whole { OnOk result (out.new ≡ out.old ++ escaped_text text.now) }
+    ensures harmless { OnOk result (list_all is_harmless (escaped_text text.now) ≡ true) }
 {
     let mut seen: u8 = 0;
     for b in text {
@@ -117,7 +117,7 @@ fn cut_place(text: &[u8]) -> usize
 
 /// Appends the front of a long label, escaped.
 fn put_front(out: &mut Bytes, front: &[u8]) -> Result<(), NoMemory>
-    ensures { OnOk result (out.new ≡ out.old ++ (escaped front.now ++ codes "..")) }
+    ensures { OnOk result (out.new ≡ out.old ++ (escaped_text front.now ++ codes "..")) }
 {
     put_escaped(out, front)?;
     put(out, b"..")
@@ -125,9 +125,9 @@ fn put_front(out: &mut Bytes, front: &[u8]) -> Result<(), NoMemory>
 
 /// Appends a label, escaped: of a long one the front, and the whole as a note that is shown on
 /// request.
-#[tactic(auto, unfolding(crate::specs::Escapes::shown))]
+#[tactic(auto, unfolding(crate::specs::Escapes::shown_label))]
 pub(crate) fn put_shown(out: &mut Bytes, label: &[u8]) -> Result<(), NoMemory>
-    ensures { OnOk result (out.new ≡ out.old ++ shown label.now) }
+    ensures { OnOk result (out.new ≡ out.old ++ shown_label label.now) }
 {
     if is_short(label) {
         return put_escaped(out, label);

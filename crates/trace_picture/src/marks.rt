@@ -111,7 +111,7 @@ fn height_of(bottom: u32, ledger: &Option<Items<Row>>) -> u64 {
 }
 
 /// The rows of a ledger, copied.
-fn copied(alloc: Global, ledger: &Option<Items<Row>>) -> Result<Option<Items<Row>>, AllocError>
+fn copy_rows(alloc: Global, ledger: &Option<Items<Row>>) -> Result<Option<Items<Row>>, AllocError>
     ensures { IfOk result (λ copy. copy ≡ ledger.now) }
 {
     match ledger {
@@ -126,7 +126,7 @@ fn drawing_of(alloc: Global, trace: &Trace, sights: &Sights) -> Result<Drawing, 
 {
     let entries = trace.entries.as_slice();
     let lanes = lanes_of(alloc, sights.hosts())?;
-    let ledger = copied(alloc, &trace.ledger)?;
+    let ledger = copy_rows(alloc, &trace.ledger)?;
     let marks = marks_of(alloc, entries, sights)?;
     let width = width_of(lanes.len());
     let bottom = sights.bottom();

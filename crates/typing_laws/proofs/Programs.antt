@@ -16,7 +16,7 @@ use Rattle.plan_base.specs.Sizes.{code_size, expr_depth, program_nodes}
 use Rattle.plan_base.specs.WellFormed.{has_from_to, formed_expr, well_formed_type, well_formed_expr, well_formed_svc, well_formed_fun, well_formed_program, has_types, program_has_types, IsWellFormedProgram, ProgramHasTypes}
 use Rattle.typing_rules.specs.Typing.{HasTy, HasOwnNames, Typed, param_names}
 use Rattle.typing_rules.specs.TypingNames.{has_name, is_prim, built_in, are_new, are_callable}
-use Rattle.typing_rules.specs.TypingOrder.{next, then_by, checked, bodies_from, services_from, exceptions_from, functions_from, declarations, sized_program, annotated}
+use Rattle.typing_rules.specs.TypingOrder.{next, then_by, checked_expression, bodies_from, services_from, exceptions_from, functions_from, declarations, sized_program, annotated_program}
 use Rattle.typing_rules.specs.TypingFills.{Becomes, FunFills, Fills}
 use Rattle.typing_laws.proofs.Steps.{Holds, Yields, then_yields, pure_yields}
 use Rattle.typing_laws.proofs.Heads.{AlikeFuns, no_funs, and_fun, SameHeads, heads_back, names_there, alike_length}
@@ -150,7 +150,7 @@ module _ (code : Program) where
   unfolding bodies_from
   bodies_right [] done = pure_yields (BodiesRight done []) done ([], sym (append-nil done), no_bodies)
   bodies_right (d ∷ ds) done =
-      then_yields (Right code (length done) d.params (Some d.result) d.body) (BodiesRight done (d ∷ ds)) (checked code 64 (length done) d.params (Some d.result) d.body) (λ r. bodies_from code (done ++ record d { body = r.0 } ∷ []) ds)
+      then_yields (Right code (length done) d.params (Some d.result) d.body) (BodiesRight done (d ∷ ds)) (checked_expression code 64 (length done) d.params (Some d.result) d.body) (λ r. bodies_from code (done ++ record d { body = r.0 } ∷ []) ds)
       (checked_right code 64 (length done) d.params (Some d.result) d.body)
       (λ r h n. map_holds code 0 (BodiesRight (done ++ record d { body = r.0 } ∷ []) ds) (BodiesRight done (d ∷ ds))
       (λ a p. (
@@ -164,7 +164,7 @@ module _ (code : Program) where
   unfolding bodies_from
   bodies_reach no_bodies w done q n = (n, rw append-nil refl)
   bodies_reach {k = k} (and_body {d = d} {g = g} {ds = ds} {gs = gs} b bs) w done q n =
-      then_reaches (checked code 64 (length done) d.params (Some d.result) d.body) (λ r. bodies_from code (done ++ record d { body = r.0 } ∷ []) ds) (g.body, d.result) (done ++ g ∷ gs) n
+      then_reaches (checked_expression code 64 (length done) d.params (Some d.result) d.body) (λ r. bodies_from code (done ++ record d { body = r.0 } ∷ []) ds) (g.body, d.result) (done ++ g ∷ gs) n
       (checked_reaches code 64 (length done) (subst (λ i. Becomes code i d.params (Some d.result) d.body g.body d.result) (sym q) b.body) (w 0 d refl) n)
       (λ m. subst (λ z. Reaches (bodies_from code (done ++ z ∷ []) ds) (done ++ g ∷ gs) m) b.rest
       (subst (λ z. Reaches (bodies_from code (done ++ g ∷ []) ds) z m) (append_assoc done (g ∷ []) gs)
@@ -233,8 +233,8 @@ sized_ok code p h = go (nat_le (code_size code) 16000) refl h
     go false w e = absurd (cc)
 
 -- The program that the checking answers fills the draft in and is typed.
-pub annotated_sound : (draft p : Program) → annotated draft ≡ Ok p → Fills draft p × Typed p
-unfolding annotated
+pub annotated_sound : (draft p : Program) → annotated_program draft ≡ Ok p → Fills draft p × Typed p
+unfolding annotated_program
 annotated_sound draft p h =
     let a = then_ok (declarations draft) (λ _. then_by (bodies_from draft [] draft.funs 0) (λ r. sized_program (record draft { funs = r.0 }))) p h in
     let b = then_ok (bodies_from draft [] draft.funs 0) (λ r. sized_program (record draft { funs = r.0 })) p a.2 in
@@ -245,8 +245,8 @@ annotated_sound draft p h =
     subst P (sym s.0) (filled_by draft b.0.0 bodies, typed_by draft b.0.0 bodies (declared_named draft a.0 a.1) s.1)
 
 -- Where a typed program fills the draft in, the checking answers it.
-pub annotated_complete : (draft p : Program) → ((i : ℕ) (d : Fun) → slice_get draft.funs i ≡ Some d → expr_depth d.body ≤ 64) → Fills draft p → Typed p → annotated draft ≡ Ok p
-unfolding annotated sized_program
+pub annotated_complete : (draft p : Program) → ((i : ℕ) (d : Fun) → slice_get draft.funs i ≡ Some d → expr_depth d.body ≤ 64) → Fills draft p → Typed p → annotated_program draft ≡ Ok p
+unfolding annotated_program sized_program
 annotated_complete draft p w f t =
     let bodies = bodies_of draft 0 draft.funs p.funs f.count (λ k d g a b. subst (λ j. FunFills draft j d g) (sym (zero_plus k)) (f.funs k d g a b)) in
     let same : SameHeads draft p = record { svcs = f.svcs; exns = f.exns; funs = bodies_alike draft bodies } in

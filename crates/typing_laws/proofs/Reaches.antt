@@ -26,7 +26,7 @@ use Rattle.plan_base.proofs.SizeLaws.{expr_depth_out}
 use Rattle.typing_rules.specs.Typing.{Ctx, literal_type, IsShallow}
 use Rattle.typing_rules.specs.TypingNames.{service_of, binds, binding, param_types, prim_of, of_list, takes, makes, is_exception, may_catch, OpKind, arithmetic, joining, equality, ordering, listing, kind_of, is_joined, is_ordered, part_of}
 use Rattle.plan_base.specs.SameTypes.{same_type}
-use Rattle.typing_rules.specs.TypingOrder.{Checking, Found, pure, refuse, after, ◌>>=◌, or_refuse, items_of, parts_of, part_in, want_at, given_of, pair_of, fun_of, earlier, not_earlier, settled, shallow}
+use Rattle.typing_rules.specs.TypingOrder.{Checking, Found, pure, refuse, after, ◌>>=◌, or_refuse, items_of, parts_of, part_in, want_at, given_of, pair_of, fun_of, earlier, not_earlier, settled_type, shallow}
 use Rattle.typing_rules.specs.TypingOrder as order
 use Rattle.typing_rules.specs.TypingFills.{Suits, Becomes, PartsBecome, ClausesBecome}
 use Rattle.typing_rules.specs.TypingFills.{Becomes as B, PartsBecome as P, ClausesBecome as C}
@@ -50,14 +50,14 @@ if_reaches t m k a n h r = subst (λ z. Reaches (if z then m else k) a n) (sym h
 pub else_reaches : {A : Type 0} (t : Bool) (m k : Checking A) (a : A) (n : ℕ) → t ≡ false → Reaches k a n → Reaches (if t then m else k) a n
 else_reaches t m k a n h r = subst (λ z. Reaches (if z then m else k) a n) (sym h) r
 
-pub settled_reaches : (at n : ℕ) (want : Option Ty) (e : Expr) (t : Ty) → Suits want t → Reaches (settled at want e t) (e, t) n
-unfolding settled
+pub settled_reaches : (at n : ℕ) (want : Option Ty) (e : Expr) (t : Ty) → Suits want t → Reaches (settled_type at want e t) (e, t) n
+unfolding settled_type
 settled_reaches at n None e t s = (n, refl)
 settled_reaches at n (Some w) e t s = if_reaches (same_type w t) (pure (e, t)) (refuse (fault.Mismatch (place.Node at) w t)) (e, t) n (same_type_of w t s) (n, refl)
 
 pub shallow_reaches : (at n : ℕ) (want : Option Ty) (e : Expr) (t : Ty) → IsShallow t → Suits want t → Reaches (shallow at want e t) (e, t) n
 unfolding shallow
-shallow_reaches at n want e t w s = if_reaches (nat_le (type_depth t) 8) (settled at want e t) (refuse (fault.TypeTooDeep (place.Node at))) (e, t) n (le-leb (type_depth t) 8 w) (settled_reaches at n want e t s)
+shallow_reaches at n want e t w s = if_reaches (nat_le (type_depth t) 8) (settled_type at want e t) (refuse (fault.TypeTooDeep (place.Node at))) (e, t) n (le-leb (type_depth t) 8 w) (settled_reaches at n want e t s)
 
 fold_above : {X : Type 0} (f : X → ℕ) (a : ℕ) (ts : List X) → a ≤ fold (λ m t. max m (f t)) a ts
 fold_above f a [] = omega arith
@@ -104,10 +104,10 @@ module _ (code : Program) (seen depth : ℕ) (run : Ctx → Option Ty → Expr �
       if_reaches (length ds == length ws) (order.parts code seen run c (Some ws) ds >>= (λ r. pure r.0)) (refuse (fault.Arity (place.Node at))) es n (eq-eqb (length ds) (length ws) (parts_count b))
       (then_reaches (order.parts code seen run c (Some ws) ds) (λ r. pure r.0) (es, ws) es n (parts_reach b 0 h [] [] refl n) (λ k. (k, refl)))
 
-  applied_reaches : {c : Ctx} {ws : List Ty} {ds es : List Expr} → (at : ℕ) (want : Option Ty) (f : Name) (t : Ty) → PartsBecome code seen c (Some ws) 0 ds es ws → fold (λ m d. max m (expr_depth d)) 0 ds ≤ depth → Suits want t → (n : ℕ) → Reaches (order.applied code seen run c at want f ds ws t) (x.Call f es, t) n
-  unfolding order.applied
+  applied_reaches : {c : Ctx} {ws : List Ty} {ds es : List Expr} → (at : ℕ) (want : Option Ty) (f : Name) (t : Ty) → PartsBecome code seen c (Some ws) 0 ds es ws → fold (λ m d. max m (expr_depth d)) 0 ds ≤ depth → Suits want t → (n : ℕ) → Reaches (order.applied_call code seen run c at want f ds ws t) (x.Call f es, t) n
+  unfolding order.applied_call
   applied_reaches {c = c} {ws = ws} {ds = ds} {es = es} at want f t b h s n =
-      then_reaches (order.arguments code seen run c at ws ds) (λ given. settled at want (x.Call f given) t) es (x.Call f es, t) n (arguments_reach at b h n) (λ k. settled_reaches at k want (x.Call f es) t s)
+      then_reaches (order.arguments code seen run c at ws ds) (λ given. settled_type at want (x.Call f given) t) es (x.Call f es, t) n (arguments_reach at b h n) (λ k. settled_reaches at k want (x.Call f es) t s)
 
   clauses_reach : {c : Ctx} {t : Ty} {ks hs : List Clause} → ClausesBecome code seen c t ks hs → (a : ℕ) → fold (λ m k. max m (clause_depth k)) a ks ≤ depth → (done : List Clause) (n : ℕ) → Reaches (order.clauses_from code seen run done c t ks) (done ++ hs) n
   unfolding order.clauses_from
@@ -128,14 +128,14 @@ module _ (code : Program) (seen depth : ℕ) (run : Ctx → Option Ty → Expr �
   part_reaches : (c : Ctx) (want : Option Ty) (a e : Expr) (ts : List Ty) (t : Ty) (at i : ℕ) → Becomes code seen c None a e (ty.Tuple ts) → expr_depth a ≤ depth → part_of i ts ≡ Some t → Suits want t → (n : ℕ) → Reaches (order.part code seen run c at want i a) (x.Part i e, t) n
   unfolding order.part
   part_reaches c want a e ts t at i b h q s n =
-      then_reaches (run c None a) (λ r. or_refuse (part_in i r.1) (fault.WrongShape (place.Node at)) >>= (λ t. settled at want (x.Part i r.0) t)) (e, ty.Tuple ts) (x.Part i e, t) n (go _ _ _ _ _ b h n)
-      (λ k. known_reaches (part_in i (ty.Tuple ts)) (fault.WrongShape (place.Node at)) (λ t. settled at want (x.Part i e) t) t (x.Part i e, t) k (ap (order.part_in_layer i) (made.outs-Tuple ts) ∙ q) (settled_reaches at k want (x.Part i e) t s))
+      then_reaches (run c None a) (λ r. or_refuse (part_in i r.1) (fault.WrongShape (place.Node at)) >>= (λ t. settled_type at want (x.Part i r.0) t)) (e, ty.Tuple ts) (x.Part i e, t) n (go _ _ _ _ _ b h n)
+      (λ k. known_reaches (part_in i (ty.Tuple ts)) (fault.WrongShape (place.Node at)) (λ t. settled_type at want (x.Part i e) t) t (x.Part i e, t) k (ap (order.part_in_layer i) (made.outs-Tuple ts) ∙ q) (settled_reaches at k want (x.Part i e) t s))
 
   of_items_reaches : (c : Ctx) (want : Option Ty) (a e : Expr) (u t : Ty) (at : ℕ) (f : Name) (p : Primitive) → Becomes code seen c None a e (ty.List u) → expr_depth a ≤ depth → of_list p u ≡ Some t → Suits want t → (n : ℕ) → Reaches (order.of_items code seen run c at want f p (a ∷ [])) (x.Call f (e ∷ []), t) n
   unfolding order.of_items
   of_items_reaches c want a e u t at f p b h q s n =
-      then_reaches (order.parts code seen run c None (a ∷ [])) (λ r. or_refuse (given_of p r.1) (fault.WrongShape (place.Node at)) >>= (λ t. settled at want (x.Call f r.0) t)) (e ∷ [], ty.List u ∷ []) (x.Call f (e ∷ []), t) n (parts_reach {wants = None} {i = 0} (P.and_part b P.no_parts) 0 (omega arith) [] [] refl n)
-      (λ k. known_reaches (given_of p (ty.List u ∷ [])) (fault.WrongShape (place.Node at)) (λ t. settled at want (x.Call f (e ∷ [])) t) t (x.Call f (e ∷ []), t) k (ap (λ l. option_and_then (of_list p) (order.items_of_layer l)) (made.outs-List u) ∙ q) (settled_reaches at k want (x.Call f (e ∷ [])) t s))
+      then_reaches (order.parts code seen run c None (a ∷ [])) (λ r. or_refuse (given_of p r.1) (fault.WrongShape (place.Node at)) >>= (λ t. settled_type at want (x.Call f r.0) t)) (e ∷ [], ty.List u ∷ []) (x.Call f (e ∷ []), t) n (parts_reach {wants = None} {i = 0} (P.and_part b P.no_parts) 0 (omega arith) [] [] refl n)
+      (λ k. known_reaches (given_of p (ty.List u ∷ [])) (fault.WrongShape (place.Node at)) (λ t. settled_type at want (x.Call f (e ∷ [])) t) t (x.Call f (e ∷ []), t) k (ap (λ l. option_and_then (of_list p) (order.items_of_layer l)) (made.outs-List u) ∙ q) (settled_reaches at k want (x.Call f (e ∷ [])) t s))
 
   choice_reaches : {c : Ctx} {want : Option Ty} {p a b p' a' b' : Expr} {t : Ty} → Becomes code seen c (Some ty.Bool) p p' ty.Bool → Becomes code seen c want a a' t → Becomes code seen c (Some t) b b' t → expr_depth p ≤ depth → expr_depth a ≤ depth → expr_depth b ≤ depth → (n : ℕ) → Reaches (order.choice code seen run c want p a b) (x.If p' a' b', t) n
   unfolding order.choice
@@ -157,13 +157,13 @@ module _ (code : Program) (seen depth : ℕ) (run : Ctx → Option Ty → Expr �
       (λ n1. then_reaches (run c want b) (λ r. pure (x.Then a' r.0, r.1)) (b', t) (x.Then a' b', t) n1 (go _ _ _ _ _ j q n1) (λ n2. (n2, refl)))
 
   -- the last part, of which a type is wanted, and the answer that ends the form
-  last_reaches : (c : Ctx) (want : Option Ty) (b b' : Expr) (v : Ty) (at : ℕ) (t : Ty) (whole : Expr → Expr) → Becomes code seen c (Some v) b b' v → expr_depth b ≤ depth → Suits want t → (n : ℕ) → Reaches (order.wanting code seen run c v b >>= (λ q. settled at want (whole q) t)) (whole b', t) n
+  last_reaches : (c : Ctx) (want : Option Ty) (b b' : Expr) (v : Ty) (at : ℕ) (t : Ty) (whole : Expr → Expr) → Becomes code seen c (Some v) b b' v → expr_depth b ≤ depth → Suits want t → (n : ℕ) → Reaches (order.wanting code seen run c v b >>= (λ q. settled_type at want (whole q) t)) (whole b', t) n
   last_reaches c want b b' v at t whole i h s n =
-      then_reaches (order.wanting code seen run c v b) (λ q. settled at want (whole q) t) b' (whole b', t) n (wanting_reaches i h n) (λ k. settled_reaches at k want (whole b') t s)
+      then_reaches (order.wanting code seen run c v b) (λ q. settled_type at want (whole q) t) b' (whole b', t) n (wanting_reaches i h n) (λ k. settled_reaches at k want (whole b') t s)
 
-  two_reach : (c : Ctx) (want : Option Ty) (a b a' b' : Expr) (u v : Ty) (at : ℕ) (t : Ty) (whole : Expr → Expr → Expr) → Becomes code seen c (Some u) a a' u → Becomes code seen c (Some v) b b' v → expr_depth a ≤ depth → expr_depth b ≤ depth → Suits want t → (n : ℕ) → Reaches (order.wanting code seen run c u a >>= (λ p. order.wanting code seen run c v b >>= (λ q. settled at want (whole p q) t))) (whole a' b', t) n
+  two_reach : (c : Ctx) (want : Option Ty) (a b a' b' : Expr) (u v : Ty) (at : ℕ) (t : Ty) (whole : Expr → Expr → Expr) → Becomes code seen c (Some u) a a' u → Becomes code seen c (Some v) b b' v → expr_depth a ≤ depth → expr_depth b ≤ depth → Suits want t → (n : ℕ) → Reaches (order.wanting code seen run c u a >>= (λ p. order.wanting code seen run c v b >>= (λ q. settled_type at want (whole p q) t))) (whole a' b', t) n
   two_reach c want a b a' b' u v at t whole i j p q s n =
-      then_reaches (order.wanting code seen run c u a) (λ p. order.wanting code seen run c v b >>= (λ q. settled at want (whole p q) t)) a' (whole a' b', t) n (wanting_reaches i p n) (λ k. last_reaches _ _ _ _ _ at t (λ q. whole a' q) j q s k)
+      then_reaches (order.wanting code seen run c u a) (λ p. order.wanting code seen run c v b >>= (λ q. settled_type at want (whole p q) t)) a' (whole a' b', t) n (wanting_reaches i p n) (λ k. last_reaches _ _ _ _ _ at t (λ q. whole a' q) j q s k)
 
   both_reaches : (c : Ctx) (want : Option Ty) (a b a' b' : Expr) (at : ℕ) → Becomes code seen c (Some ty.Bool) a a' ty.Bool → Becomes code seen c (Some ty.Bool) b b' ty.Bool → expr_depth a ≤ depth → expr_depth b ≤ depth → Suits want ty.Bool → (n : ℕ) → Reaches (order.both code seen run c at want a b) (x.And a' b', ty.Bool) n
   unfolding order.both
@@ -184,13 +184,13 @@ module _ (code : Program) (seen depth : ℕ) (run : Ctx → Option Ty → Expr �
   remote_reaches : (c : Ctx) (want : Option Ty) (a h m a' h' m' : Expr) (at : ℕ) (r : Name) → Becomes code seen c (Some ty.Chunk) a a' ty.Chunk → Becomes code seen c (Some ty.Host) h h' ty.Host → Becomes code seen c (Some ty.Int) m m' ty.Int → expr_depth a ≤ depth → expr_depth h ≤ depth → expr_depth m ≤ depth → Suits want ty.Unit → (n : ℕ) → Reaches (order.remote code seen run c at want a h m r) (x.OnRemote a' h' m' r, ty.Unit) n
   unfolding order.remote
   remote_reaches c want a h m a' h' m' at r i j k u v w s n =
-      then_reaches (order.wanting code seen run c ty.Chunk a) (λ p. order.wanting code seen run c ty.Host h >>= (λ q. order.wanting code seen run c ty.Int m >>= (λ s. settled at want (x.OnRemote p q s r) ty.Unit))) a' (x.OnRemote a' h' m' r, ty.Unit) n (wanting_reaches i u n) (λ n1. two_reach _ _ _ _ _ _ _ _ at ty.Unit (λ q s. x.OnRemote a' q s r) j k v w s n1)
+      then_reaches (order.wanting code seen run c ty.Chunk a) (λ p. order.wanting code seen run c ty.Host h >>= (λ q. order.wanting code seen run c ty.Int m >>= (λ s. settled_type at want (x.OnRemote p q s r) ty.Unit))) a' (x.OnRemote a' h' m' r, ty.Unit) n (wanting_reaches i u n) (λ n1. two_reach _ _ _ _ _ _ _ _ at ty.Unit (λ q s. x.OnRemote a' q s r) j k v w s n1)
 
   neighbour_reaches : (c : Ctx) (want : Option Ty) (a h m d a' h' m' d' : Expr) (at : ℕ) → Becomes code seen c (Some ty.Chunk) a a' ty.Chunk → Becomes code seen c (Some ty.Host) h h' ty.Host → Becomes code seen c (Some ty.Int) m m' ty.Int → Becomes code seen c (Some ty.Dev) d d' ty.Dev → expr_depth a ≤ depth → expr_depth h ≤ depth → expr_depth m ≤ depth → expr_depth d ≤ depth → Suits want ty.Unit → (n : ℕ) → Reaches (order.neighbour code seen run c at want a h m d) (x.OnNeighbor a' h' m' d', ty.Unit) n
   unfolding order.neighbour
   neighbour_reaches c want a h m d a' h' m' d' at i j k l u v w y s n =
-      then_reaches (order.wanting code seen run c ty.Chunk a) (λ p. order.wanting code seen run c ty.Host h >>= (λ q. order.wanting code seen run c ty.Int m >>= (λ s. order.wanting code seen run c ty.Dev d >>= (λ t. settled at want (x.OnNeighbor p q s t) ty.Unit)))) a' (x.OnNeighbor a' h' m' d', ty.Unit) n (wanting_reaches i u n)
-      (λ n1. then_reaches (order.wanting code seen run c ty.Host h) (λ q. order.wanting code seen run c ty.Int m >>= (λ s. order.wanting code seen run c ty.Dev d >>= (λ t. settled at want (x.OnNeighbor a' q s t) ty.Unit))) h' (x.OnNeighbor a' h' m' d', ty.Unit) n1 (wanting_reaches j v n1) (λ n2. two_reach _ _ _ _ _ _ _ _ at ty.Unit (λ s t. x.OnNeighbor a' h' s t) k l w y s n2))
+      then_reaches (order.wanting code seen run c ty.Chunk a) (λ p. order.wanting code seen run c ty.Host h >>= (λ q. order.wanting code seen run c ty.Int m >>= (λ s. order.wanting code seen run c ty.Dev d >>= (λ t. settled_type at want (x.OnNeighbor p q s t) ty.Unit)))) a' (x.OnNeighbor a' h' m' d', ty.Unit) n (wanting_reaches i u n)
+      (λ n1. then_reaches (order.wanting code seen run c ty.Host h) (λ q. order.wanting code seen run c ty.Int m >>= (λ s. order.wanting code seen run c ty.Dev d >>= (λ t. settled_type at want (x.OnNeighbor a' q s t) ty.Unit))) h' (x.OnNeighbor a' h' m' d', ty.Unit) n1 (wanting_reaches j v n1) (λ n2. two_reach _ _ _ _ _ _ _ _ at ty.Unit (λ s t. x.OnNeighbor a' h' s t) k l w y s n2))
 
   handling_reaches : {c : Ctx} {want : Option Ty} {a a' : Expr} {t : Ty} {ks hs : List Clause} (at : ℕ) → Becomes code seen c want a a' t → ClausesBecome code seen c t ks hs → expr_depth a ≤ depth → fold (λ m k. max m (clause_depth k)) 0 ks ≤ depth → (n : ℕ) → Reaches (order.handling code seen run c at want a ks) (x.Try a' hs, t) n
   unfolding order.handling
@@ -206,19 +206,19 @@ module _ (code : Program) (seen depth : ℕ) (run : Ctx → Option Ty → Expr �
   join_reaches : (c : Ctx) (want : Option Ty) (a b a' b' : Expr) (t : Ty) (at : ℕ) (o : Op) → Becomes code seen c None a a' t → is_joined t ≡ true → Becomes code seen c (Some t) b b' t → expr_depth a ≤ depth → expr_depth b ≤ depth → Suits want t → (n : ℕ) → Reaches (order.join code seen run c at want o a b) (x.Binary o a' b', t) n
   unfolding order.join
   join_reaches c want a b a' b' t at o i w j u v s n =
-      then_reaches (run c None a) (λ r. if is_joined r.1 then order.wanting code seen run c r.1 b >>= (λ q. settled at want (x.Binary o r.0 q) r.1) else refuse (fault.WrongShape (place.Node at))) (a', t) (x.Binary o a' b', t) n (go _ _ _ _ _ i u n)
-      (λ k. if_reaches (is_joined t) (order.wanting code seen run c t b >>= (λ q. settled at want (x.Binary o a' q) t)) (refuse (fault.WrongShape (place.Node at))) (x.Binary o a' b', t) k w (last_reaches _ _ _ _ _ at t (λ q. x.Binary o a' q) j v s k))
+      then_reaches (run c None a) (λ r. if is_joined r.1 then order.wanting code seen run c r.1 b >>= (λ q. settled_type at want (x.Binary o r.0 q) r.1) else refuse (fault.WrongShape (place.Node at))) (a', t) (x.Binary o a' b', t) n (go _ _ _ _ _ i u n)
+      (λ k. if_reaches (is_joined t) (order.wanting code seen run c t b >>= (λ q. settled_type at want (x.Binary o a' q) t)) (refuse (fault.WrongShape (place.Node at))) (x.Binary o a' b', t) k w (last_reaches _ _ _ _ _ at t (λ q. x.Binary o a' q) j v s k))
 
   comparison_reaches : (c : Ctx) (want : Option Ty) (a b a' b' : Expr) (t : Ty) (at : ℕ) (o : Op) → Becomes code seen c None a a' t → Becomes code seen c (Some t) b b' t → expr_depth a ≤ depth → expr_depth b ≤ depth → Suits want ty.Bool → (n : ℕ) → Reaches (order.comparison code seen run c at want o a b) (x.Binary o a' b', ty.Bool) n
   unfolding order.comparison
   comparison_reaches c want a b a' b' t at o i j u v s n =
-      then_reaches (run c None a) (λ r. order.wanting code seen run c r.1 b >>= (λ q. settled at want (x.Binary o r.0 q) ty.Bool)) (a', t) (x.Binary o a' b', ty.Bool) n (go _ _ _ _ _ i u n) (λ k. last_reaches _ _ _ _ _ at ty.Bool (λ q. x.Binary o a' q) j v s k)
+      then_reaches (run c None a) (λ r. order.wanting code seen run c r.1 b >>= (λ q. settled_type at want (x.Binary o r.0 q) ty.Bool)) (a', t) (x.Binary o a' b', ty.Bool) n (go _ _ _ _ _ i u n) (λ k. last_reaches _ _ _ _ _ at ty.Bool (λ q. x.Binary o a' q) j v s k)
 
   order_reaches : (c : Ctx) (want : Option Ty) (a b a' b' : Expr) (t : Ty) (at : ℕ) (o : Op) → Becomes code seen c None a a' t → is_ordered t ≡ true → Becomes code seen c (Some t) b b' t → expr_depth a ≤ depth → expr_depth b ≤ depth → Suits want ty.Bool → (n : ℕ) → Reaches (order.order code seen run c at want o a b) (x.Binary o a' b', ty.Bool) n
   unfolding order.order
   order_reaches c want a b a' b' t at o i w j u v s n =
-      then_reaches (run c None a) (λ r. if is_ordered r.1 then order.wanting code seen run c r.1 b >>= (λ q. settled at want (x.Binary o r.0 q) ty.Bool) else refuse (fault.WrongShape (place.Node at))) (a', t) (x.Binary o a' b', ty.Bool) n (go _ _ _ _ _ i u n)
-      (λ k. if_reaches (is_ordered t) (order.wanting code seen run c t b >>= (λ q. settled at want (x.Binary o a' q) ty.Bool)) (refuse (fault.WrongShape (place.Node at))) (x.Binary o a' b', ty.Bool) k w (last_reaches _ _ _ _ _ at ty.Bool (λ q. x.Binary o a' q) j v s k))
+      then_reaches (run c None a) (λ r. if is_ordered r.1 then order.wanting code seen run c r.1 b >>= (λ q. settled_type at want (x.Binary o r.0 q) ty.Bool) else refuse (fault.WrongShape (place.Node at))) (a', t) (x.Binary o a' b', ty.Bool) n (go _ _ _ _ _ i u n)
+      (λ k. if_reaches (is_ordered t) (order.wanting code seen run c t b >>= (λ q. settled_type at want (x.Binary o a' q) ty.Bool)) (refuse (fault.WrongShape (place.Node at))) (x.Binary o a' b', ty.Bool) k w (last_reaches _ _ _ _ _ at ty.Bool (λ q. x.Binary o a' q) j v s k))
 
   prefix_reaches : (c : Ctx) (want : Option Ty) (a b a' b' : Expr) (u : Ty) (at : ℕ) (o : Op) → Becomes code seen c (option_and_then items_of want) a a' u → Becomes code seen c (Some (ty.List u)) b b' (ty.List u) → expr_depth a ≤ depth → expr_depth b ≤ depth → IsShallow (ty.List u) → Suits want (ty.List u) → (n : ℕ) → Reaches (order.prefix code seen run c at want o a b) (x.Binary o a' b', ty.List u) n
   unfolding order.prefix
@@ -235,32 +235,32 @@ module _ (code : Program) (seen depth : ℕ) (run : Ctx → Option Ty → Expr �
   fold_left_reaches : (c : Ctx) (want : Option Ty) (a l a' l' : Expr) (t u : Ty) (at : ℕ) (f : Name) (g : Fun) → earlier code seen f ≡ Some g → param_types g.params ≡ t ∷ u ∷ [] → g.result ≡ t → Becomes code seen c (Some t) a a' t → Becomes code seen c (Some (ty.List u)) l l' (ty.List u) → expr_depth a ≤ depth → expr_depth l ≤ depth → Suits want t → (n : ℕ) → Reaches (order.fold_left code seen run c at want f a l) (x.Foldl f a' l', t) n
   unfolding order.fold_left
   fold_left_reaches c want a l a' l' t u at f g e p r i j v w s n =
-      then_reaches (order.folding code seen run at f) (λ d. order.wanting code seen run c d.0 a >>= (λ start. order.wanting code seen run c (ty.List d.1) l >>= (λ items. if same_type d.2 d.0 then settled at want (x.Foldl f start items) d.0 else refuse (fault.WrongShape (place.Node at))))) (t, u, g.result) (x.Foldl f a' l', t) n (folding_reaches at f g t u e p n)
-      (λ n1. then_reaches (order.wanting code seen run c t a) (λ start. order.wanting code seen run c (ty.List u) l >>= (λ items. if same_type g.result t then settled at want (x.Foldl f start items) t else refuse (fault.WrongShape (place.Node at)))) a' (x.Foldl f a' l', t) n1 (wanting_reaches i v n1)
-      (λ n2. then_reaches (order.wanting code seen run c (ty.List u) l) (λ items. if same_type g.result t then settled at want (x.Foldl f a' items) t else refuse (fault.WrongShape (place.Node at))) l' (x.Foldl f a' l', t) n2 (wanting_reaches j w n2)
-      (λ n3. if_reaches (same_type g.result t) (settled at want (x.Foldl f a' l') t) (refuse (fault.WrongShape (place.Node at))) (x.Foldl f a' l', t) n3 (same_type_of g.result t r) (settled_reaches at n3 want (x.Foldl f a' l') t s))))
+      then_reaches (order.folding code seen run at f) (λ d. order.wanting code seen run c d.0 a >>= (λ start. order.wanting code seen run c (ty.List d.1) l >>= (λ items. if same_type d.2 d.0 then settled_type at want (x.Foldl f start items) d.0 else refuse (fault.WrongShape (place.Node at))))) (t, u, g.result) (x.Foldl f a' l', t) n (folding_reaches at f g t u e p n)
+      (λ n1. then_reaches (order.wanting code seen run c t a) (λ start. order.wanting code seen run c (ty.List u) l >>= (λ items. if same_type g.result t then settled_type at want (x.Foldl f start items) t else refuse (fault.WrongShape (place.Node at)))) a' (x.Foldl f a' l', t) n1 (wanting_reaches i v n1)
+      (λ n2. then_reaches (order.wanting code seen run c (ty.List u) l) (λ items. if same_type g.result t then settled_type at want (x.Foldl f a' items) t else refuse (fault.WrongShape (place.Node at))) l' (x.Foldl f a' l', t) n2 (wanting_reaches j w n2)
+      (λ n3. if_reaches (same_type g.result t) (settled_type at want (x.Foldl f a' l') t) (refuse (fault.WrongShape (place.Node at))) (x.Foldl f a' l', t) n3 (same_type_of g.result t r) (settled_reaches at n3 want (x.Foldl f a' l') t s))))
 
   fold_right_reaches : (c : Ctx) (want : Option Ty) (a l a' l' : Expr) (t u : Ty) (at : ℕ) (f : Name) (g : Fun) → earlier code seen f ≡ Some g → param_types g.params ≡ u ∷ t ∷ [] → g.result ≡ t → Becomes code seen c (Some t) a a' t → Becomes code seen c (Some (ty.List u)) l l' (ty.List u) → expr_depth a ≤ depth → expr_depth l ≤ depth → Suits want t → (n : ℕ) → Reaches (order.fold_right code seen run c at want f a l) (x.Foldr f a' l', t) n
   unfolding order.fold_right
   fold_right_reaches c want a l a' l' t u at f g e p r i j v w s n =
-      then_reaches (order.folding code seen run at f) (λ d. order.wanting code seen run c d.1 a >>= (λ start. order.wanting code seen run c (ty.List d.0) l >>= (λ items. if same_type d.2 d.1 then settled at want (x.Foldr f start items) d.1 else refuse (fault.WrongShape (place.Node at))))) (u, t, g.result) (x.Foldr f a' l', t) n (folding_reaches at f g u t e p n)
-      (λ n1. then_reaches (order.wanting code seen run c t a) (λ start. order.wanting code seen run c (ty.List u) l >>= (λ items. if same_type g.result t then settled at want (x.Foldr f start items) t else refuse (fault.WrongShape (place.Node at)))) a' (x.Foldr f a' l', t) n1 (wanting_reaches i v n1)
-      (λ n2. then_reaches (order.wanting code seen run c (ty.List u) l) (λ items. if same_type g.result t then settled at want (x.Foldr f a' items) t else refuse (fault.WrongShape (place.Node at))) l' (x.Foldr f a' l', t) n2 (wanting_reaches j w n2)
-      (λ n3. if_reaches (same_type g.result t) (settled at want (x.Foldr f a' l') t) (refuse (fault.WrongShape (place.Node at))) (x.Foldr f a' l', t) n3 (same_type_of g.result t r) (settled_reaches at n3 want (x.Foldr f a' l') t s))))
+      then_reaches (order.folding code seen run at f) (λ d. order.wanting code seen run c d.1 a >>= (λ start. order.wanting code seen run c (ty.List d.0) l >>= (λ items. if same_type d.2 d.1 then settled_type at want (x.Foldr f start items) d.1 else refuse (fault.WrongShape (place.Node at))))) (u, t, g.result) (x.Foldr f a' l', t) n (folding_reaches at f g u t e p n)
+      (λ n1. then_reaches (order.wanting code seen run c t a) (λ start. order.wanting code seen run c (ty.List u) l >>= (λ items. if same_type g.result t then settled_type at want (x.Foldr f start items) t else refuse (fault.WrongShape (place.Node at)))) a' (x.Foldr f a' l', t) n1 (wanting_reaches i v n1)
+      (λ n2. then_reaches (order.wanting code seen run c (ty.List u) l) (λ items. if same_type g.result t then settled_type at want (x.Foldr f a' items) t else refuse (fault.WrongShape (place.Node at))) l' (x.Foldr f a' l', t) n2 (wanting_reaches j w n2)
+      (λ n3. if_reaches (same_type g.result t) (settled_type at want (x.Foldr f a' l') t) (refuse (fault.WrongShape (place.Node at))) (x.Foldr f a' l', t) n3 (same_type_of g.result t r) (settled_reaches at n3 want (x.Foldr f a' l') t s))))
 
   packing_reaches : (c : Ctx) (want : Option Ty) (ds es : List Expr) (at : ℕ) (f : Name) (g : Fun) → fun_of code f ≡ Some g → PartsBecome code seen c (Some (param_types g.params)) 0 ds es (param_types g.params) → fold (λ m d. max m (expr_depth d)) 0 ds ≤ depth → Suits want ty.Chunk → (n : ℕ) → Reaches (order.packing code seen run c at want f ds) (x.ChunkOf f es, ty.Chunk) n
   unfolding order.packing
   packing_reaches c want ds es at f g e b h s n =
-      known_reaches (fun_of code f) (fault.UnknownName (place.Node at)) (λ g. order.arguments code seen run c at (param_types g.params) ds >>= (λ given. settled at want (x.ChunkOf f given) ty.Chunk)) g (x.ChunkOf f es, ty.Chunk) n e
-      (then_reaches (order.arguments code seen run c at (param_types g.params) ds) (λ given. settled at want (x.ChunkOf f given) ty.Chunk) es (x.ChunkOf f es, ty.Chunk) n (arguments_reach at b h n) (λ k. settled_reaches at k want (x.ChunkOf f es) ty.Chunk s))
+      known_reaches (fun_of code f) (fault.UnknownName (place.Node at)) (λ g. order.arguments code seen run c at (param_types g.params) ds >>= (λ given. settled_type at want (x.ChunkOf f given) ty.Chunk)) g (x.ChunkOf f es, ty.Chunk) n e
+      (then_reaches (order.arguments code seen run c at (param_types g.params) ds) (λ given. settled_type at want (x.ChunkOf f given) ty.Chunk) es (x.ChunkOf f es, ty.Chunk) n (arguments_reach at b h n) (λ k. settled_reaches at k want (x.ChunkOf f es) ty.Chunk s))
 
-  literal_reaches : (c : Ctx) (want : Option Ty) (d : Expr) (t : Ty) (at : ℕ) (l : ExprLayer) → literal_type l ≡ Some t → Suits want t → (n : ℕ) → Reaches (order.opened code seen run c at want d l) (d, t) n
+  literal_reaches : (c : Ctx) (want : Option Ty) (d : Expr) (t : Ty) (at : ℕ) (l : ExprLayer) → literal_type l ≡ Some t → Suits want t → (n : ℕ) → Reaches (order.opened_form code seen run c at want d l) (d, t) n
   literal_reaches c want d t at l h s n = by_layer l h
     where
-      as_type : (u : Ty) → Some u ≡ Some t → Reaches (settled at want d u) (d, t) n
-      as_type u e = let q : u ≡ t = cc in subst (λ z. Reaches (settled at want d z) (d, t) n) (sym q) (settled_reaches at n want d t s)
+      as_type : (u : Ty) → Some u ≡ Some t → Reaches (settled_type at want d u) (d, t) n
+      as_type u e = let q : u ≡ t = cc in subst (λ z. Reaches (settled_type at want d z) (d, t) n) (sym q) (settled_reaches at n want d t s)
 
-      by_layer : (l : ExprLayer) → literal_type l ≡ Some t → Reaches (order.opened code seen run c at want d l) (d, t) n
+      by_layer : (l : ExprLayer) → literal_type l ≡ Some t → Reaches (order.opened_form code seen run c at want d l) (d, t) n
       by_layer Expr-F.Unit e = as_type ty.Unit e
       by_layer (Expr-F.Bool b) e = as_type ty.Bool e
       by_layer (Expr-F.Int b) e = as_type ty.Int e
@@ -293,12 +293,12 @@ module _ (code : Program) (seen depth : ℕ) (run : Ctx → Option Ty → Expr �
 
   variable_reaches : (c : Ctx) (want : Option Ty) (d : Expr) (t : Ty) (at : ℕ) (v : Name) → binding v c ≡ Some t → Suits want t → (n : ℕ) → Reaches (order.variable c at want d v) (d, t) n
   unfolding order.variable
-  variable_reaches c want d t at v b s n = known_reaches (binding v c) (fault.UnknownName (place.Node at)) (λ t. settled at want d t) t (d, t) n b (settled_reaches at n want d t s)
+  variable_reaches c want d t at v b s n = known_reaches (binding v c) (fault.UnknownName (place.Node at)) (λ t. settled_type at want d t) t (d, t) n b (settled_reaches at n want d t s)
 
   function_reaches : (c : Ctx) (want : Option Ty) (ds es : List Expr) (at : ℕ) (f : Name) (g : Fun) → earlier code seen f ≡ Some g → PartsBecome code seen c (Some (param_types g.params)) 0 ds es (param_types g.params) → fold (λ m d. max m (expr_depth d)) 0 ds ≤ depth → Suits want g.result → (n : ℕ) → Reaches (order.function code seen run c at want f ds) (x.Call f es, g.result) n
   unfolding order.function
   function_reaches c want ds es at f g e b h s n =
-      known_reaches (earlier code seen f) (not_earlier code f at) (λ g. order.applied code seen run c at want f ds (param_types g.params) g.result) g (x.Call f es, g.result) n e (applied_reaches at want f g.result b h s n)
+      known_reaches (earlier code seen f) (not_earlier code f at) (λ g. order.applied_call code seen run c at want f ds (param_types g.params) g.result) g (x.Call f es, g.result) n e (applied_reaches at want f g.result b h s n)
 
   call_reaches : (c : Ctx) (want : Option Ty) (ds es : List Expr) (t : Ty) (at : ℕ) (f : Name) (o : Option Primitive) → prim_of f ≡ o → (n : ℕ) → Reaches (order.primitive_or code seen run c at want f ds o) (x.Call f es, t) n → Reaches (order.call code seen run c at want f ds) (x.Call f es, t) n
   unfolding order.call
@@ -323,16 +323,16 @@ module _ (code : Program) (seen depth : ℕ) (run : Ctx → Option Ty → Expr �
   no_types _ u t h = absurd (cc)
 
   -- from one level of the draft, and the answer that this level gives
-  at_level : (c : Ctx) (want : Option Ty) (d e e0 : Expr) (t t0 : Ty) (at n : ℕ) (l : ExprLayer) → out-Expr d ≡ l → e ≡ e0 → t ≡ t0 → Reaches (order.opened code seen run c at want d l) (e0, t0) n → Reaches (order.opened code seen run c at want d (out-Expr d)) (e, t) n
+  at_level : (c : Ctx) (want : Option Ty) (d e e0 : Expr) (t t0 : Ty) (at n : ℕ) (l : ExprLayer) → out-Expr d ≡ l → e ≡ e0 → t ≡ t0 → Reaches (order.opened_form code seen run c at want d l) (e0, t0) n → Reaches (order.opened_form code seen run c at want d (out-Expr d)) (e, t) n
   at_level c want d e e0 t t0 at n l o p q r =
-      subst (λ z. Reaches (order.opened code seen run c at want d z) (e, t) n) (sym o)
-      (subst (λ z. Reaches (order.opened code seen run c at want d l) (z, t) n) (sym p)
-      (subst (λ z. Reaches (order.opened code seen run c at want d l) (e0, z) n) (sym q) r))
+      subst (λ z. Reaches (order.opened_form code seen run c at want d z) (e, t) n) (sym o)
+      (subst (λ z. Reaches (order.opened_form code seen run c at want d l) (z, t) n) (sym p)
+      (subst (λ z. Reaches (order.opened_form code seen run c at want d l) (e0, z) n) (sym q) r))
 
   as_wanted : (want : Option Ty) (t t0 : Ty) → t ≡ t0 → Suits want t → Suits want t0
   as_wanted want _ _ q s = subst (λ z. Suits want z) q s
 
-  opened_reaches : {c : Ctx} {want : Option Ty} {d e : Expr} {t : Ty} → Becomes code seen c want d e t → expr_depth d ≤ suc depth → (at n : ℕ) → Reaches (order.opened code seen run c at want d (out-Expr d)) (e, t) n
+  opened_reaches : {c : Ctx} {want : Option Ty} {d e : Expr} {t : Ty} → Becomes code seen c want d e t → expr_depth d ≤ suc depth → (at n : ℕ) → Reaches (order.opened_form code seen run c at want d (out-Expr d)) (e, t) n
   opened_reaches {d = d} (B.literal h p s) k at n = at_level _ _ _ _ _ _ _ at n (out-Expr d) refl p refl (literal_reaches _ _ _ _ at (out-Expr d) h s n)
   opened_reaches {d = d} (B.variable v o b p s) k at n = at_level _ _ _ _ _ _ _ at n (Expr-F.Var v) o p refl (variable_reaches _ _ _ _ at v b s n)
   opened_reaches {d = d} (B.empty u o q w p s) k at n = at_level _ _ _ _ _ _ _ at n (Expr-F.Nil (Some u)) o p q (empty_reaches _ _ at u (subst IsShallow q w) (as_wanted _ _ _ q s) n)
@@ -413,7 +413,7 @@ no_depth (Expr-F.OnNeighbor a b k d) h = omega arith
 no_depth _ h = omega arith
 
 -- the checking to a depth that the draft keeps
-pub checked_reaches : (code : Program) (depth seen : ℕ) {c : Ctx} {want : Option Ty} {d e : Expr} {t : Ty} → Becomes code seen c want d e t → expr_depth d ≤ depth → (n : ℕ) → Reaches (order.checked code depth seen c want d) (e, t) n
-unfolding order.checked order.expression
+pub checked_reaches : (code : Program) (depth seen : ℕ) {c : Ctx} {want : Option Ty} {d e : Expr} {t : Ty} → Becomes code seen c want d e t → expr_depth d ≤ depth → (n : ℕ) → Reaches (order.checked_expression code depth seen c want d) (e, t) n
+unfolding order.checked_expression order.expression
 checked_reaches code zero seen {d = d} b h n = absurd (no_depth (out-Expr d) (rw expr_depth_out at h))
-checked_reaches code (suc depth) seen b h n = opened_reaches code seen depth (order.checked code depth seen) (λ c want d e t b h m. checked_reaches code depth seen b h m) b h n (order.next n)
+checked_reaches code (suc depth) seen b h n = opened_reaches code seen depth (order.checked_expression code depth seen) (λ c want d e t b h m. checked_reaches code depth seen b h m) b h n (order.next n)

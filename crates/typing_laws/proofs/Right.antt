@@ -25,7 +25,7 @@ use Rattle.plan_base.specs.Sizes.{type_depth}
 use Rattle.typing_rules.specs.Typing.{Ctx, literal_type, IsShallow}
 use Rattle.typing_rules.specs.TypingNames.{service_of, binds, binding, param_types, prim_of, takes, makes, is_exception, may_catch, OpKind, arithmetic, joining, equality, ordering, listing, kind_of, is_joined, is_ordered}
 use Rattle.plan_base.specs.SameTypes.{same_type}
-use Rattle.typing_rules.specs.TypingOrder.{Checking, Found, pure, refuse, after, ◌>>=◌, or_refuse, items_of, parts_of, part_in, want_at, given_of, pair_of, fun_of, earlier, not_earlier, settled, shallow}
+use Rattle.typing_rules.specs.TypingOrder.{Checking, Found, pure, refuse, after, ◌>>=◌, or_refuse, items_of, parts_of, part_in, want_at, given_of, pair_of, fun_of, earlier, not_earlier, settled_type, shallow}
 use Rattle.typing_rules.specs.TypingOrder as order
 use Rattle.typing_rules.specs.TypingFills.{Suits, Becomes, PartsBecome, ClausesBecome}
 use Rattle.typing_rules.specs.TypingFills.{Becomes as B}
@@ -100,14 +100,14 @@ module _ (code : Program) (seen : ℕ) where
   abbrev pub Right : Ctx → Option Ty → Expr → Found → Type 0
   Right c want d r = Becomes code seen c want d r.0 r.1
 
-  pub settled_right : (at : ℕ) (c : Ctx) (want : Option Ty) (d e : Expr) (t : Ty) → (Suits want t → Becomes code seen c want d e t) → Yields (Right c want d) (settled at want e t)
-  unfolding settled
+  pub settled_right : (at : ℕ) (c : Ctx) (want : Option Ty) (d e : Expr) (t : Ty) → (Suits want t → Becomes code seen c want d e t) → Yields (Right c want d) (settled_type at want e t)
+  unfolding settled_type
   settled_right at c None d e t h = pure_yields (Right c None d) (e, t) (h tt)
   settled_right at c (Some w) d e t h = if_yields (Right c (Some w) d) (same_type w t) (pure (e, t)) (refuse (fault.Mismatch (place.Node at) w t)) (λ p n. h (same_type_true w t p)) (λ p n. tt)
 
   pub shallow_right : (at : ℕ) (c : Ctx) (want : Option Ty) (d e : Expr) (t : Ty) → (IsShallow t → Suits want t → Becomes code seen c want d e t) → Yields (Right c want d) (shallow at want e t)
   unfolding shallow
-  shallow_right at c want d e t h = if_yields (Right c want d) (nat_le (type_depth t) 8) (settled at want e t) (refuse (fault.TypeTooDeep (place.Node at))) (λ p. settled_right at c want d e t (h (leb-true (type_depth t) 8 p))) (λ p n. tt)
+  shallow_right at c want d e t h = if_yields (Right c want d) (nat_le (type_depth t) 8) (settled_type at want e t) (refuse (fault.TypeTooDeep (place.Node at))) (λ p. settled_right at c want d e t (h (leb-true (type_depth t) 8 p))) (λ p n. tt)
 
   pub map_holds : {A : Type 0} (Q R : A → Type 0) → ((a : A) → Q a → R a) → (r : Result (A × ℕ) TypeFault) → Holds Q r → Holds R r
   map_holds Q R f (Ok r) h = f r.0 h
@@ -179,15 +179,15 @@ module _ (code : Program) (seen : ℕ) where
         (λ r h n. let e = eqb-true (length ds) (length ws) p in subst (λ ts. PartsBecome code seen c (Some ws) 0 ds r.0 ts) (parts_wanted ws h (omega arith)) h))
         (λ p n. tt)
 
-    applied_right : (c : Ctx) (at : ℕ) (want : Option Ty) (d : Expr) (f : Name) (ds : List Expr) (ws : List Ty) (t : Ty) → ((es : List Expr) → PartsBecome code seen c (Some ws) 0 ds es ws → Suits want t → Becomes code seen c want d (x.Call f es) t) → Yields (Right c want d) (order.applied code seen run c at want f ds ws t)
-    unfolding order.applied
+    applied_right : (c : Ctx) (at : ℕ) (want : Option Ty) (d : Expr) (f : Name) (ds : List Expr) (ws : List Ty) (t : Ty) → ((es : List Expr) → PartsBecome code seen c (Some ws) 0 ds es ws → Suits want t → Becomes code seen c want d (x.Call f es) t) → Yields (Right c want d) (order.applied_call code seen run c at want f ds ws t)
+    unfolding order.applied_call
     applied_right c at want d f ds ws t h =
-        then_yields (λ es. PartsBecome code seen c (Some ws) 0 ds es ws) (Right c want d) (order.arguments code seen run c at ws ds) (λ given. settled at want (x.Call f given) t) (arguments_right c at ws ds)
+        then_yields (λ es. PartsBecome code seen c (Some ws) 0 ds es ws) (Right c want d) (order.arguments code seen run c at ws ds) (λ given. settled_type at want (x.Call f given) t) (arguments_right c at ws ds)
         (λ es b. settled_right at c want d (x.Call f es) t (λ s. h es b s))
 
     variable_right : (c : Ctx) (at : ℕ) (want : Option Ty) (d : Expr) (n : Name) → out-Expr d ≡ Expr-F.Var n → Yields (Right c want d) (order.variable c at want d n)
     unfolding order.variable
-    variable_right c at want d n o = known_yields (Right c want d) (binding n c) (fault.UnknownName (place.Node at)) (λ t. settled at want d t) (λ t p. settled_right at c want d d t (λ s. B.variable n o p refl s))
+    variable_right c at want d n o = known_yields (Right c want d) (binding n c) (fault.UnknownName (place.Node at)) (λ t. settled_type at want d t) (λ t p. settled_right at c want d d t (λ s. B.variable n o p refl s))
 
     tuple_right : (c : Ctx) (at : ℕ) (want : Option Ty) (d : Expr) (ds : List Expr) → out-Expr d ≡ Expr-F.Tuple ds → Yields (Right c want d) (order.tuple code seen run c at want ds)
     unfolding order.tuple
@@ -199,17 +199,17 @@ module _ (code : Program) (seen : ℕ) where
     part_right : (c : Ctx) (at : ℕ) (want : Option Ty) (d : Expr) (i : ℕ) (a : Expr) → out-Expr d ≡ Expr-F.Part i a → Yields (Right c want d) (order.part code seen run c at want i a)
     unfolding order.part
     part_right c at want d i a o =
-        then_yields (Right c None a) (Right c want d) (run c None a) (λ r. or_refuse (part_in i r.1) (fault.WrongShape (place.Node at)) >>= (λ t. settled at want (x.Part i r.0) t)) (ok c None a)
-        (λ r h. known_yields (Right c want d) (part_in i r.1) (fault.WrongShape (place.Node at)) (λ t. settled at want (x.Part i r.0) t)
+        then_yields (Right c None a) (Right c want d) (run c None a) (λ r. or_refuse (part_in i r.1) (fault.WrongShape (place.Node at)) >>= (λ t. settled_type at want (x.Part i r.0) t)) (ok c None a)
+        (λ r h. known_yields (Right c want d) (part_in i r.1) (fault.WrongShape (place.Node at)) (λ t. settled_type at want (x.Part i r.0) t)
         (λ t p. let w = part_tuple i r.1 t p in
         settled_right at c want d (x.Part i r.0) t (λ s. B.part i a r.0 w.0 o (subst (λ u. Becomes code seen c None a r.0 u) w.1 h) w.2 refl s)))
 
     of_items_right : (c : Ctx) (at : ℕ) (want : Option Ty) (d : Expr) (f : Name) (p : Primitive) (ds : List Expr) → out-Expr d ≡ Expr-F.Call f ds → prim_of f ≡ Some p → Yields (Right c want d) (order.of_items code seen run c at want f p ds)
     unfolding order.of_items
     of_items_right c at want d f p ds o q =
-        if_yields (Right c want d) (length ds == 1) (order.parts code seen run c None ds >>= (λ r. or_refuse (given_of p r.1) (fault.WrongShape (place.Node at)) >>= (λ t. settled at want (x.Call f r.0) t))) (refuse (fault.Arity (place.Node at)))
-        (λ w. then_yields (AllRight c None ds) (Right c want d) (order.parts code seen run c None ds) (λ r. or_refuse (given_of p r.1) (fault.WrongShape (place.Node at)) >>= (λ t. settled at want (x.Call f r.0) t)) (all_right ds c None)
-        (λ r h. known_yields (Right c want d) (given_of p r.1) (fault.WrongShape (place.Node at)) (λ t. settled at want (x.Call f r.0) t)
+        if_yields (Right c want d) (length ds == 1) (order.parts code seen run c None ds >>= (λ r. or_refuse (given_of p r.1) (fault.WrongShape (place.Node at)) >>= (λ t. settled_type at want (x.Call f r.0) t))) (refuse (fault.Arity (place.Node at)))
+        (λ w. then_yields (AllRight c None ds) (Right c want d) (order.parts code seen run c None ds) (λ r. or_refuse (given_of p r.1) (fault.WrongShape (place.Node at)) >>= (λ t. settled_type at want (x.Call f r.0) t)) (all_right ds c None)
+        (λ r h. known_yields (Right c want d) (given_of p r.1) (fault.WrongShape (place.Node at)) (λ t. settled_type at want (x.Call f r.0) t)
         (λ t g. settled_right at c want d (x.Call f r.0) t (λ s. one_item c want d f p ds r.0 r.1 t o q h g s))))
         (λ w n. tt)
 
@@ -224,7 +224,7 @@ module _ (code : Program) (seen : ℕ) where
     function_right : (c : Ctx) (at : ℕ) (want : Option Ty) (d : Expr) (f : Name) (ds : List Expr) → out-Expr d ≡ Expr-F.Call f ds → prim_of f ≡ None → service_of f code.svcs ≡ None → Yields (Right c want d) (order.function code seen run c at want f ds)
     unfolding order.function
     function_right c at want d f ds o q v =
-        known_yields (Right c want d) (earlier code seen f) (not_earlier code f at) (λ g. order.applied code seen run c at want f ds (param_types g.params) g.result)
+        known_yields (Right c want d) (earlier code seen f) (not_earlier code f at) (λ g. order.applied_call code seen run c at want f ds (param_types g.params) g.result)
         (λ g e. applied_right c at want d f ds (param_types g.params) g.result (λ es b s. B.call f ds es g o q v e b refl refl s))
 
     call_right : (c : Ctx) (at : ℕ) (want : Option Ty) (d : Expr) (f : Name) (ds : List Expr) → out-Expr d ≡ Expr-F.Call f ds → Yields (Right c want d) (order.call code seen run c at want f ds)
@@ -264,10 +264,10 @@ module _ (code : Program) (seen : ℕ) where
     -- two parts of which types are wanted, and then an answer of one's own
     two_right : (c : Ctx) (at : ℕ) (want : Option Ty) (d a b : Expr) (u v t : Ty) (whole : Expr → Expr → Expr)
         → ((p q : Expr) → Becomes code seen c (Some u) a p u → Becomes code seen c (Some v) b q v → Suits want t → Becomes code seen c want d (whole p q) t)
-        → Yields (Right c want d) (order.wanting code seen run c u a >>= (λ p. order.wanting code seen run c v b >>= (λ q. settled at want (whole p q) t)))
+        → Yields (Right c want d) (order.wanting code seen run c u a >>= (λ p. order.wanting code seen run c v b >>= (λ q. settled_type at want (whole p q) t)))
     two_right c at want d a b u v t whole f =
-        then_yields (λ e. Becomes code seen c (Some u) a e u) (Right c want d) (order.wanting code seen run c u a) (λ p. order.wanting code seen run c v b >>= (λ q. settled at want (whole p q) t)) (wanting_right c u a)
-        (λ p h. then_yields (λ e. Becomes code seen c (Some v) b e v) (Right c want d) (order.wanting code seen run c v b) (λ q. settled at want (whole p q) t) (wanting_right c v b)
+        then_yields (λ e. Becomes code seen c (Some u) a e u) (Right c want d) (order.wanting code seen run c u a) (λ p. order.wanting code seen run c v b >>= (λ q. settled_type at want (whole p q) t)) (wanting_right c u a)
+        (λ p h. then_yields (λ e. Becomes code seen c (Some v) b e v) (Right c want d) (order.wanting code seen run c v b) (λ q. settled_type at want (whole p q) t) (wanting_right c v b)
         (λ q k. settled_right at c want d (whole p q) t (λ s. f p q h k s)))
 
     both_right : (c : Ctx) (at : ℕ) (want : Option Ty) (d a b : Expr) → out-Expr d ≡ Expr-F.And a b → Yields (Right c want d) (order.both code seen run c at want a b)
@@ -281,7 +281,7 @@ module _ (code : Program) (seen : ℕ) where
     negation_right : (c : Ctx) (at : ℕ) (want : Option Ty) (d a : Expr) → out-Expr d ≡ Expr-F.Not a → Yields (Right c want d) (order.negation code seen run c at want a)
     unfolding order.negation
     negation_right c at want d a o =
-        then_yields (λ e. Becomes code seen c (Some ty.Bool) a e ty.Bool) (Right c want d) (order.wanting code seen run c ty.Bool a) (λ p. settled at want (x.Not p) ty.Bool) (wanting_right c ty.Bool a)
+        then_yields (λ e. Becomes code seen c (Some ty.Bool) a e ty.Bool) (Right c want d) (order.wanting code seen run c ty.Bool a) (λ p. settled_type at want (x.Not p) ty.Bool) (wanting_right c ty.Bool a)
         (λ p h. settled_right at c want d (x.Not p) ty.Bool (λ s. B.negation a p o h refl refl s))
 
     calculation_right : (c : Ctx) (at : ℕ) (want : Option Ty) (d : Expr) (v : Op) (a b : Expr) → out-Expr d ≡ Expr-F.Binary v a b → kind_of v ≡ arithmetic → Yields (Right c want d) (order.calculation code seen run c at want v a b)
@@ -291,29 +291,29 @@ module _ (code : Program) (seen : ℕ) where
     -- the right operand, of which the left one's type is wanted, and then an answer of one's own
     second_right : (c : Ctx) (at : ℕ) (want : Option Ty) (d b : Expr) (v t : Ty) (whole : Expr → Expr)
         → ((q : Expr) → Becomes code seen c (Some v) b q v → Suits want t → Becomes code seen c want d (whole q) t)
-        → Yields (Right c want d) (order.wanting code seen run c v b >>= (λ q. settled at want (whole q) t))
+        → Yields (Right c want d) (order.wanting code seen run c v b >>= (λ q. settled_type at want (whole q) t))
     second_right c at want d b v t whole f =
-        then_yields (λ e. Becomes code seen c (Some v) b e v) (Right c want d) (order.wanting code seen run c v b) (λ q. settled at want (whole q) t) (wanting_right c v b)
+        then_yields (λ e. Becomes code seen c (Some v) b e v) (Right c want d) (order.wanting code seen run c v b) (λ q. settled_type at want (whole q) t) (wanting_right c v b)
         (λ q k. settled_right at c want d (whole q) t (λ s. f q k s))
 
     join_right : (c : Ctx) (at : ℕ) (want : Option Ty) (d : Expr) (v : Op) (a b : Expr) → out-Expr d ≡ Expr-F.Binary v a b → kind_of v ≡ joining → Yields (Right c want d) (order.join code seen run c at want v a b)
     unfolding order.join
     join_right c at want d v a b o g =
-        then_yields (Right c None a) (Right c want d) (run c None a) (λ r. if is_joined r.1 then order.wanting code seen run c r.1 b >>= (λ q. settled at want (x.Binary v r.0 q) r.1) else refuse (fault.WrongShape (place.Node at))) (ok c None a)
-        (λ r h. if_yields (Right c want d) (is_joined r.1) (order.wanting code seen run c r.1 b >>= (λ q. settled at want (x.Binary v r.0 q) r.1)) (refuse (fault.WrongShape (place.Node at)))
+        then_yields (Right c None a) (Right c want d) (run c None a) (λ r. if is_joined r.1 then order.wanting code seen run c r.1 b >>= (λ q. settled_type at want (x.Binary v r.0 q) r.1) else refuse (fault.WrongShape (place.Node at))) (ok c None a)
+        (λ r h. if_yields (Right c want d) (is_joined r.1) (order.wanting code seen run c r.1 b >>= (λ q. settled_type at want (x.Binary v r.0 q) r.1)) (refuse (fault.WrongShape (place.Node at)))
         (λ j. second_right c at want d b r.1 r.1 (λ q. x.Binary v r.0 q) (λ q k s. B.join v a b r.0 q o g h j k refl s)) (λ j n. tt))
 
     comparison_right : (c : Ctx) (at : ℕ) (want : Option Ty) (d : Expr) (v : Op) (a b : Expr) → out-Expr d ≡ Expr-F.Binary v a b → kind_of v ≡ equality → Yields (Right c want d) (order.comparison code seen run c at want v a b)
     unfolding order.comparison
     comparison_right c at want d v a b o g =
-        then_yields (Right c None a) (Right c want d) (run c None a) (λ r. order.wanting code seen run c r.1 b >>= (λ q. settled at want (x.Binary v r.0 q) ty.Bool)) (ok c None a)
+        then_yields (Right c None a) (Right c want d) (run c None a) (λ r. order.wanting code seen run c r.1 b >>= (λ q. settled_type at want (x.Binary v r.0 q) ty.Bool)) (ok c None a)
         (λ r h. second_right c at want d b r.1 ty.Bool (λ q. x.Binary v r.0 q) (λ q k s. B.comparison v a b r.0 q r.1 o g h k refl refl s))
 
     order_right : (c : Ctx) (at : ℕ) (want : Option Ty) (d : Expr) (v : Op) (a b : Expr) → out-Expr d ≡ Expr-F.Binary v a b → kind_of v ≡ ordering → Yields (Right c want d) (order.order code seen run c at want v a b)
     unfolding order.order
     order_right c at want d v a b o g =
-        then_yields (Right c None a) (Right c want d) (run c None a) (λ r. if is_ordered r.1 then order.wanting code seen run c r.1 b >>= (λ q. settled at want (x.Binary v r.0 q) ty.Bool) else refuse (fault.WrongShape (place.Node at))) (ok c None a)
-        (λ r h. if_yields (Right c want d) (is_ordered r.1) (order.wanting code seen run c r.1 b >>= (λ q. settled at want (x.Binary v r.0 q) ty.Bool)) (refuse (fault.WrongShape (place.Node at)))
+        then_yields (Right c None a) (Right c want d) (run c None a) (λ r. if is_ordered r.1 then order.wanting code seen run c r.1 b >>= (λ q. settled_type at want (x.Binary v r.0 q) ty.Bool) else refuse (fault.WrongShape (place.Node at))) (ok c None a)
+        (λ r h. if_yields (Right c want d) (is_ordered r.1) (order.wanting code seen run c r.1 b >>= (λ q. settled_type at want (x.Binary v r.0 q) ty.Bool)) (refuse (fault.WrongShape (place.Node at)))
         (λ j. second_right c at want d b r.1 ty.Bool (λ q. x.Binary v r.0 q) (λ q k s. B.order v a b r.0 q r.1 o g h j k refl refl s)) (λ j n. tt))
 
     prefix_right : (c : Ctx) (at : ℕ) (want : Option Ty) (d : Expr) (v : Op) (a b : Expr) → out-Expr d ≡ Expr-F.Binary v a b → kind_of v ≡ listing → Yields (Right c want d) (order.prefix code seen run c at want v a b)
@@ -388,48 +388,48 @@ module _ (code : Program) (seen : ℕ) where
     fold_left_right : (c : Ctx) (at : ℕ) (want : Option Ty) (d : Expr) (f : Name) (a l : Expr) → out-Expr d ≡ Expr-F.Foldl f a l → Yields (Right c want d) (order.fold_left code seen run c at want f a l)
     unfolding order.fold_left
     fold_left_right c at want d f a l o =
-        then_yields (FoldRight f) (Right c want d) (order.folding code seen run at f) (λ g. order.wanting code seen run c g.0 a >>= (λ start. order.wanting code seen run c (ty.List g.1) l >>= (λ items. if same_type g.2 g.0 then settled at want (x.Foldl f start items) g.0 else refuse (fault.WrongShape (place.Node at))))) (folding_right at f)
-        (λ g w. then_yields (λ e. Becomes code seen c (Some g.0) a e g.0) (Right c want d) (order.wanting code seen run c g.0 a) (λ start. order.wanting code seen run c (ty.List g.1) l >>= (λ items. if same_type g.2 g.0 then settled at want (x.Foldl f start items) g.0 else refuse (fault.WrongShape (place.Node at)))) (wanting_right c g.0 a)
-        (λ start p. then_yields (λ e. Becomes code seen c (Some (ty.List g.1)) l e (ty.List g.1)) (Right c want d) (order.wanting code seen run c (ty.List g.1) l) (λ items. if same_type g.2 g.0 then settled at want (x.Foldl f start items) g.0 else refuse (fault.WrongShape (place.Node at))) (wanting_right c (ty.List g.1) l)
-        (λ items q. if_yields (Right c want d) (same_type g.2 g.0) (settled at want (x.Foldl f start items) g.0) (refuse (fault.WrongShape (place.Node at)))
+        then_yields (FoldRight f) (Right c want d) (order.folding code seen run at f) (λ g. order.wanting code seen run c g.0 a >>= (λ start. order.wanting code seen run c (ty.List g.1) l >>= (λ items. if same_type g.2 g.0 then settled_type at want (x.Foldl f start items) g.0 else refuse (fault.WrongShape (place.Node at))))) (folding_right at f)
+        (λ g w. then_yields (λ e. Becomes code seen c (Some g.0) a e g.0) (Right c want d) (order.wanting code seen run c g.0 a) (λ start. order.wanting code seen run c (ty.List g.1) l >>= (λ items. if same_type g.2 g.0 then settled_type at want (x.Foldl f start items) g.0 else refuse (fault.WrongShape (place.Node at)))) (wanting_right c g.0 a)
+        (λ start p. then_yields (λ e. Becomes code seen c (Some (ty.List g.1)) l e (ty.List g.1)) (Right c want d) (order.wanting code seen run c (ty.List g.1) l) (λ items. if same_type g.2 g.0 then settled_type at want (x.Foldl f start items) g.0 else refuse (fault.WrongShape (place.Node at))) (wanting_right c (ty.List g.1) l)
+        (λ items q. if_yields (Right c want d) (same_type g.2 g.0) (settled_type at want (x.Foldl f start items) g.0) (refuse (fault.WrongShape (place.Node at)))
         (λ e. settled_right at c want d (x.Foldl f start items) g.0 (λ s. B.fold_left f a l start items w.0 g.1 o w.1 w.2 (w.3 ∙ same_type_true g.2 g.0 e) p q refl s)) (λ e n. tt))))
 
     fold_right_right : (c : Ctx) (at : ℕ) (want : Option Ty) (d : Expr) (f : Name) (a l : Expr) → out-Expr d ≡ Expr-F.Foldr f a l → Yields (Right c want d) (order.fold_right code seen run c at want f a l)
     unfolding order.fold_right
     fold_right_right c at want d f a l o =
-        then_yields (FoldRight f) (Right c want d) (order.folding code seen run at f) (λ g. order.wanting code seen run c g.1 a >>= (λ start. order.wanting code seen run c (ty.List g.0) l >>= (λ items. if same_type g.2 g.1 then settled at want (x.Foldr f start items) g.1 else refuse (fault.WrongShape (place.Node at))))) (folding_right at f)
-        (λ g w. then_yields (λ e. Becomes code seen c (Some g.1) a e g.1) (Right c want d) (order.wanting code seen run c g.1 a) (λ start. order.wanting code seen run c (ty.List g.0) l >>= (λ items. if same_type g.2 g.1 then settled at want (x.Foldr f start items) g.1 else refuse (fault.WrongShape (place.Node at)))) (wanting_right c g.1 a)
-        (λ start p. then_yields (λ e. Becomes code seen c (Some (ty.List g.0)) l e (ty.List g.0)) (Right c want d) (order.wanting code seen run c (ty.List g.0) l) (λ items. if same_type g.2 g.1 then settled at want (x.Foldr f start items) g.1 else refuse (fault.WrongShape (place.Node at))) (wanting_right c (ty.List g.0) l)
-        (λ items q. if_yields (Right c want d) (same_type g.2 g.1) (settled at want (x.Foldr f start items) g.1) (refuse (fault.WrongShape (place.Node at)))
+        then_yields (FoldRight f) (Right c want d) (order.folding code seen run at f) (λ g. order.wanting code seen run c g.1 a >>= (λ start. order.wanting code seen run c (ty.List g.0) l >>= (λ items. if same_type g.2 g.1 then settled_type at want (x.Foldr f start items) g.1 else refuse (fault.WrongShape (place.Node at))))) (folding_right at f)
+        (λ g w. then_yields (λ e. Becomes code seen c (Some g.1) a e g.1) (Right c want d) (order.wanting code seen run c g.1 a) (λ start. order.wanting code seen run c (ty.List g.0) l >>= (λ items. if same_type g.2 g.1 then settled_type at want (x.Foldr f start items) g.1 else refuse (fault.WrongShape (place.Node at)))) (wanting_right c g.1 a)
+        (λ start p. then_yields (λ e. Becomes code seen c (Some (ty.List g.0)) l e (ty.List g.0)) (Right c want d) (order.wanting code seen run c (ty.List g.0) l) (λ items. if same_type g.2 g.1 then settled_type at want (x.Foldr f start items) g.1 else refuse (fault.WrongShape (place.Node at))) (wanting_right c (ty.List g.0) l)
+        (λ items q. if_yields (Right c want d) (same_type g.2 g.1) (settled_type at want (x.Foldr f start items) g.1) (refuse (fault.WrongShape (place.Node at)))
         (λ e. settled_right at c want d (x.Foldr f start items) g.1 (λ s. B.fold_right f a l start items w.0 g.0 o w.1 w.2 (w.3 ∙ same_type_true g.2 g.1 e) p q refl s)) (λ e n. tt))))
 
     packing_right : (c : Ctx) (at : ℕ) (want : Option Ty) (d : Expr) (f : Name) (ds : List Expr) → out-Expr d ≡ Expr-F.ChunkOf f ds → Yields (Right c want d) (order.packing code seen run c at want f ds)
     unfolding order.packing
     packing_right c at want d f ds o =
-        known_yields (Right c want d) (fun_of code f) (fault.UnknownName (place.Node at)) (λ g. order.arguments code seen run c at (param_types g.params) ds >>= (λ given. settled at want (x.ChunkOf f given) ty.Chunk))
-        (λ g e. then_yields (λ es. PartsBecome code seen c (Some (param_types g.params)) 0 ds es (param_types g.params)) (Right c want d) (order.arguments code seen run c at (param_types g.params) ds) (λ given. settled at want (x.ChunkOf f given) ty.Chunk) (arguments_right c at (param_types g.params) ds)
+        known_yields (Right c want d) (fun_of code f) (fault.UnknownName (place.Node at)) (λ g. order.arguments code seen run c at (param_types g.params) ds >>= (λ given. settled_type at want (x.ChunkOf f given) ty.Chunk))
+        (λ g e. then_yields (λ es. PartsBecome code seen c (Some (param_types g.params)) 0 ds es (param_types g.params)) (Right c want d) (order.arguments code seen run c at (param_types g.params) ds) (λ given. settled_type at want (x.ChunkOf f given) ty.Chunk) (arguments_right c at (param_types g.params) ds)
         (λ es b. settled_right at c want d (x.ChunkOf f es) ty.Chunk (λ s. B.packing f ds es g o e b refl refl s)))
 
     evaluation_right : (c : Ctx) (at : ℕ) (want : Option Ty) (d a : Expr) → out-Expr d ≡ Expr-F.Eval a → Yields (Right c want d) (order.evaluation code seen run c at want a)
     unfolding order.evaluation
     evaluation_right c at want d a o =
-        then_yields (λ e. Becomes code seen c (Some ty.Chunk) a e ty.Chunk) (Right c want d) (order.wanting code seen run c ty.Chunk a) (λ p. settled at want (x.Eval p) ty.Unit) (wanting_right c ty.Chunk a)
+        then_yields (λ e. Becomes code seen c (Some ty.Chunk) a e ty.Chunk) (Right c want d) (order.wanting code seen run c ty.Chunk a) (λ p. settled_type at want (x.Eval p) ty.Unit) (wanting_right c ty.Chunk a)
         (λ p h. settled_right at c want d (x.Eval p) ty.Unit (λ s. B.evaluation a p o h refl refl s))
 
     remote_right : (c : Ctx) (at : ℕ) (want : Option Ty) (d a h n : Expr) (r : Name) → out-Expr d ≡ Expr-F.OnRemote a h n r → Yields (Right c want d) (order.remote code seen run c at want a h n r)
     unfolding order.remote
     remote_right c at want d a h n r o =
-        then_yields (λ e. Becomes code seen c (Some ty.Chunk) a e ty.Chunk) (Right c want d) (order.wanting code seen run c ty.Chunk a) (λ p. order.wanting code seen run c ty.Host h >>= (λ q. order.wanting code seen run c ty.Int n >>= (λ s. settled at want (x.OnRemote p q s r) ty.Unit))) (wanting_right c ty.Chunk a)
+        then_yields (λ e. Becomes code seen c (Some ty.Chunk) a e ty.Chunk) (Right c want d) (order.wanting code seen run c ty.Chunk a) (λ p. order.wanting code seen run c ty.Host h >>= (λ q. order.wanting code seen run c ty.Int n >>= (λ s. settled_type at want (x.OnRemote p q s r) ty.Unit))) (wanting_right c ty.Chunk a)
         (λ p i. two_right c at want d h n ty.Host ty.Int ty.Unit (λ q s. x.OnRemote p q s r) (λ q s j k w. B.remote a h n p q s r o i j k refl refl w))
 
     neighbour_right : (c : Ctx) (at : ℕ) (want : Option Ty) (d a h n v : Expr) → out-Expr d ≡ Expr-F.OnNeighbor a h n v → Yields (Right c want d) (order.neighbour code seen run c at want a h n v)
     unfolding order.neighbour
     neighbour_right c at want d a h n v o =
-        then_yields (λ e. Becomes code seen c (Some ty.Chunk) a e ty.Chunk) (Right c want d) (order.wanting code seen run c ty.Chunk a) (λ p. order.wanting code seen run c ty.Host h >>= (λ q. order.wanting code seen run c ty.Int n >>= (λ s. order.wanting code seen run c ty.Dev v >>= (λ u. settled at want (x.OnNeighbor p q s u) ty.Unit)))) (wanting_right c ty.Chunk a)
-        (λ p i. then_yields (λ e. Becomes code seen c (Some ty.Host) h e ty.Host) (Right c want d) (order.wanting code seen run c ty.Host h) (λ q. order.wanting code seen run c ty.Int n >>= (λ s. order.wanting code seen run c ty.Dev v >>= (λ u. settled at want (x.OnNeighbor p q s u) ty.Unit))) (wanting_right c ty.Host h)
+        then_yields (λ e. Becomes code seen c (Some ty.Chunk) a e ty.Chunk) (Right c want d) (order.wanting code seen run c ty.Chunk a) (λ p. order.wanting code seen run c ty.Host h >>= (λ q. order.wanting code seen run c ty.Int n >>= (λ s. order.wanting code seen run c ty.Dev v >>= (λ u. settled_type at want (x.OnNeighbor p q s u) ty.Unit)))) (wanting_right c ty.Chunk a)
+        (λ p i. then_yields (λ e. Becomes code seen c (Some ty.Host) h e ty.Host) (Right c want d) (order.wanting code seen run c ty.Host h) (λ q. order.wanting code seen run c ty.Int n >>= (λ s. order.wanting code seen run c ty.Dev v >>= (λ u. settled_type at want (x.OnNeighbor p q s u) ty.Unit))) (wanting_right c ty.Host h)
         (λ q j. two_right c at want d n v ty.Int ty.Dev ty.Unit (λ s u. x.OnNeighbor p q s u) (λ s u k m w. B.neighbour a h n v p q s u o i j k m refl refl w)))
 
-    opened_right : (c : Ctx) (at : ℕ) (want : Option Ty) (d : Expr) (l : ExprLayer) → out-Expr d ≡ l → Yields (Right c want d) (order.opened code seen run c at want d l)
+    opened_right : (c : Ctx) (at : ℕ) (want : Option Ty) (d : Expr) (l : ExprLayer) → out-Expr d ≡ l → Yields (Right c want d) (order.opened_form code seen run c at want d l)
     opened_right c at want d Expr-F.Unit o = settled_right at c want d d ty.Unit (λ s. B.literal (ap literal_type o) refl s)
     opened_right c at want d (Expr-F.Bool b) o = settled_right at c want d d ty.Bool (λ s. B.literal (ap literal_type o) refl s)
     opened_right c at want d (Expr-F.Int n) o = settled_right at c want d d ty.Int (λ s. B.literal (ap literal_type o) refl s)
@@ -460,7 +460,7 @@ module _ (code : Program) (seen : ℕ) where
     opened_right c at want d (Expr-F.OnNeighbor a h n v) o = neighbour_right c at want d a h n v o
 
 -- what the checking answers is what the draft becomes
-pub checked_right : (code : Program) (depth seen : ℕ) (c : Ctx) (want : Option Ty) (d : Expr) → Yields (Right code seen c want d) (order.checked code depth seen c want d)
-unfolding order.checked order.expression
+pub checked_right : (code : Program) (depth seen : ℕ) (c : Ctx) (want : Option Ty) (d : Expr) → Yields (Right code seen c want d) (order.checked_expression code depth seen c want d)
+unfolding order.checked_expression order.expression
 checked_right code zero seen c want d = λ n. tt
-checked_right code (suc depth) seen c want d = λ n. opened_right code seen (order.checked code depth seen) (checked_right code depth seen) c n want d (out-Expr d) refl (order.next n)
+checked_right code (suc depth) seen c want d = λ n. opened_right code seen (order.checked_expression code depth seen) (checked_right code depth seen) c n want d (out-Expr d) refl (order.next n)

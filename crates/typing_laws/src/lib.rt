@@ -10,12 +10,12 @@ ghost use Rattle.plan_base.specs.declared.tree.Program.{Program};
 ghost use Rattle.plan_base.specs.WellFormed.{IsWellFormedProgram, ProgramHasTypes};
 ghost use Rattle.typing_rules.specs.Typing.{Ctx, HasTy, Typed};
 ghost use Rattle.typing_rules.specs.TypingFills.{Fills};
-ghost use Rattle.typing_rules.specs.TypingOrder.{annotated};
+ghost use Rattle.typing_rules.specs.TypingOrder.{annotated_program};
 
 /// The checking of a well-formed draft answers a program exactly where that program is typed and fills
 /// the draft in.
 pub fn checking_is_typing()
-    ensures { (draft code : Program) → IsWellFormedProgram draft → (annotated draft ≡ Ok code) ↔ (Fills draft code × Typed code) }
+    ensures { (draft code : Program) → IsWellFormedProgram draft → (annotated_program draft ≡ Ok code) ↔ (Fills draft code × Typed code) }
 {}
 
 /// An expression has at most one type.

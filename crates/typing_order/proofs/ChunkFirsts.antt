@@ -16,7 +16,7 @@ use Rattle.plan_base.specs.Sizes.{nesting, chunk_weight, chunk_nesting, value_de
 use Rattle.plan_base.specs.WellFormed.{IsWellFormedChunk, IsWellFormedValue, ValueHasTypes, ChunkHasTypes, formed_value, well_formed_value, value_has_types, program_has_types, well_formed_program, well_formed_chunk}
 use Rattle.typing_rules.specs.Typing.{Typed, HasType}
 use Rattle.typing_rules.specs.TypingNames.{param_types}
-use Rattle.typing_rules.specs.TypingOrder.{fun_of, annotated}
+use Rattle.typing_rules.specs.TypingOrder.{fun_of, annotated_program}
 use Rattle.plan_base.proofs.FormLaws.{formed_chunk_is, chunk_has_types_is}
 use Rattle.typing_laws.proofs.Programs.{annotated_sound, annotated_complete, fills_itself, fills_full, depths_kept}
 use Rattle.chunk_types.specs.declared.fault.Ill.{Ill}
@@ -155,7 +155,7 @@ module _ (c : Chunk) (g : AllGood c.args) (more : List Condition) (o : Option Ch
       by_count false q =
           here of_count (arguments_from 0 (length c.args) more) (λ k. let same = k d e in let z : (length c.args == length d.params) ≡ true = grind (arith, nat_tests) in let y : true ≡ false = sym z ∙ q in cc) for_count
 
-code_stands : (c : Chunk) → AllGood c.args → well_formed_program c.code ≡ true → program_has_types c.code ≡ true → (r : Result Program TypeFault) → annotated c.code ≡ r
+code_stands : (c : Chunk) → AllGood c.args → well_formed_program c.code ≡ true → program_has_types c.code ≡ true → (r : Result Program TypeFault) → annotated_program c.code ≡ r
     → Stands c (conditions c) (or_else (ill_code r (ill_call right c.code c.entry c.args)) None)
 code_stands c g w f (Err e) q =
     here of_code (of_call c [])
@@ -211,7 +211,7 @@ module _ (c : Chunk) (w : IsWellFormedChunk c) (f : ChunkHasTypes c) where
 
   stands : Stands c (conditions c) (or_else (illness c) None)
   unfolding illness
-  stands = code_stands c good (left (well_formed_program c.code) _ shape) (left (program_has_types c.code) _ types) (annotated c.code) refl
+  stands = code_stands c good (left (well_formed_program c.code) _ shape) (left (program_has_types c.code) _ types) (annotated_program c.code) refl
 
   pub first_is : (i : Ill) → (illness c ≡ Some i) ↔ FirstFailing c (fault.Ill i) (conditions c)
   first_is i =

@@ -8,7 +8,7 @@ use Rattle.plan_base.specs.declared.tree.Value.{Value}
 use Rattle.plan_base.specs.declared.tree.Chunk.{Chunk}
 use Rattle.typing_rules.specs.declared.type_fault.TypeFault.{TypeFault}
 use Rattle.typing_rules.specs.TypingNames.{param_types}
-use Rattle.typing_rules.specs.TypingOrder.{fun_of, annotated}
+use Rattle.typing_rules.specs.TypingOrder.{fun_of, annotated_program}
 use Rattle.typing_order.proofs.Own.{program_own}
 use Rattle.chunk_types.specs.declared.fault.Ill.{Ill}
 use Rattle.chunk_types.specs.declared.fault.Ill.TheVariants.{Count, Argument}
@@ -38,13 +38,13 @@ with_own vs (Some d) = go (length vs == length d.params)
     go true = from_own 0 vs (param_types d.params)
     go false = tt
 
-code_own : (code : Program) (r : Result Program TypeFault) → annotated code ≡ r → (o : Option Ill) → Own o → Own (ill_code r o)
+code_own : (code : Program) (r : Result Program TypeFault) → annotated_program code ≡ r → (o : Option Ill) → Own o → Own (ill_code r o)
 code_own code (Ok p) e o h = h
 code_own code (Err f) e o h = program_own code f e
 
 pub illness_own : (c : Chunk) (i : Ill) → illness c ≡ Some i → IllHoldsNoMemory i
 unfolding illness
-illness_own c i h = subst Own h (code_own c.code (annotated c.code) refl (ill_call right c.code c.entry c.args) (with_own c.args (fun_of c.code c.entry)))
+illness_own c i h = subst Own h (code_own c.code (annotated_program c.code) refl (ill_call right c.code c.entry c.args) (with_own c.args (fun_of c.code c.entry)))
 
 abbrev OwnFault : Option ChunkFault → Type 0
 OwnFault None = Unit {0}

@@ -8,16 +8,16 @@ use Rattle.typing_rules.specs.declared.type_fault.TypeFault.{TypeFault}
 use Rattle.plan_base.specs.Trees.{ExprLayer}
 use Rattle.plan_base.specs.Sizes.{expr_depth, expr_depth_level, clause_depth, expr_nodes}
 use Rattle.typing_rules.specs.Typing.{Ctx}
-use Rattle.typing_rules.specs.TypingOrder.{Found, checked}
+use Rattle.typing_rules.specs.TypingOrder.{Found, checked_expression}
 use Rattle.typing_rules.specs.TypingOrder as order
 use Rattle.typing_rules.specs.TypingFills.{Becomes}
 use Rattle.plan_base.proofs.SizeLaws.{expr_depth_out, expr_nodes_out}
 use Rattle.typing_laws.proofs.Steps.{Holds}
 use Rattle.typing_laws.proofs.Right.{Right, checked_right}
 use Rattle.typing_laws.proofs.Reaches.{checked_reaches}
-use Rattle.typing_order.specs.Judgements.{Judgement, judged, behind, FirstFailing, fails, differ, refuses, passes, agree, becomes, Refused, refused, IsTypedOrRefused}
+use Rattle.typing_order.specs.Judgements.{Judgement, judged_form, behind, FirstFailing, fails, differ, refuses, passes, agree, becomes, Refused, refused, IsTypedOrRefused}
 use Rattle.typing_order.proofs.Stands.{Kept, IsPart, Stands}
-use Rattle.typing_order.proofs.Forms.{opened}
+use Rattle.typing_order.proofs.Forms.{form_is_opened}
 
 some_depth : (l : ExprLayer) → 1 ≤ expr_depth_level expr_depth clause_depth l
 some_depth (Expr-F.Tuple es) = omega arith
@@ -42,7 +42,7 @@ some_depth _ = omega arith
 module _ (code : Program) (seen : ℕ) where
   -- the answer of the checking of an expression at the place n
   abbrev pub Whole : Ctx → Option Ty → ℕ → Expr → Result (Found × ℕ) TypeFault → Type 0
-  Whole c want n e (Ok r) = Becomes code seen c want e r.0.0 r.0.1 × (r.1 ≡ behind n (expr_nodes e)) × Kept code seen (judged code seen c n want (out-Expr e))
+  Whole c want n e (Ok r) = Becomes code seen c want e r.0.0 r.0.1 × (r.1 ≡ behind n (expr_nodes e)) × Kept code seen (judged_form code seen c n want (out-Expr e))
   Whole c want n e (Err f) = Refused code seen f c want n e
 
   as_part : (c : Ctx) (want : Option Ty) (n : ℕ) (e : Expr) (q : Result (Found × ℕ) TypeFault) → Whole c want n e q → IsPart code seen c want n e q
@@ -50,19 +50,19 @@ module _ (code : Program) (seen : ℕ) where
   as_part c want n e (Err f) w = w
 
   all_of : (c : Ctx) (want : Option Ty) (n count : ℕ) (e : Expr) (q : Result (Found × ℕ) TypeFault) → 1 + count ≡ expr_nodes e → Holds (Right code seen c want e) q
-      → Stands code seen (behind n 1) count (judged code seen c n want (out-Expr e)) q → Whole c want n e q
+      → Stands code seen (behind n 1) count (judged_form code seen c n want (out-Expr e)) q → Whole c want n e q
   all_of c want n count e (Ok r) k h s = let m = s.1 in (h, omega (arith, k, m), s.0)
   all_of c want n count e (Err f) k h s = refused s
 
-  pub whole : (depth : ℕ) (e : Expr) → expr_depth e ≤ depth → (c : Ctx) (want : Option Ty) (n : ℕ) → Whole c want n e (checked code depth seen c want e n)
-  unfolding order.checked order.expression
+  pub whole : (depth : ℕ) (e : Expr) → expr_depth e ≤ depth → (c : Ctx) (want : Option Ty) (n : ℕ) → Whole c want n e (checked_expression code depth seen c want e n)
+  unfolding order.checked_expression order.expression
   whole zero e h c want n = let some = some_depth (out-Expr e) in let is = expr_depth_out e in absurd (omega (arith, h, some, is))
   whole (suc depth) e h c want n =
-      let o = opened code seen (checked code depth seen) depth (λ a k b w m. as_part b w m a (checked code depth seen b w a m) (whole depth a k b w m)) c n want e (out-Expr e) (rw expr_depth_out at h) in
-      all_of c want n o.count e (checked code (suc depth) seen c want e n) (o.counted ∙ sym (expr_nodes_out e)) (checked_right code (suc depth) seen c want e n) o.stands
+      let o = form_is_opened code seen (checked_expression code depth seen) depth (λ a k b w m. as_part b w m a (checked_expression code depth seen b w a m) (whole depth a k b w m)) c n want e (out-Expr e) (rw expr_depth_out at h) in
+      all_of c want n o.count e (checked_expression code (suc depth) seen c want e n) (o.counted ∙ sym (expr_nodes_out e)) (checked_right code (suc depth) seen c want e n) o.stands
 
   -- what is typed keeps its conditions
-  typed_kept : {c : Ctx} {want : Option Ty} {e d : Expr} {t : Ty} (n : ℕ) → Becomes code seen c want e d t → Kept code seen (judged code seen c n want (out-Expr e))
+  typed_kept : {c : Ctx} {want : Option Ty} {e d : Expr} {t : Ty} (n : ℕ) → Becomes code seen c want e d t → Kept code seen (judged_form code seen c n want (out-Expr e))
   typed_kept {c} {want} {e} {d} {t} n b =
       let r = checked_reaches code (expr_depth e) seen b (omega arith) n in
       let w = whole (expr_depth e) e (omega arith) c want n in
@@ -109,15 +109,15 @@ module _ (code : Program) (seen : ℕ) where
   pub one_filling : {c : Ctx} {want : Option Ty} {e d g : Expr} {t u : Ty} → Becomes code seen c want e d t → Becomes code seen c want e g u → d ≡ g
   one_filling b h = (one_type b h).0
 
-  pub first : (depth : ℕ) (c : Ctx) (want : Option Ty) (n : ℕ) (e : Expr) (f : TypeFault) → expr_depth e ≤ depth → (checked code depth seen c want e n ≡ Err f) ↔ Refused code seen f c want n e
-  first depth c want n e f h = (λ q. subst (λ z. Whole c want n e z) q (whole depth e h c want n), λ r. back (checked code depth seen c want e n) (whole depth e h c want n) r)
+  pub first : (depth : ℕ) (c : Ctx) (want : Option Ty) (n : ℕ) (e : Expr) (f : TypeFault) → expr_depth e ≤ depth → (checked_expression code depth seen c want e n ≡ Err f) ↔ Refused code seen f c want n e
+  first depth c want n e f h = (λ q. subst (λ z. Whole c want n e z) q (whole depth e h c want n), λ r. back (checked_expression code depth seen c want e n) (whole depth e h c want n) r)
     where
       back : (q : Result (Found × ℕ) TypeFault) → Whole c want n e q → Refused code seen f c want n e → q ≡ Err f
       back (Ok r) w k = absurd (apart w.0 k)
       back (Err g) w k = ap (λ (z : TypeFault). Err z) (one w k)
 
   pub some : (c : Ctx) (want : Option Ty) (n : ℕ) (e : Expr) → IsTypedOrRefused code seen c want n e
-  some c want n e = go (checked code (expr_depth e) seen c want e n) (whole (expr_depth e) e (omega arith) c want n)
+  some c want n e = go (checked_expression code (expr_depth e) seen c want e n) (whole (expr_depth e) e (omega arith) c want n)
     where
       go : (q : Result (Found × ℕ) TypeFault) → Whole c want n e q → IsTypedOrRefused code seen c want n e
       go (Ok r) w = inl (r.0.0, r.0.1, w.0)

@@ -80,14 +80,14 @@ module _ {A : Type 0} (p : Program) where
       blame : Blames p (of_service i) (fault.TwiceNamed (place.Decl at))
       blame = subst (λ n. Blames p (of_service i) (fault.TwiceNamed (place.Decl n))) (sym stands) (for_service i)
 
-      named : has_name taken d.name ≡ has_name (take i (svc_names p)) d.name
-      named = ap (λ ns. has_name ns d.name) names
+      taken_names_same : has_name taken d.name ≡ has_name (take i (svc_names p)) d.name
+      taken_names_same = ap (λ ns. has_name ns d.name) names
 
       go : (a b : Bool) → is_prim d.name ≡ a → has_name taken d.name ≡ b → StandsFor p (of_service i ∷ more) (then_by (if a || b then Err (fault.TwiceNamed (place.Decl at)) else k) h)
       go true b e f = here (of_service i) more (λ h. let z : true ≡ false = sym e ∙ (h d is).0 in cc) blame
-      go false true e f = here (of_service i) more (λ h. let z : true ≡ false = sym f ∙ named ∙ (h d is).1 in cc) blame
+      go false true e f = here (of_service i) more (λ h. let z : true ≡ false = sym f ∙ taken_names_same ∙ (h d is).1 in cc) blame
       go false false e f = kept_first p (of_service i) more (then_by k h)
-          (λ g h. let same : d ≡ g = same_item p.svcs i d g is h in (ap (λ x. is_prim x.name) (sym same) ∙ e, ap (λ x. has_name (take i (svc_names p)) x.name) (sym same) ∙ sym named ∙ f)) rest
+          (λ g h. let same : d ≡ g = same_item p.svcs i d g is h in (ap (λ x. is_prim x.name) (sym same) ∙ e, ap (λ x. has_name (take i (svc_names p)) x.name) (sym same) ∙ sym taken_names_same ∙ f)) rest
 
   pub services_stand : (ds : List Svc) (i at : ℕ) (taken : List Name) (ks : List Condition) (k : ℕ → Result A TypeFault) → From p.svcs i ds → taken ≡ take i (svc_names p) → at ≡ behind 0 i
       → ((m : ℕ) → m ≡ behind 0 (i + length ds) → StandsFor p ks (k m)) → StandsFor p (conditions_from of_service i (length ds) ks) (then_by (services_from taken ds at) k)
@@ -108,13 +108,13 @@ module _ {A : Type 0} (p : Program) where
       blame : Blames p (of_exception i) (fault.TwiceNamed (place.Decl at))
       blame = subst (λ n. Blames p (of_exception i) (fault.TwiceNamed (place.Decl n))) (sym stands) (for_exception i)
 
-      named : has_name taken x ≡ has_name (built_in ++ take i p.exns) x
-      named = ap (λ ns. has_name ns x) names
+      taken_names_same : has_name taken x ≡ has_name (built_in ++ take i p.exns) x
+      taken_names_same = ap (λ ns. has_name ns x) names
 
       go : (b : Bool) → has_name taken x ≡ b → StandsFor p (of_exception i ∷ more) (then_by (if b then Err (fault.TwiceNamed (place.Decl at)) else k) h)
-      go true f = here (of_exception i) more (λ h. let z : true ≡ false = sym f ∙ named ∙ h x is in cc) blame
+      go true f = here (of_exception i) more (λ h. let z : true ≡ false = sym f ∙ taken_names_same ∙ h x is in cc) blame
       go false f = kept_first p (of_exception i) more (then_by k h)
-          (λ g h. let same : x ≡ g = same_item p.exns i x g is h in ap (has_name (built_in ++ take i p.exns)) (sym same) ∙ sym named ∙ f) rest
+          (λ g h. let same : x ≡ g = same_item p.exns i x g is h in ap (has_name (built_in ++ take i p.exns)) (sym same) ∙ sym taken_names_same ∙ f) rest
 
   pub exceptions_stand : (ns : List Name) (i at : ℕ) (taken : List Name) (ks : List Condition) (k : ℕ → Result A TypeFault) → From p.exns i ns → taken ≡ built_in ++ take i p.exns → at ≡ behind (length p.svcs) i
       → ((m : ℕ) → m ≡ behind (length p.svcs) (i + length ns) → StandsFor p ks (k m)) → StandsFor p (conditions_from of_exception i (length ns) ks) (then_by (exceptions_from taken ns at) k)
@@ -135,17 +135,17 @@ module _ {A : Type 0} (p : Program) where
       blame : Blames p (of_function i) (fault.TwiceNamed (place.Decl at))
       blame = subst (λ n. Blames p (of_function i) (fault.TwiceNamed (place.Decl n))) (sym stands) (for_function i)
 
-      named : has_name taken d.name ≡ has_name (svc_names p ++ take i (fun_names p)) d.name
-      named = ap (λ ns. has_name ns d.name) names
+      taken_names_same : has_name taken d.name ≡ has_name (svc_names p ++ take i (fun_names p)) d.name
+      taken_names_same = ap (λ ns. has_name ns d.name) names
 
       go : (a b c : Bool) → is_prim d.name ≡ a → has_name taken d.name ≡ b → are_new [] (param_names d.params) ≡ c
           → StandsFor p (of_function i ∷ more) (then_by (if a || b || not c then Err (fault.TwiceNamed (place.Decl at)) else k) h)
       go true b c e f g = here (of_function i) more (λ h. let z : true ≡ false = sym e ∙ (h d is).0 in cc) blame
-      go false true c e f g = here (of_function i) more (λ h. let z : true ≡ false = sym f ∙ named ∙ (h d is).1 in cc) blame
+      go false true c e f g = here (of_function i) more (λ h. let z : true ≡ false = sym f ∙ taken_names_same ∙ (h d is).1 in cc) blame
       go false false false e f g = here (of_function i) more (λ h. let z : true ≡ false = sym (h d is).2 ∙ g in cc) blame
       go false false true e f g = kept_first p (of_function i) more (then_by k h)
           (λ x h. let same : d ≡ x = same_item p.funs i d x is h in
-          (ap (λ y. is_prim y.name) (sym same) ∙ e, ap (λ y. has_name (svc_names p ++ take i (fun_names p)) y.name) (sym same) ∙ sym named ∙ f, ap (λ y. are_new [] (param_names y.params)) (sym same) ∙ g)) rest
+          (ap (λ y. is_prim y.name) (sym same) ∙ e, ap (λ y. has_name (svc_names p ++ take i (fun_names p)) y.name) (sym same) ∙ sym taken_names_same ∙ f, ap (λ y. are_new [] (param_names y.params)) (sym same) ∙ g)) rest
 
   pub functions_stand : (ds : List Fun) (i at : ℕ) (taken : List Name) (ks : List Condition) (k : ℕ → Result A TypeFault) → From p.funs i ds → taken ≡ svc_names p ++ take i (fun_names p)
       → at ≡ behind (length p.svcs + length p.exns) i → ((m : ℕ) → StandsFor p ks (k m)) → StandsFor p (conditions_from of_function i (length ds) ks) (then_by (functions_from taken ds at) k)

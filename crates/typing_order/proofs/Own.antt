@@ -21,7 +21,7 @@ use Rattle.plan_base.specs.Sizes.{type_depth, code_size}
 use Rattle.typing_rules.specs.Typing.{Ctx, param_names}
 use Rattle.typing_rules.specs.TypingNames.{place_of, binding, is_exception, is_joined, is_ordered, may_catch, prim_of, takes, service_of, OpKind, arithmetic, joining, equality, ordering, listing, kind_of, has_name, is_prim, built_in, are_new}
 use Rattle.plan_base.specs.SameTypes.{same_type}
-use Rattle.typing_rules.specs.TypingOrder.{Checking, Found, pure, refuse, after, ◌>>=◌, or_refuse, next, settled, shallow, variable, empty, not_earlier, checked, bodies_from, then_by, services_from, exceptions_from, functions_from, declarations, sized_program, annotated}
+use Rattle.typing_rules.specs.TypingOrder.{Checking, Found, pure, refuse, after, ◌>>=◌, or_refuse, next, settled_type, shallow, variable, empty, not_earlier, checked_expression, bodies_from, then_by, services_from, exceptions_from, functions_from, declarations, sized_program, annotated_program}
 use Rattle.typing_rules.specs.TypingOrder as order
 
 -- a refusal for a reason of the program's own
@@ -74,14 +74,14 @@ if_clean : {A : Type 0} (b : Bool) (m k : Checking A) → Clean m → Clean k �
 if_clean true m k h g = h
 if_clean false m k h g = g
 
-settled_clean : (at : ℕ) (want : Option Ty) (e : Expr) (t : Ty) → Clean (settled at want e t)
-unfolding settled
+settled_clean : (at : ℕ) (want : Option Ty) (e : Expr) (t : Ty) → Clean (settled_type at want e t)
+unfolding settled_type
 settled_clean at None e t = pure_clean _ (e, t)
 settled_clean at (Some w) e t = if_clean (same_type w t) (pure (e, t)) (refuse (Mismatch (Node at) w t)) (pure_clean _ (e, t)) (refuse_clean _ (Mismatch (Node at) w t) (λ h. cc))
 
 shallow_clean : (at : ℕ) (want : Option Ty) (e : Expr) (t : Ty) → Clean (shallow at want e t)
 unfolding shallow
-shallow_clean at want e t = if_clean (nat_le (type_depth t) 8) (settled at want e t) (refuse (TypeTooDeep (Node at))) (settled_clean at want e t) (refuse_clean _ (TypeTooDeep (Node at)) (λ h. cc))
+shallow_clean at want e t = if_clean (nat_le (type_depth t) 8) (settled_type at want e t) (refuse (TypeTooDeep (Node at))) (settled_clean at want e t) (refuse_clean _ (TypeTooDeep (Node at)) (λ h. cc))
 
 variable_clean : (c : Ctx) (at : ℕ) (want : Option Ty) (e : Expr) (v : Name) → Clean (variable c at want e v)
 unfolding variable
@@ -125,8 +125,8 @@ module _ (code : Program) where
         if_clean (length es == length wants) _ (refuse (Arity (Node at))) (bind_clean (order.parts code seen run c (Some wants) es) _ (parts_clean [] [] c (Some wants) es) (λ r. pure_clean _ r.0))
         (refuse_clean _ (Arity (Node at)) (λ h. cc))
 
-    applied_clean : (c : Ctx) (at : ℕ) (want : Option Ty) (f : Name) (es : List Expr) (wants : List Ty) (t : Ty) → Clean (order.applied code seen run c at want f es wants t)
-    unfolding order.applied
+    applied_clean : (c : Ctx) (at : ℕ) (want : Option Ty) (f : Name) (es : List Expr) (wants : List Ty) (t : Ty) → Clean (order.applied_call code seen run c at want f es wants t)
+    unfolding order.applied_call
     applied_clean c at want f es wants t = bind_clean (order.arguments code seen run c at wants es) _ (arguments_clean c at wants es) (λ given. settled_clean at want _ t)
 
     items_clean : (c : Ctx) (at : ℕ) (want : Option Ty) (f : Name) (p : Primitive) (es : List Expr) → Clean (order.of_items code seen run c at want f p es)
@@ -205,7 +205,7 @@ module _ (code : Program) where
         bind_clean (order.folding code seen run at f) _ (folding_clean at f)
         (λ d. one_clean c d.1 a _ (λ start. one_clean c (ty.List d.0) l _ (λ items. if_clean (same_type d.2 d.1) _ (refuse (WrongShape (Node at))) (settled_clean at want _ d.1) (refuse_clean _ (WrongShape (Node at)) (λ h. cc)))))
 
-    opened_clean : (c : Ctx) (at : ℕ) (want : Option Ty) (e : Expr) (l : ExprLayer) → Clean (order.opened code seen run c at want e l)
+    opened_clean : (c : Ctx) (at : ℕ) (want : Option Ty) (e : Expr) (l : ExprLayer) → Clean (order.opened_form code seen run c at want e l)
     unfolding order.tuple order.choice order.binder order.sequence order.both order.either order.negation order.part order.packing order.evaluation order.remote order.neighbour
     opened_clean c at want e Expr-F.Unit = settled_clean at want e ty.Unit
     opened_clean c at want e (Expr-F.Bool _) = settled_clean at want e ty.Bool
@@ -240,15 +240,15 @@ module _ (code : Program) where
     unfolding order.expression Clean
     expression_clean c want e = λ n. opened_clean c n want e (out-Expr e) (next n)
 
-checked_clean : (code : Program) (depth seen : ℕ) (c : Ctx) (want : Option Ty) (e : Expr) → Clean (checked code depth seen c want e)
-unfolding checked
+checked_clean : (code : Program) (depth seen : ℕ) (c : Ctx) (want : Option Ty) (e : Expr) → Clean (checked_expression code depth seen c want e)
+unfolding checked_expression
 checked_clean code zero seen c want e = refuse_clean _ CodeTooLarge (λ h. cc)
-checked_clean code (suc depth) seen c want e = expression_clean code seen (checked code depth seen) (checked_clean code depth seen) c want e
+checked_clean code (suc depth) seen c want e = expression_clean code seen (checked_expression code depth seen) (checked_clean code depth seen) c want e
 
 bodies_clean : (code : Program) (done ds : List Fun) → Clean (bodies_from code done ds)
 unfolding bodies_from
 bodies_clean code done [] = pure_clean _ done
-bodies_clean code done (d ∷ ds) = bind_clean (checked code 64 (length done) d.params (Some d.result) d.body) _ (checked_clean code 64 (length done) d.params (Some d.result) d.body) (λ r. bodies_clean code _ ds)
+bodies_clean code done (d ∷ ds) = bind_clean (checked_expression code 64 (length done) d.params (Some d.result) d.body) _ (checked_clean code 64 (length done) d.params (Some d.result) d.body) (λ r. bodies_clean code _ ds)
 
 -- ---- declarations and the whole
 
@@ -283,11 +283,11 @@ sized_own code = go (nat_le (code_size code) 16000)
     go true = tt
     go false = λ h. cc
 
-annotated_own : (code : Program) → Own (annotated code)
-unfolding annotated declarations Clean
+annotated_own : (code : Program) → Own (annotated_program code)
+unfolding annotated_program declarations Clean
 annotated_own code =
     then_own _ _ (then_own (services_from [] code.svcs 0) _ (services_own [] code.svcs 0) (λ n. then_own (exceptions_from built_in code.exns n) _ (exceptions_own built_in code.exns n) (λ m. functions_own _ code.funs m)))
     (λ z. then_own (bodies_from code [] code.funs 0) _ (bodies_clean code [] code.funs 0) (λ r. sized_own _))
 
-pub program_own : (code : Program) (f : TypeFault) → annotated code ≡ Err f → f ≢ NoMemory
-program_own code f e = err_own (annotated code) f e (annotated_own code)
+pub program_own : (code : Program) (f : TypeFault) → annotated_program code ≡ Err f → f ≢ NoMemory
+program_own code f e = err_own (annotated_program code) f e (annotated_own code)

@@ -14,7 +14,7 @@ use Rattle.plan_base.specs.Sizes.{code_size, expr_depth, expr_nodes}
 use Rattle.plan_base.specs.WellFormed.{IsWellFormedProgram}
 use Rattle.typing_rules.specs.Typing.{Typed}
 use Rattle.typing_rules.specs.TypingNames.{built_in}
-use Rattle.typing_rules.specs.TypingOrder.{Found, after, checked, bodies_from, then_by, services_from, exceptions_from, functions_from, declarations, sized_program, annotated}
+use Rattle.typing_rules.specs.TypingOrder.{Found, after, checked_expression, bodies_from, then_by, services_from, exceptions_from, functions_from, declarations, sized_program, annotated_program}
 use Rattle.typing_rules.specs.TypingFills.{Becomes, FunFills, Fills}
 use Rattle.typing_laws.proofs.Right.{becomes_suits}
 use Rattle.typing_laws.proofs.Programs.{annotated_sound, annotated_complete, depths_kept}
@@ -69,11 +69,11 @@ module _ (p : Program) where
   fills : (gs : List Fun) → FillsFrom 0 p.funs gs → Fills p (record p { funs = gs })
   fills gs f = record { svcs = refl; exns = refl; count = f.count; funs = λ k d g e h. subst (λ n. FunFills p n d g) (zero_plus k) (f.funs k d g e h) }
 
-  filled : (q : Program) → Fills p q → FillsFrom 0 p.funs q.funs
-  filled q f = record { count = f.count; funs = λ k d g e h. subst (λ n. FunFills p n d g) (sym (zero_plus k)) (f.funs k d g e h) }
+  fills_from_start : (q : Program) → Fills p q → FillsFrom 0 p.funs q.funs
+  fills_from_start q f = record { count = f.count; funs = λ k d g e h. subst (λ n. FunFills p n d g) (sym (zero_plus k)) (f.funs k d g e h) }
 
   one_program : (q : Program) (gs : List Fun) → Fills p q → FillsFrom 0 p.funs gs → q ≡ record p { funs = gs }
-  one_program q gs f s = let same = one_list 0 p.funs q.funs gs (filled q f) s in λ i. record { svcs = f.svcs i; exns = f.exns i; funs = same i }
+  one_program q gs f s = let same = one_list 0 p.funs q.funs gs (fills_from_start q f) s in λ i. record { svcs = f.svcs i; exns = f.exns i; funs = same i }
 
   -- ---- bodies
 
@@ -88,7 +88,7 @@ module _ (p : Program) where
     bodies_stand [] done i n ks k look seen at low s = subst (λ gs. StandsFor p ks (k (gs, n))) (append-nil done) (s [] n (none_fill i))
     bodies_stand (d ∷ ds) done i n ks k look seen at low s =
         by_body (λ g m a b. bodies_stand ds (done ++ g ∷ []) (i + 1) m ks k (from_next p.funs i d ds look) a b (λ j x e. low (suc j) x e))
-        (checked p 64 (length done) d.params (Some d.result) d.body n) (whole p (length done) 64 d.body (low 0 d refl) d.params (Some d.result) n)
+        (checked_expression p 64 (length done) d.params (Some d.result) d.body n) (whole p (length done) 64 d.body (low 0 d refl) d.params (Some d.result) n)
       where
         is : slice_get p.funs i ≡ Some d
         is = from_here p.funs i d ds look
@@ -165,8 +165,8 @@ module _ (p : Program) where
     bodies_and_size =
         bodies_stand p.funs [] 0 0 (of_size ∷ []) (λ r. sized_program (record p { funs = r.0 })) (from_start p.funs) refl refl (depths_kept p w) (λ gs m f. size_stands gs f)
 
-    stands : StandsFor p (conditions p) (annotated p)
-    unfolding annotated declarations
+    stands : StandsFor p (conditions p) (annotated_program p)
+    unfolding annotated_program declarations
     stands =
         let last : ℕ → Result Program TypeFault = λ _. then_by (bodies_from p [] p.funs 0) (λ r. sized_program (record p { funs = r.0 })) in
         let funs : ℕ → Result ℕ TypeFault = λ m. functions_from (map (λ d. d.name) p.svcs) p.funs m in
@@ -177,17 +177,17 @@ module _ (p : Program) where
         (exceptions_stand p p.exns 0 n built_in _ (λ m. then_by (funs m) last) (from_start p.exns) (sym (append-nil built_in)) (omega (arith, e))
         (λ m k. functions_stand p p.funs 0 m (map (λ d. d.name) p.svcs) _ last (from_start p.funs) (sym (append-nil (map (λ d. d.name) p.svcs))) (omega (arith, k)) (λ _. bodies_and_size)))))
 
-    pub first_is : (f : TypeFault) → (annotated p ≡ Err f) ↔ FirstRefusal p f
-    first_is f = (λ h. subst (λ r. StandsFor p (conditions p) r) h stands, λ h. back (annotated p) stands h)
+    pub first_is : (f : TypeFault) → (annotated_program p ≡ Err f) ↔ FirstRefusal p f
+    first_is f = (λ h. subst (λ r. StandsFor p (conditions p) r) h stands, λ h. back (annotated_program p) stands h)
       where
         back : (r : Result Program TypeFault) → StandsFor p (conditions p) r → FirstRefusal p f → r ≡ Err f
         back (Ok q) s h = absurd (never_both (conditions p) s h)
         back (Err g) s h = ap (λ (z : TypeFault). Err z) (one_first (conditions p) s h)
 
     pub some_answer : IsTypedOrRefused p
-    some_answer = go (annotated p) refl stands
+    some_answer = go (annotated_program p) refl stands
       where
-        go : (r : Result Program TypeFault) → annotated p ≡ r → StandsFor p (conditions p) r → IsTypedOrRefused p
+        go : (r : Result Program TypeFault) → annotated_program p ≡ r → StandsFor p (conditions p) r → IsTypedOrRefused p
         go (Ok q) e s = let a = annotated_sound p q e in inl (q, a.0, a.1)
         go (Err f) e s = inr (f, s)
 

@@ -15,11 +15,11 @@ use Rattle.typing_rules.specs.declared.type_fault.TypeFault.TheVariants as fault
 use Rattle.plan_base.specs.Sizes.{type_depth, expr_nodes, clause_nodes}
 use Rattle.typing_rules.specs.Typing.{Ctx}
 use Rattle.plan_base.specs.SameTypes.{same_type}
-use Rattle.typing_rules.specs.TypingOrder.{Checking, Found, pure, refuse, after, ◌>>=◌, or_refuse, want_at, pair_of, earlier, not_earlier, settled}
+use Rattle.typing_rules.specs.TypingOrder.{Checking, Found, pure, refuse, after, ◌>>=◌, or_refuse, want_at, pair_of, earlier, not_earlier, settled_type}
 use Rattle.typing_rules.specs.TypingOrder as order
 use Rattle.typing_rules.specs.TypingFills.{Becomes}
 use Rattle.plan_base.proofs.SameTypes.{same_type_true, same_type_of}
-use Rattle.typing_order.specs.Judgements.{Judgement, kept, test, same, part, there, stands_earlier, none_earlier, suits, shallow, parts, typed, arguments, clauses, behind, FirstFailing, fails, differ, refuses, passes, agree, becomes, Refused}
+use Rattle.typing_order.specs.Judgements.{Judgement, kept, test, same, part, there, stands_earlier, none_earlier, suits, shallow, parts, typed_part, arguments, clauses, behind, FirstFailing, fails, differ, refuses, passes, agree, becomes, Refused}
 use Rattle.typing_order.proofs.Named.{earlier_is, none_is}
 
 -- one part of the checking after two others
@@ -49,60 +49,60 @@ module _ (code : Program) (seen : ℕ) where
   unfolding Kept
   nothing_judged = tt
 
-  pub ended : {A : Type 0} (a : A) (n : ℕ) → n ≤ 4294967295 → Stands n 0 kept (Ok (a, n))
-  ended a n low = (nothing_judged, omega (arith, low))
+  pub end_stands : {A : Type 0} (a : A) (n : ℕ) → n ≤ 4294967295 → Stands n 0 kept (Ok (a, n))
+  end_stands a n low = (nothing_judged, omega (arith, low))
 
   pub recount : {A : Type 0} (n count k : ℕ) (j : Judgement) (q : Result (A × ℕ) TypeFault) → count ≡ k → Stands n count j q → Stands n k j q
   recount {A} n count k j q e s = subst (λ z. Stands {A = A} n z j q) e s
 
   -- ---- one condition before others
 
-  tested : {A : Type 0} (n count : ℕ) (f : TypeFault) (more : Judgement) (q : Result (A × ℕ) TypeFault) → Stands n count more q → Stands n count (test true f more) q
+  true_test_stands : {A : Type 0} (n count : ℕ) (f : TypeFault) (more : Judgement) (q : Result (A × ℕ) TypeFault) → Stands n count more q → Stands n count (test true f more) q
   unfolding Kept
-  tested n count f more (Ok r) s = ((refl, s.0), s.1)
-  tested n count f more (Err g) s = passes refl s
+  true_test_stands n count f more (Ok r) s = ((refl, s.0), s.1)
+  true_test_stands n count f more (Err g) s = passes refl s
 
   pub test_stands : {A : Type 0} (n count : ℕ) (b : Bool) (f : TypeFault) (m : Checking A) (more : Judgement) → (b ≡ true → Stands n count more (m n)) → Stands n count (test b f more) ((if b then m else refuse f) n)
-  test_stands n count true f m more s = tested n count f more (m n) (s refl)
+  test_stands n count true f m more s = true_test_stands n count f more (m n) (s refl)
   test_stands n count false f m more s = fails refl
 
   pub there_stands : {A X : Type 0} (n count : ℕ) (o : Option X) (f : TypeFault) (k : X → Checking A) (more : X → Judgement) → ((x : X) → Stands n count (more x) (k x n)) → Stands n count (there o f more) ((or_refuse o f >>= k) n)
   there_stands n count (Some x) f k more s = s x
   there_stands n count None f k more s = fails refl
 
-  agreed : {A : Type 0} (n count : ℕ) (t u : Ty) (f : TypeFault) (more : Judgement) (q : Result (A × ℕ) TypeFault) → t ≡ u → Stands n count more q → Stands n count (same t u f more) q
+  equal_types_stand : {A : Type 0} (n count : ℕ) (t u : Ty) (f : TypeFault) (more : Judgement) (q : Result (A × ℕ) TypeFault) → t ≡ u → Stands n count more q → Stands n count (same t u f more) q
   unfolding Kept
-  agreed n count t u f more (Ok r) e s = ((e, s.0), s.1)
-  agreed n count t u f more (Err g) e s = agree e s
+  equal_types_stand n count t u f more (Ok r) e s = ((e, s.0), s.1)
+  equal_types_stand n count t u f more (Err g) e s = agree e s
 
   pub same_stands : {A : Type 0} (n count : ℕ) (t u : Ty) (f : TypeFault) (m : Checking A) (more : Judgement) → Stands n count more (m n) → Stands n count (same t u f more) ((if same_type t u then m else refuse f) n)
   same_stands {A} n count t u f m more s = go (same_type t u) refl
     where
       go : (b : Bool) → same_type t u ≡ b → Stands {A = A} n count (same t u f more) ((if b then m else refuse f) n)
-      go true e = agreed n count t u f more (m n) (same_type_true t u e) s
+      go true e = equal_types_stand n count t u f more (m n) (same_type_true t u e) s
       go false e = differ (λ h. let z : true ≡ false = sym (same_type_of t u h) ∙ e in cc)
 
-  pub suits_stands : (n at : ℕ) (want : Option Ty) (e : Expr) (t : Ty) → n ≤ 4294967295 → Stands n 0 (suits at want t) (settled at want e t n)
-  unfolding settled
-  suits_stands n at None e t low = ended {A = Found} (e, t) n low
-  suits_stands n at (Some w) e t low = same_stands n 0 w t (fault.Mismatch (place.Node at) w t) (pure (e, t)) kept (ended {A = Found} (e, t) n low)
+  pub suits_stands : (n at : ℕ) (want : Option Ty) (e : Expr) (t : Ty) → n ≤ 4294967295 → Stands n 0 (suits at want t) (settled_type at want e t n)
+  unfolding settled_type
+  suits_stands n at None e t low = end_stands {A = Found} (e, t) n low
+  suits_stands n at (Some w) e t low = same_stands n 0 w t (fault.Mismatch (place.Node at) w t) (pure (e, t)) kept (end_stands {A = Found} (e, t) n low)
 
   pub shallow_stands : (n at : ℕ) (want : Option Ty) (e : Expr) (t : Ty) → n ≤ 4294967295 → Stands n 0 (shallow at want t) (order.shallow at want e t n)
   unfolding order.shallow
-  shallow_stands n at want e t low = test_stands n 0 (nat_le (type_depth t) 8) (fault.TypeTooDeep (place.Node at)) (settled at want e t) (suits at want t) (λ _. suits_stands n at want e t low)
+  shallow_stands n at want e t low = test_stands n 0 (nat_le (type_depth t) 8) (fault.TypeTooDeep (place.Node at)) (settled_type at want e t) (suits at want t) (λ _. suits_stands n at want e t low)
 
   -- ---- one part before others
 
-  passed : {A : Type 0} (n count : ℕ) (c : Ctx) (want : Option Ty) (e d : Expr) (t : Ty) (more : Ty → Judgement) (q : Result (A × ℕ) TypeFault) → Becomes code seen c want e d t
+  becoming_part_stands : {A : Type 0} (n count : ℕ) (c : Ctx) (want : Option Ty) (e d : Expr) (t : Ty) (more : Ty → Judgement) (q : Result (A × ℕ) TypeFault) → Becomes code seen c want e d t
       → Stands (behind n (expr_nodes e)) count (more t) q → Stands n (expr_nodes e + count) (part c want e more) q
   unfolding Kept
-  passed n count c want e d t more (Ok r) b s = let k = s.1 in ((d, t, b, s.0), omega (arith, k))
-  passed n count c want e d t more (Err f) b s = becomes d t b s
+  becoming_part_stands n count c want e d t more (Ok r) b s = let k = s.1 in ((d, t, b, s.0), omega (arith, k))
+  becoming_part_stands n count c want e d t more (Err f) b s = becomes d t b s
 
   pub part_stands : {A : Type 0} (n count : ℕ) (c : Ctx) (want : Option Ty) (e : Expr) (q : Result (Found × ℕ) TypeFault) (k : Found → Checking A) (more : Ty → Judgement) → IsPart c want n e q
       → ((r : Found) → Stands (behind n (expr_nodes e)) count (more r.1) (k r (behind n (expr_nodes e)))) → Stands n (expr_nodes e + count) (part c want e more) (after q k)
   part_stands {A} n count c want e (Ok r) k more p s =
-      passed n count c want e r.0.0 r.0.1 more (k r.0 r.1) p.0 (subst (λ z. Stands {A = A} (behind n (expr_nodes e)) count (more r.0.1) (k r.0 z)) (sym p.1) (s r.0))
+      becoming_part_stands n count c want e r.0.0 r.0.1 more (k r.0 r.1) p.0 (subst (λ z. Stands {A = A} (behind n (expr_nodes e)) count (more r.0.1) (k r.0 z)) (sym p.1) (s r.0))
   part_stands n count c want e (Err f) k more p s = refuses p
 
   module _ (run : Ctx → Option Ty → Expr → Checking Found) where
@@ -139,10 +139,10 @@ module _ (code : Program) (seen : ℕ) where
     run_stands n count c want e k more g s = part_stands n count c want e (run c want e n) k more (g c want n) s
 
     pub typed_stands : {A : Type 0} (n count : ℕ) (c : Ctx) (t : Ty) (e : Expr) (k : Expr → Checking A) (more : Judgement) → Good e
-        → ((x : Expr) → Stands (behind n (expr_nodes e)) count more (k x (behind n (expr_nodes e)))) → Stands n (expr_nodes e + count) (typed c t e more) ((order.wanting code seen run c t e >>= k) n)
+        → ((x : Expr) → Stands (behind n (expr_nodes e)) count more (k x (behind n (expr_nodes e)))) → Stands n (expr_nodes e + count) (typed_part c t e more) ((order.wanting code seen run c t e >>= k) n)
     unfolding order.wanting
     typed_stands {A} n count c t e k more g s =
-        subst (λ z. Stands {A = A} n (expr_nodes e + count) (typed c t e more) z) (in_turn (run c (Some t) e n) (λ r. pure r.0) k)
+        subst (λ z. Stands {A = A} n (expr_nodes e + count) (typed_part c t e more) z) (in_turn (run c (Some t) e n) (λ r. pure r.0) k)
         (part_stands n count c (Some t) e (run c (Some t) e n) (λ r. pure r.0 >>= k) (λ _. more) (g c (Some t) n) (λ r. s r.0))
 
     pub parts_stand : {A : Type 0} (es : List Expr) (n count : ℕ) (done : List Expr) (types : List Ty) (c : Ctx) (wants : Option (List Ty)) (k : List Expr × List Ty → Checking A) (more : List Ty → Judgement)
@@ -170,13 +170,13 @@ module _ (code : Program) (seen : ℕ) where
 
         go : (b : Bool) → Stands {A = A} n (sum_by expr_nodes es + count) (test b (fault.Arity (place.Node at)) (parts c (Some wants) [] es (λ _. more)))
             (((if b then (order.parts code seen run c (Some wants) es >>= (λ r. pure r.0)) else refuse (fault.Arity (place.Node at))) >>= k) n)
-        go true = tested n (sum_by expr_nodes es + count) (fault.Arity (place.Node at)) (parts c (Some wants) [] es (λ _. more)) _ all
+        go true = true_test_stands n (sum_by expr_nodes es + count) (fault.Arity (place.Node at)) (parts c (Some wants) [] es (λ _. more)) _ all
         go false = fails refl
 
     pub clauses_stand : {A : Type 0} (ks : List Clause) (n : ℕ) (done : List Clause) (c : Ctx) (t : Ty) (k : List Clause → A) → n ≤ 4294967295 → ClausesGood ks
         → Stands n (sum_by clause_nodes ks) (clauses c t ks) ((order.clauses_from code seen run done c t ks >>= (λ hs. pure (k hs))) n)
     unfolding order.clauses_from
-    clauses_stand [] n done c t k low g = ended (k done) n low
+    clauses_stand [] n done c t k low g = end_stands (k done) n low
     clauses_stand {A} (q ∷ ks) n done c t k low g =
         let sum = sum_by-cons clause_nodes q ks in
         recount n (expr_nodes q.body + sum_by clause_nodes ks) (sum_by clause_nodes (q ∷ ks)) (clauses c t (q ∷ ks)) _ (omega (arith, sum))

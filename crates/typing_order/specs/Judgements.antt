@@ -50,8 +50,8 @@ parts c wants types [] more = more types
 parts c wants types (e ∷ es) more = part c (want_at wants (length types)) e (λ t. parts c wants (types ++ t ∷ []) es more)
 
 -- a part of which a type is wanted
-abbrev pub typed : Ctx → Ty → Expr → Judgement → Judgement
-typed c t e more = part c (Some t) e (λ _. more)
+abbrev pub typed_part : Ctx → Ty → Expr → Judgement → Judgement
+typed_part c t e more = part c (Some t) e (λ _. more)
 
 -- as many arguments as types, and each of its type
 abbrev pub arguments : Ctx → ℕ → List Ty → List Expr → Judgement → Judgement
@@ -60,7 +60,7 @@ arguments c at wants es more = test (length es == length wants) (Arity (Node at)
 -- clauses from the first, each of which gives that type
 abbrev pub clauses : Ctx → Ty → List Clause → Judgement
 clauses c t [] = kept
-clauses c t (k ∷ ks) = typed c t k.body (clauses c t ks)
+clauses c t (k ∷ ks) = typed_part c t k.body (clauses c t ks)
 
 -- the first function of that name
 abbrev pub function_named : Name → List Fun → Option Fun
@@ -96,17 +96,17 @@ module _ (code : Program) (seen : ℕ) where
   service c at want f es None = function c at want f es
 
   -- a name that is called: a primitive, or else a service or a function
-  abbrev pub called : Ctx → ℕ → Option Ty → Name → List Expr → Option Primitive → Judgement
-  called c at want f es (Some p) = primitive c at want p es (takes p)
-  called c at want f es None = service c at want f es (service_of f code.svcs)
+  abbrev pub called_name : Ctx → ℕ → Option Ty → Name → List Expr → Option Primitive → Judgement
+  called_name c at want f es (Some p) = primitive c at want p es (takes p)
+  called_name c at want f es None = service c at want f es (service_of f code.svcs)
 
   -- the two sides of an operator
   abbrev pub sides : Ctx → ℕ → Option Ty → Expr → Expr → OpKind → Judgement
-  sides c at want a b arithmetic = typed c ty.Int a (typed c ty.Int b (suits at want ty.Int))
-  sides c at want a b joining = part c None a (λ t. test (is_joined t) (WrongShape (Node at)) (typed c t b (suits at want t)))
-  sides c at want a b equality = part c None a (λ t. typed c t b (suits at want ty.Bool))
-  sides c at want a b ordering = part c None a (λ t. test (is_ordered t) (WrongShape (Node at)) (typed c t b (suits at want ty.Bool)))
-  sides c at want a b listing = part c (option_and_then items_of want) a (λ t. typed c (ty.List t) b (shallow at want (ty.List t)))
+  sides c at want a b arithmetic = typed_part c ty.Int a (typed_part c ty.Int b (suits at want ty.Int))
+  sides c at want a b joining = part c None a (λ t. test (is_joined t) (WrongShape (Node at)) (typed_part c t b (suits at want t)))
+  sides c at want a b equality = part c None a (λ t. typed_part c t b (suits at want ty.Bool))
+  sides c at want a b ordering = part c None a (λ t. test (is_ordered t) (WrongShape (Node at)) (typed_part c t b (suits at want ty.Bool)))
+  sides c at want a b listing = part c (option_and_then items_of want) a (λ t. typed_part c (ty.List t) b (shallow at want (ty.List t)))
 
   -- An earlier function of two parameters that folds a list: the type of the start and of the items by those of its
   -- parameters.
@@ -114,42 +114,42 @@ module _ (code : Program) (seen : ℕ) where
   folding c at want f a l turned =
       there (stands_earlier code seen f) (none_earlier code f at)
       (λ d. there (pair_of d.params) (Arity (Node at))
-      (λ p. typed c (turned p).0 a (typed c (ty.List (turned p).1) l (same d.result (turned p).0 (WrongShape (Node at)) (suits at want (turned p).0)))))
+      (λ p. typed_part c (turned p).0 a (typed_part c (ty.List (turned p).1) l (same d.result (turned p).0 (WrongShape (Node at)) (suits at want (turned p).0)))))
 
   -- What is judged of an expression of that form at a place, under its bindings, of which a type may be wanted: first its
   -- names and counts and the type that nothing else gives, then its parts from the left, its shape, the depth of its type,
   -- and last whether that is the wanted one. Operators judge the left side's shape before the right side.
-  abbrev pub judged : Ctx → ℕ → Option Ty → ExprLayer → Judgement
-  judged c at want Expr-F.Unit = suits at want ty.Unit
-  judged c at want (Expr-F.Bool _) = suits at want ty.Bool
-  judged c at want (Expr-F.Int _) = suits at want ty.Int
-  judged c at want (Expr-F.Char _) = suits at want ty.Char
-  judged c at want (Expr-F.Str _) = suits at want ty.Str
-  judged c at want (Expr-F.Blob _) = suits at want ty.Blob
-  judged c at want (Expr-F.Host _) = suits at want ty.Host
-  judged c at want (Expr-F.Dev _) = suits at want ty.Dev
-  judged c at want (Expr-F.Nil (Some u)) = shallow at want (ty.List u)
-  judged c at want (Expr-F.Nil None) = there (option_and_then items_of want) (NeedsType (Node at)) (λ u. shallow at want (ty.List u))
-  judged c at want (Expr-F.Var v) = there (binding v c) (UnknownName (Node at)) (λ t. suits at want t)
-  judged c at want (Expr-F.Tuple es) = parts c (option_and_then (parts_of (length es)) want) [] es (λ ts. shallow at want (ty.Tuple ts))
-  judged c at want (Expr-F.Call f es) = called c at want f es (prim_of f)
-  judged c at want (Expr-F.If a b d) = typed c ty.Bool a (part c want b (λ t. typed c t d kept))
-  judged c at want (Expr-F.Let n u a b) = typed c u a (part (c ++ binds n u ∷ []) want b (λ _. kept))
-  judged c at want (Expr-F.Then a b) = typed c ty.Unit a (part c want b (λ _. kept))
-  judged c at want (Expr-F.And a b) = typed c ty.Bool a (typed c ty.Bool b (suits at want ty.Bool))
-  judged c at want (Expr-F.Or a b) = typed c ty.Bool a (typed c ty.Bool b (suits at want ty.Bool))
-  judged c at want (Expr-F.Not a) = typed c ty.Bool a (suits at want ty.Bool)
-  judged c at want (Expr-F.Binary o a b) = sides c at want a b (kind_of o)
-  judged c at want (Expr-F.Part i a) = part c None a (λ u. there (part_in i u) (WrongShape (Node at)) (λ t. suits at want t))
-  judged c at want (Expr-F.Raise n (Some t)) = test (is_exception code n) (UnknownName (Node at)) (shallow at want t)
-  judged c at want (Expr-F.Raise n None) = test (is_exception code n) (UnknownName (Node at)) (there want (NeedsType (Node at)) (λ t. shallow at want t))
-  judged c at want (Expr-F.Try a ks) = test (list_all (λ k. may_catch code k.name) ks) (UnknownName (Node at)) (part c want a (λ t. clauses c t ks))
-  judged c at want (Expr-F.Foldl f a l) = folding c at want f a l (λ p. p)
-  judged c at want (Expr-F.Foldr f a l) = folding c at want f a l (λ p. (p.1, p.0))
-  judged c at want (Expr-F.ChunkOf f es) = there (function_named f code.funs) (UnknownName (Node at)) (λ d. arguments c at (param_types d.params) es (suits at want ty.Chunk))
-  judged c at want (Expr-F.Eval a) = typed c ty.Chunk a (suits at want ty.Unit)
-  judged c at want (Expr-F.OnRemote a h n r) = typed c ty.Chunk a (typed c ty.Host h (typed c ty.Int n (suits at want ty.Unit)))
-  judged c at want (Expr-F.OnNeighbor a h n d) = typed c ty.Chunk a (typed c ty.Host h (typed c ty.Int n (typed c ty.Dev d (suits at want ty.Unit))))
+  abbrev pub judged_form : Ctx → ℕ → Option Ty → ExprLayer → Judgement
+  judged_form c at want Expr-F.Unit = suits at want ty.Unit
+  judged_form c at want (Expr-F.Bool _) = suits at want ty.Bool
+  judged_form c at want (Expr-F.Int _) = suits at want ty.Int
+  judged_form c at want (Expr-F.Char _) = suits at want ty.Char
+  judged_form c at want (Expr-F.Str _) = suits at want ty.Str
+  judged_form c at want (Expr-F.Blob _) = suits at want ty.Blob
+  judged_form c at want (Expr-F.Host _) = suits at want ty.Host
+  judged_form c at want (Expr-F.Dev _) = suits at want ty.Dev
+  judged_form c at want (Expr-F.Nil (Some u)) = shallow at want (ty.List u)
+  judged_form c at want (Expr-F.Nil None) = there (option_and_then items_of want) (NeedsType (Node at)) (λ u. shallow at want (ty.List u))
+  judged_form c at want (Expr-F.Var v) = there (binding v c) (UnknownName (Node at)) (λ t. suits at want t)
+  judged_form c at want (Expr-F.Tuple es) = parts c (option_and_then (parts_of (length es)) want) [] es (λ ts. shallow at want (ty.Tuple ts))
+  judged_form c at want (Expr-F.Call f es) = called_name c at want f es (prim_of f)
+  judged_form c at want (Expr-F.If a b d) = typed_part c ty.Bool a (part c want b (λ t. typed_part c t d kept))
+  judged_form c at want (Expr-F.Let n u a b) = typed_part c u a (part (c ++ binds n u ∷ []) want b (λ _. kept))
+  judged_form c at want (Expr-F.Then a b) = typed_part c ty.Unit a (part c want b (λ _. kept))
+  judged_form c at want (Expr-F.And a b) = typed_part c ty.Bool a (typed_part c ty.Bool b (suits at want ty.Bool))
+  judged_form c at want (Expr-F.Or a b) = typed_part c ty.Bool a (typed_part c ty.Bool b (suits at want ty.Bool))
+  judged_form c at want (Expr-F.Not a) = typed_part c ty.Bool a (suits at want ty.Bool)
+  judged_form c at want (Expr-F.Binary o a b) = sides c at want a b (kind_of o)
+  judged_form c at want (Expr-F.Part i a) = part c None a (λ u. there (part_in i u) (WrongShape (Node at)) (λ t. suits at want t))
+  judged_form c at want (Expr-F.Raise n (Some t)) = test (is_exception code n) (UnknownName (Node at)) (shallow at want t)
+  judged_form c at want (Expr-F.Raise n None) = test (is_exception code n) (UnknownName (Node at)) (there want (NeedsType (Node at)) (λ t. shallow at want t))
+  judged_form c at want (Expr-F.Try a ks) = test (list_all (λ k. may_catch code k.name) ks) (UnknownName (Node at)) (part c want a (λ t. clauses c t ks))
+  judged_form c at want (Expr-F.Foldl f a l) = folding c at want f a l (λ p. p)
+  judged_form c at want (Expr-F.Foldr f a l) = folding c at want f a l (λ p. (p.1, p.0))
+  judged_form c at want (Expr-F.ChunkOf f es) = there (function_named f code.funs) (UnknownName (Node at)) (λ d. arguments c at (param_types d.params) es (suits at want ty.Chunk))
+  judged_form c at want (Expr-F.Eval a) = typed_part c ty.Chunk a (suits at want ty.Unit)
+  judged_form c at want (Expr-F.OnRemote a h n r) = typed_part c ty.Chunk a (typed_part c ty.Host h (typed_part c ty.Int n (suits at want ty.Unit)))
+  judged_form c at want (Expr-F.OnNeighbor a h n d) = typed_part c ty.Chunk a (typed_part c ty.Host h (typed_part c ty.Int n (typed_part c ty.Dev d (suits at want ty.Unit))))
 
   mutual
     -- f is told for the first condition that isn't kept, where the next part stands at the place n
@@ -164,7 +164,7 @@ module _ (code : Program) (seen : ℕ) where
 
     -- f is the first refusal of the expression at the place n
     pub data Refused (f : TypeFault) : Ctx → Option Ty → ℕ → Expr → Type 0 where
-      refused : {c : Ctx} {want : Option Ty} {n : ℕ} {e : Expr} → FirstFailing f (behind n 1) (judged c n want (out-Expr e)) → Refused f c want n e
+      refused : {c : Ctx} {want : Option Ty} {n : ℕ} {e : Expr} → FirstFailing f (behind n 1) (judged_form c n want (out-Expr e)) → Refused f c want n e
 
   -- an expression is typed, with its types filled in, or refused
   abbrev pub IsTypedOrRefused : Ctx → Option Ty → ℕ → Expr → Type 0

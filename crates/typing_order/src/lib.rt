@@ -13,7 +13,7 @@ ghost use Rattle.typing_rules.specs.declared.type_fault.TypeFault.TheVariants as
 ghost use Rattle.plan_base.specs.Sizes.{expr_depth};
 ghost use Rattle.plan_base.specs.WellFormed.{IsWellFormedProgram, IsWellFormedChunk, ChunkHasTypes, well_formed_value, value_has_types};
 ghost use Rattle.typing_rules.specs.Typing.{Ctx, Typed};
-ghost use Rattle.typing_rules.specs.TypingOrder.{checked, annotated};
+ghost use Rattle.typing_rules.specs.TypingOrder.{checked_expression, annotated_program};
 ghost use Rattle.typing_rules.specs.TypingFills.{Becomes, Fills};
 ghost use Rattle.typing_order.specs.Judgements.{Refused, IsTypedOrRefused as IsExprTypedOrRefused};
 ghost use Rattle.typing_order.specs.Conditions.{FirstRefusal, IsTypedOrRefused};
@@ -29,7 +29,7 @@ ghost use Rattle.typing_order.specs.Memory.{IllHoldsNoMemory, HoldsNoMemory};
 /// The checking of an expression, to any depth that it keeps, refuses exactly for the first of its conditions that isn't
 /// kept. An expression is typed or has a first refusal, and not both, and it has at most one.
 pub fn expressions_fail_first()
-    ensures first { (code : Program) (seen depth : ℕ) (c : Ctx) (want : Option Ty) (n : ℕ) (e : Expr) (f : TypeFault) → expr_depth e ≤ depth → (checked code depth seen c want e n ≡ Err f) ↔ Refused code seen f c want n e }
+    ensures first { (code : Program) (seen depth : ℕ) (c : Ctx) (want : Option Ty) (n : ℕ) (e : Expr) (f : TypeFault) → expr_depth e ≤ depth → (checked_expression code depth seen c want e n ≡ Err f) ↔ Refused code seen f c want n e }
     ensures some { (code : Program) (seen : ℕ) (c : Ctx) (want : Option Ty) (n : ℕ) (e : Expr) → IsExprTypedOrRefused code seen c want n e }
     ensures apart { (code : Program) (seen : ℕ) (c : Ctx) (want : Option Ty) (n : ℕ) (e d : Expr) (t : Ty) (f : TypeFault) → Becomes code seen c want e d t → Refused code seen f c want n e → ⊥ }
     ensures one { (code : Program) (seen : ℕ) (c : Ctx) (want : Option Ty) (n : ℕ) (e : Expr) (f g : TypeFault) → Refused code seen f c want n e → Refused code seen g c want n e → f ≡ g }
@@ -39,7 +39,7 @@ pub fn expressions_fail_first()
 /// exceptions and functions, its bodies, and its size. It is typed or has a first refusal, and not both, and it has at most
 /// one.
 pub fn programs_fail_first()
-    ensures first { (p : Program) (f : TypeFault) → IsWellFormedProgram p → (annotated p ≡ Err f) ↔ FirstRefusal p f }
+    ensures first { (p : Program) (f : TypeFault) → IsWellFormedProgram p → (annotated_program p ≡ Err f) ↔ FirstRefusal p f }
     ensures some { (p : Program) → IsWellFormedProgram p → IsTypedOrRefused p }
     ensures apart { (p q : Program) (f : TypeFault) → IsWellFormedProgram p → Fills p q → Typed q → FirstRefusal p f → ⊥ }
     ensures one { (p : Program) (f g : TypeFault) → FirstRefusal p f → FirstRefusal p g → f ≡ g }
@@ -47,7 +47,7 @@ pub fn programs_fail_first()
 
 /// No first refusal of a program is `NoMemory`.
 pub fn refusals_hold_no_memory()
-    ensures { (p : Program) (f : TypeFault) → annotated p ≡ Err f → f ≢ fault.NoMemory }
+    ensures { (p : Program) (f : TypeFault) → annotated_program p ≡ Err f → f ≢ fault.NoMemory }
 {}
 
 /// What comes first that is wrong with a chunk, its own size aside, is what is told for the first condition that it doesn't

@@ -94,13 +94,13 @@ pair_of (p ∷ q ∷ []) = Some (p.ty, q.ty)
 pair_of _ = None
 
 -- last of all, a type that differs from the wanted one is refused
-unfoldable pub settled : ℕ → Option Ty → Expr → Ty → Checking Found
-settled at None e t = pure (e, t)
-settled at (Some w) e t = if same_type w t then pure (e, t) else refuse (Mismatch (Node at) w t)
+unfoldable pub settled_type : ℕ → Option Ty → Expr → Ty → Checking Found
+settled_type at None e t = pure (e, t)
+settled_type at (Some w) e t = if same_type w t then pure (e, t) else refuse (Mismatch (Node at) w t)
 
 -- before it, a type that is too deep
 unfoldable pub shallow : ℕ → Option Ty → Expr → Ty → Checking Found
-shallow at want e t = if nat_le (type_depth t) 8 then settled at want e t else refuse (TypeTooDeep (Node at))
+shallow at want e t = if nat_le (type_depth t) 8 then settled_type at want e t else refuse (TypeTooDeep (Node at))
 
 -- the function of that name, wherever it stands
 abbrev pub fun_of : Program → Name → Option Fun
@@ -116,7 +116,7 @@ not_earlier code f at = if is_some (place_of f code.funs) then NotEarlier (Node 
 
 -- a name that was bound
 unfoldable pub variable : Ctx → ℕ → Option Ty → Expr → Name → Checking Found
-variable c at want e v = or_refuse (binding v c) (UnknownName (Node at)) >>= (λ t. settled at want e t)
+variable c at want e v = or_refuse (binding v c) (UnknownName (Node at)) >>= (λ t. settled_type at want e t)
 
 -- an empty list
 unfoldable pub empty : ℕ → Option Ty → Expr → Option Ty → Checking Found
@@ -146,31 +146,31 @@ module _ (code : Program) where
     tuple c at want es = parts c (option_and_then (parts_of (length es)) want) es >>= (λ r. shallow at want (x.Tuple r.0) (ty.Tuple r.1))
 
     unfoldable pub part : Ctx → ℕ → Option Ty → ℕ → Expr → Checking Found
-    part c at want i a = run c None a >>= (λ r. or_refuse (part_in i r.1) (WrongShape (Node at)) >>= (λ t. settled at want (x.Part i r.0) t))
+    part c at want i a = run c None a >>= (λ r. or_refuse (part_in i r.1) (WrongShape (Node at)) >>= (λ t. settled_type at want (x.Part i r.0) t))
 
     -- arguments, each with the type that is wanted of it
     unfoldable pub arguments : Ctx → ℕ → List Ty → List Expr → Checking (List Expr)
     arguments c at wants es = if length es == length wants then parts c (Some wants) es >>= (λ r. pure r.0) else refuse (Arity (Node at))
 
-    unfoldable pub applied : Ctx → ℕ → Option Ty → Name → List Expr → List Ty → Ty → Checking Found
-    applied c at want f es wants t = arguments c at wants es >>= (λ given. settled at want (x.Call f given) t)
+    unfoldable pub applied_call : Ctx → ℕ → Option Ty → Name → List Expr → List Ty → Ty → Checking Found
+    applied_call c at want f es wants t = arguments c at wants es >>= (λ given. settled_type at want (x.Call f given) t)
 
     -- a primitive that takes one list of any type
     unfoldable pub of_items : Ctx → ℕ → Option Ty → Name → Primitive → List Expr → Checking Found
-    of_items c at want f p es = if length es == 1 then parts c None es >>= (λ r. or_refuse (given_of p r.1) (WrongShape (Node at)) >>= (λ t. settled at want (x.Call f r.0) t)) else refuse (Arity (Node at))
+    of_items c at want f p es = if length es == 1 then parts c None es >>= (λ r. or_refuse (given_of p r.1) (WrongShape (Node at)) >>= (λ t. settled_type at want (x.Call f r.0) t)) else refuse (Arity (Node at))
 
     abbrev pub primitive_by : Ctx → ℕ → Option Ty → Name → Primitive → List Expr → Option (List Ty) → Checking Found
-    primitive_by c at want f p es (Some ts) = applied c at want f es ts (makes p)
+    primitive_by c at want f p es (Some ts) = applied_call c at want f es ts (makes p)
     primitive_by c at want f p es None = of_items c at want f p es
 
     unfoldable pub primitive : Ctx → ℕ → Option Ty → Name → Primitive → List Expr → Checking Found
     primitive c at want f p es = primitive_by c at want f p es (takes p)
 
     unfoldable pub function : Ctx → ℕ → Option Ty → Name → List Expr → Checking Found
-    function c at want f es = or_refuse (earlier code seen f) (not_earlier code f at) >>= (λ d. applied c at want f es (param_types d.params) d.result)
+    function c at want f es = or_refuse (earlier code seen f) (not_earlier code f at) >>= (λ d. applied_call c at want f es (param_types d.params) d.result)
 
     abbrev pub service_or : Ctx → ℕ → Option Ty → Name → List Expr → Option Svc → Checking Found
-    service_or c at want f es (Some d) = applied c at want f es d.params d.result
+    service_or c at want f es (Some d) = applied_call c at want f es d.params d.result
     service_or c at want f es None = function c at want f es
 
     abbrev pub primitive_or : Ctx → ℕ → Option Ty → Name → List Expr → Option Primitive → Checking Found
@@ -190,25 +190,25 @@ module _ (code : Program) where
     sequence c want a b = wanting c ty.Unit a >>= (λ first. run c want b >>= (λ r. pure (x.Then first r.0, r.1)))
 
     unfoldable pub both : Ctx → ℕ → Option Ty → Expr → Expr → Checking Found
-    both c at want a b = wanting c ty.Bool a >>= (λ p. wanting c ty.Bool b >>= (λ q. settled at want (x.And p q) ty.Bool))
+    both c at want a b = wanting c ty.Bool a >>= (λ p. wanting c ty.Bool b >>= (λ q. settled_type at want (x.And p q) ty.Bool))
 
     unfoldable pub either : Ctx → ℕ → Option Ty → Expr → Expr → Checking Found
-    either c at want a b = wanting c ty.Bool a >>= (λ p. wanting c ty.Bool b >>= (λ q. settled at want (x.Or p q) ty.Bool))
+    either c at want a b = wanting c ty.Bool a >>= (λ p. wanting c ty.Bool b >>= (λ q. settled_type at want (x.Or p q) ty.Bool))
 
     unfoldable pub negation : Ctx → ℕ → Option Ty → Expr → Checking Found
-    negation c at want a = wanting c ty.Bool a >>= (λ p. settled at want (x.Not p) ty.Bool)
+    negation c at want a = wanting c ty.Bool a >>= (λ p. settled_type at want (x.Not p) ty.Bool)
 
     unfoldable pub calculation : Ctx → ℕ → Option Ty → Op → Expr → Expr → Checking Found
-    calculation c at want o a b = wanting c ty.Int a >>= (λ p. wanting c ty.Int b >>= (λ q. settled at want (x.Binary o p q) ty.Int))
+    calculation c at want o a b = wanting c ty.Int a >>= (λ p. wanting c ty.Int b >>= (λ q. settled_type at want (x.Binary o p q) ty.Int))
 
     unfoldable pub join : Ctx → ℕ → Option Ty → Op → Expr → Expr → Checking Found
-    join c at want o a b = run c None a >>= (λ r. if is_joined r.1 then wanting c r.1 b >>= (λ q. settled at want (x.Binary o r.0 q) r.1) else refuse (WrongShape (Node at)))
+    join c at want o a b = run c None a >>= (λ r. if is_joined r.1 then wanting c r.1 b >>= (λ q. settled_type at want (x.Binary o r.0 q) r.1) else refuse (WrongShape (Node at)))
 
     unfoldable pub comparison : Ctx → ℕ → Option Ty → Op → Expr → Expr → Checking Found
-    comparison c at want o a b = run c None a >>= (λ r. wanting c r.1 b >>= (λ q. settled at want (x.Binary o r.0 q) ty.Bool))
+    comparison c at want o a b = run c None a >>= (λ r. wanting c r.1 b >>= (λ q. settled_type at want (x.Binary o r.0 q) ty.Bool))
 
     unfoldable pub order : Ctx → ℕ → Option Ty → Op → Expr → Expr → Checking Found
-    order c at want o a b = run c None a >>= (λ r. if is_ordered r.1 then wanting c r.1 b >>= (λ q. settled at want (x.Binary o r.0 q) ty.Bool) else refuse (WrongShape (Node at)))
+    order c at want o a b = run c None a >>= (λ r. if is_ordered r.1 then wanting c r.1 b >>= (λ q. settled_type at want (x.Binary o r.0 q) ty.Bool) else refuse (WrongShape (Node at)))
 
     unfoldable pub prefix : Ctx → ℕ → Option Ty → Op → Expr → Expr → Checking Found
     prefix c at want o a b = run c (option_and_then items_of want) a >>= (λ r. wanting c (ty.List r.1) b >>= (λ q. shallow at want (x.Binary o r.0 q) (ty.List r.1)))
@@ -236,67 +236,67 @@ module _ (code : Program) where
     folding at f = or_refuse (earlier code seen f) (not_earlier code f at) >>= (λ d. or_refuse (pair_of d.params) (Arity (Node at)) >>= (λ p. pure (p.0, p.1, d.result)))
 
     unfoldable pub fold_left : Ctx → ℕ → Option Ty → Name → Expr → Expr → Checking Found
-    fold_left c at want f a l = folding at f >>= (λ d. wanting c d.0 a >>= (λ start. wanting c (ty.List d.1) l >>= (λ items. if same_type d.2 d.0 then settled at want (x.Foldl f start items) d.0 else refuse (WrongShape (Node at)))))
+    fold_left c at want f a l = folding at f >>= (λ d. wanting c d.0 a >>= (λ start. wanting c (ty.List d.1) l >>= (λ items. if same_type d.2 d.0 then settled_type at want (x.Foldl f start items) d.0 else refuse (WrongShape (Node at)))))
 
     unfoldable pub fold_right : Ctx → ℕ → Option Ty → Name → Expr → Expr → Checking Found
-    fold_right c at want f a l = folding at f >>= (λ d. wanting c d.1 a >>= (λ start. wanting c (ty.List d.0) l >>= (λ items. if same_type d.2 d.1 then settled at want (x.Foldr f start items) d.1 else refuse (WrongShape (Node at)))))
+    fold_right c at want f a l = folding at f >>= (λ d. wanting c d.1 a >>= (λ start. wanting c (ty.List d.0) l >>= (λ items. if same_type d.2 d.1 then settled_type at want (x.Foldr f start items) d.1 else refuse (WrongShape (Node at)))))
 
     unfoldable pub packing : Ctx → ℕ → Option Ty → Name → List Expr → Checking Found
-    packing c at want f es = or_refuse (fun_of code f) (UnknownName (Node at)) >>= (λ d. arguments c at (param_types d.params) es >>= (λ given. settled at want (x.ChunkOf f given) ty.Chunk))
+    packing c at want f es = or_refuse (fun_of code f) (UnknownName (Node at)) >>= (λ d. arguments c at (param_types d.params) es >>= (λ given. settled_type at want (x.ChunkOf f given) ty.Chunk))
 
     unfoldable pub evaluation : Ctx → ℕ → Option Ty → Expr → Checking Found
-    evaluation c at want a = wanting c ty.Chunk a >>= (λ p. settled at want (x.Eval p) ty.Unit)
+    evaluation c at want a = wanting c ty.Chunk a >>= (λ p. settled_type at want (x.Eval p) ty.Unit)
 
     unfoldable pub remote : Ctx → ℕ → Option Ty → Expr → Expr → Expr → Name → Checking Found
-    remote c at want a h n r = wanting c ty.Chunk a >>= (λ p. wanting c ty.Host h >>= (λ q. wanting c ty.Int n >>= (λ s. settled at want (x.OnRemote p q s r) ty.Unit)))
+    remote c at want a h n r = wanting c ty.Chunk a >>= (λ p. wanting c ty.Host h >>= (λ q. wanting c ty.Int n >>= (λ s. settled_type at want (x.OnRemote p q s r) ty.Unit)))
 
     unfoldable pub neighbour : Ctx → ℕ → Option Ty → Expr → Expr → Expr → Expr → Checking Found
-    neighbour c at want a h n d = wanting c ty.Chunk a >>= (λ p. wanting c ty.Host h >>= (λ q. wanting c ty.Int n >>= (λ s. wanting c ty.Dev d >>= (λ u. settled at want (x.OnNeighbor p q s u) ty.Unit))))
+    neighbour c at want a h n d = wanting c ty.Chunk a >>= (λ p. wanting c ty.Host h >>= (λ q. wanting c ty.Int n >>= (λ s. wanting c ty.Dev d >>= (λ u. settled_type at want (x.OnNeighbor p q s u) ty.Unit))))
 
     -- each form by its own conditions
-    abbrev pub opened : Ctx → ℕ → Option Ty → Expr → ExprLayer → Checking Found
-    opened c at want e Expr-F.Unit = settled at want e ty.Unit
-    opened c at want e (Expr-F.Bool _) = settled at want e ty.Bool
-    opened c at want e (Expr-F.Int _) = settled at want e ty.Int
-    opened c at want e (Expr-F.Char _) = settled at want e ty.Char
-    opened c at want e (Expr-F.Str _) = settled at want e ty.Str
-    opened c at want e (Expr-F.Blob _) = settled at want e ty.Blob
-    opened c at want e (Expr-F.Host _) = settled at want e ty.Host
-    opened c at want e (Expr-F.Dev _) = settled at want e ty.Dev
-    opened c at want e (Expr-F.Nil u) = empty at want e u
-    opened c at want e (Expr-F.Var v) = variable c at want e v
-    opened c at want e (Expr-F.Tuple es) = tuple c at want es
-    opened c at want e (Expr-F.Call f es) = call c at want f es
-    opened c at want e (Expr-F.If a b d) = choice c want a b d
-    opened c at want e (Expr-F.Let n u a b) = binder c want n u a b
-    opened c at want e (Expr-F.Then a b) = sequence c want a b
-    opened c at want e (Expr-F.And a b) = both c at want a b
-    opened c at want e (Expr-F.Or a b) = either c at want a b
-    opened c at want e (Expr-F.Not a) = negation c at want a
-    opened c at want e (Expr-F.Binary o a b) = operation c at want o a b
-    opened c at want e (Expr-F.Part i a) = part c at want i a
-    opened c at want e (Expr-F.Raise n t) = raising at want e n t
-    opened c at want e (Expr-F.Try a ks) = handling c at want a ks
-    opened c at want e (Expr-F.Foldl f a l) = fold_left c at want f a l
-    opened c at want e (Expr-F.Foldr f a l) = fold_right c at want f a l
-    opened c at want e (Expr-F.ChunkOf f es) = packing c at want f es
-    opened c at want e (Expr-F.Eval a) = evaluation c at want a
-    opened c at want e (Expr-F.OnRemote a h n r) = remote c at want a h n r
-    opened c at want e (Expr-F.OnNeighbor a h n d) = neighbour c at want a h n d
+    abbrev pub opened_form : Ctx → ℕ → Option Ty → Expr → ExprLayer → Checking Found
+    opened_form c at want e Expr-F.Unit = settled_type at want e ty.Unit
+    opened_form c at want e (Expr-F.Bool _) = settled_type at want e ty.Bool
+    opened_form c at want e (Expr-F.Int _) = settled_type at want e ty.Int
+    opened_form c at want e (Expr-F.Char _) = settled_type at want e ty.Char
+    opened_form c at want e (Expr-F.Str _) = settled_type at want e ty.Str
+    opened_form c at want e (Expr-F.Blob _) = settled_type at want e ty.Blob
+    opened_form c at want e (Expr-F.Host _) = settled_type at want e ty.Host
+    opened_form c at want e (Expr-F.Dev _) = settled_type at want e ty.Dev
+    opened_form c at want e (Expr-F.Nil u) = empty at want e u
+    opened_form c at want e (Expr-F.Var v) = variable c at want e v
+    opened_form c at want e (Expr-F.Tuple es) = tuple c at want es
+    opened_form c at want e (Expr-F.Call f es) = call c at want f es
+    opened_form c at want e (Expr-F.If a b d) = choice c want a b d
+    opened_form c at want e (Expr-F.Let n u a b) = binder c want n u a b
+    opened_form c at want e (Expr-F.Then a b) = sequence c want a b
+    opened_form c at want e (Expr-F.And a b) = both c at want a b
+    opened_form c at want e (Expr-F.Or a b) = either c at want a b
+    opened_form c at want e (Expr-F.Not a) = negation c at want a
+    opened_form c at want e (Expr-F.Binary o a b) = operation c at want o a b
+    opened_form c at want e (Expr-F.Part i a) = part c at want i a
+    opened_form c at want e (Expr-F.Raise n t) = raising at want e n t
+    opened_form c at want e (Expr-F.Try a ks) = handling c at want a ks
+    opened_form c at want e (Expr-F.Foldl f a l) = fold_left c at want f a l
+    opened_form c at want e (Expr-F.Foldr f a l) = fold_right c at want f a l
+    opened_form c at want e (Expr-F.ChunkOf f es) = packing c at want f es
+    opened_form c at want e (Expr-F.Eval a) = evaluation c at want a
+    opened_form c at want e (Expr-F.OnRemote a h n r) = remote c at want a h n r
+    opened_form c at want e (Expr-F.OnNeighbor a h n d) = neighbour c at want a h n d
 
     -- an expression takes the next number, and its parts the numbers after it
     unfoldable pub expression : Ctx → Option Ty → Expr → Checking Found
-    expression c want e = λ n. opened c n want e (out-Expr e) (next n)
+    expression c want e = λ n. opened_form c n want e (out-Expr e) (next n)
 
   -- An expression of at most `depth`. What is deeper is no well-formed tree; it is refused as too large.
-  unfoldable pub checked : ℕ → ℕ → Ctx → Option Ty → Expr → Checking Found
-  checked zero seen c want e = refuse CodeTooLarge
-  checked (suc depth) seen c want e = expression seen (checked depth seen) c want e
+  unfoldable pub checked_expression : ℕ → ℕ → Ctx → Option Ty → Expr → Checking Found
+  checked_expression zero seen c want e = refuse CodeTooLarge
+  checked_expression (suc depth) seen c want e = expression seen (checked_expression depth seen) c want e
 
   -- the bodies from the first, after those that are done
   unfoldable pub bodies_from : List Fun → List Fun → Checking (List Fun)
   bodies_from done [] = pure done
-  bodies_from done (d ∷ ds) = checked 64 (length done) d.params (Some d.result) d.body >>= (λ r. bodies_from (done ++ record d { body = r.0 } ∷ []) ds)
+  bodies_from done (d ∷ ds) = checked_expression 64 (length done) d.params (Some d.result) d.body >>= (λ r. bodies_from (done ++ record d { body = r.0 } ∷ []) ds)
 
 -- what comes after an answer
 abbrev pub then_by : {A B : Type 0} → Result A TypeFault → (A → Result B TypeFault) → Result B TypeFault
@@ -328,5 +328,5 @@ unfoldable pub sized_program : Program → Result Program TypeFault
 sized_program code = if nat_le (code_size code) 16000 then Ok code else Err CodeTooLarge
 
 -- the program with its types filled in, or the first refusal
-unfoldable pub annotated : Program → Result Program TypeFault
-annotated code = then_by (declarations code) (λ _. then_by (bodies_from code [] code.funs 0) (λ r. sized_program (record code { funs = r.0 })))
+unfoldable pub annotated_program : Program → Result Program TypeFault
+annotated_program code = then_by (declarations code) (λ _. then_by (bodies_from code [] code.funs 0) (λ r. sized_program (record code { funs = r.0 })))

@@ -17,7 +17,7 @@ use Rattle.plan_grammar.specs.declared.fault.Wanted.TheVariants as wanted
 use Rattle.plan_grammar.specs.Ahead.{Front, place, behind, next_kind, is_symbol, is_key}
 use Rattle.plan_grammar.specs.Begins.{kind_type, begins_type}
 use Rattle.plan_grammar.specs.Types.{past}
-use Rattle.grammar_laws.specs.Agenda.{StepOf, expected}
+use Rattle.grammar_laws.specs.Agenda.{StepOf, expected_fault}
 use Rattle.grammar_laws.proofs.Own.{Own, goes_on, expects, expects_at, too_deep, past_own, either, first_own}
 use Rattle.plan_parser.specs.Values.{begins_value, value_of, args_of}
 use Rattle.plan_parser.specs.ReadTexts.{Fails, no_tokens, no_value}

@@ -17,7 +17,7 @@ use Rattle.grammar_laws.proofs.TokenFacts.{room_open}
 use Rattle.grammar_laws.proofs.TypesAre.{left_behind}
 use Rattle.grammar_laws.proofs.TypesRead.{depth_of_lists}
 use Rattle.value_grammar.specs.Agenda.{ValueItem, a_type, lists, first_type, behind_first, next_type, behind_next, sym, enter, hand, type_step, step}
-use Rattle.value_grammar.proofs.Works.{Works, Follows, goes_on, stops, begin, after, given, both, symbol_works}
+use Rattle.value_grammar.proofs.Works.{Works, Follows, goes_on, stops, begin, after, given_works, both, symbol_works}
 
 -- one more `list` is the outermost
 list_of_lists : (n : ℕ) (t : Ty) → ty.List (lists_of n t) ≡ lists_of n (ty.List t)
@@ -45,20 +45,20 @@ module _ (o start end : ℕ) (base : Ty) (more : List ValueItem) where
   abbrev Judge : ℕ → List Token → StepOf ValueItem
   Judge n ts = if nat_lt 8 (type_depth (lists_of n base)) then Err (TooDeep start) else Ok (hand (lists_of n base) more, record { tokens = ts; end = end })
 
-  ended : (n : ℕ) (ts : List Token) → Follows o (Judge n ts) Handed (Ends (n, ts))
+  ended_words_follow : (n : ℕ) (ts : List Token) → Follows o (Judge n ts) Handed (Ends (n, ts))
   unfolding judged_type
-  ended n ts =
+  ended_words_follow n ts =
       subst (λ d. Follows o (if nat_lt 8 d then Err (TooDeep start) else Ok (hand (lists_of n base) more, record { tokens = ts; end = end })) Handed (Ends (n, ts))) (back (depth_of_lists n base)) (go (nat_lt 8 (type_depth base + n)))
     where
       go : (b : Bool)
           → Follows o (if b then Err (TooDeep start) else Ok (hand (lists_of n base) more, record { tokens = ts; end = end })) Handed
           ((if b then Err (TooDeep start) else Ok (lists_of n base)) >>= left_behind (record { tokens = ts; end = end }))
       go true = stops o (TooDeep start) Handed
-      go false = goes_on o (given o Handed (lists_of n base) (record { tokens = ts; end = end }))
+      go false = goes_on o (given_works o Handed (lists_of n base) (record { tokens = ts; end = end }))
 
   words_work : (ts : List Token) (n : ℕ) → Works o (lists start (lists_of n base) ∷ more) (record { tokens = ts; end = end }) Handed (Ends (after_lists n ts))
   unfolding step is_key next_kind behind
-  words_work [] n = begin o (lists start (lists_of n base)) more (record { tokens = []; end = end }) Handed _ (ended n [])
+  words_work [] n = begin o (lists start (lists_of n base)) more (record { tokens = []; end = end }) Handed _ (ended_words_follow n [])
   words_work (t ∷ ts) n = begin o (lists start (lists_of n base)) more (record { tokens = t ∷ ts; end = end }) Handed _ (go (words_work ts (n + 1)) (is_list_word t))
     where
       go : Works o (lists start (lists_of (n + 1) base) ∷ more) (record { tokens = ts; end = end }) Handed (Ends (after_lists (n + 1) ts)) → (b : Bool)
@@ -66,7 +66,7 @@ module _ (o start end : ℕ) (base : Ty) (more : List ValueItem) where
           (Ends (if b then after_lists (n + 1) ts else (n, t ∷ ts)))
       go w true =
           goes_on o (subst (λ u. Works o (lists start u ∷ more) (record { tokens = ts; end = end }) Handed (Ends (after_lists (n + 1) ts))) (back (one_more_list n base)) w)
-      go w false = ended n (t ∷ ts)
+      go w false = ended_words_follow n (t ∷ ts)
 
 module _ (o room : ℕ) (inner : Reader Ty)
     (inside : (r : ℕ) → room ≡ suc r → (more : List ValueItem) (f : Front) → Works o (a_type r ∷ more) f (λ t. hand t more) (inner f)) where
@@ -76,13 +76,13 @@ module _ (o room : ℕ) (inner : Reader Ty)
   unfolding more step
   parts_work r e start rest zero done f =
       let next : List Ty → List ValueItem = λ ts. sym symbols.ParenClose ∷ lists start (ty.Tuple ts) ∷ rest in
-      begin o (behind_next r start 0 done) rest f next _ (both o (is_symbol symbols.Star f) _ _ next _ _ (stops o _ next) (goes_on o (given o next done f)))
+      begin o (behind_next r start 0 done) rest f next _ (both o (is_symbol symbols.Star f) _ _ next _ _ (stops o _ next) (goes_on o (given_works o next done f)))
   parts_work r e start rest (suc left) done f =
       let next : List Ty → List ValueItem = λ ts. sym symbols.ParenClose ∷ lists start (ty.Tuple ts) ∷ rest in
       begin o (behind_next r start (suc left) done) rest f next _ (both o (is_symbol symbols.Star f) _ _ next _ _
       (goes_on o (after o (a_type r ∷ next_type r start left done ∷ rest) (behind f) (λ t. behind_next r start left (done ++ t ∷ []) ∷ rest) next (inner (behind f)) _
       (inside r e (next_type r start left done ∷ rest) (behind f)) (λ t g. parts_work r e start rest left (done ++ t ∷ []) g)))
-      (goes_on o (given o next done f)))
+      (goes_on o (given_works o next done f)))
 
   abbrev Based : ℕ → List ValueItem → Ty → List ValueItem
   Based start more t = lists start t ∷ more
@@ -93,12 +93,12 @@ module _ (o room : ℕ) (inner : Reader Ty)
   tuple_works r e start rest first f =
       after o (behind_next r start 7 (first ∷ []) ∷ rest) f (λ ts. sym symbols.ParenClose ∷ lists start (ty.Tuple ts) ∷ rest) (Based start rest)
       (more inner begins_type symbols.Star limits.Parts wanted.AType 7 (first ∷ []) f) _ (parts_work r e start rest 7 (first ∷ []) f)
-      (λ ts g. symbol_works o symbols.ParenClose (lists start (ty.Tuple ts) ∷ rest) g (Based start rest) _ (given o (Based start rest) (ty.Tuple ts) (behind g)))
+      (λ ts g. symbol_works o symbols.ParenClose (lists start (ty.Tuple ts) ∷ rest) g (Based start rest) _ (given_works o (Based start rest) (ty.Tuple ts) (behind g)))
 
   single_works : (start : ℕ) (rest : List ValueItem) (first : Ty) (f : Front)
       → Works o (sym symbols.ParenClose ∷ lists start first ∷ rest) f (Based start rest) (single_type inner room first f)
   unfolding single_type
-  single_works start rest first f = symbol_works o symbols.ParenClose (lists start first ∷ rest) f (Based start rest) _ (given o (Based start rest) first (behind f))
+  single_works start rest first f = symbol_works o symbols.ParenClose (lists start first ∷ rest) f (Based start rest) _ (given_works o (Based start rest) first (behind f))
 
   behind_first_works : (r : ℕ) → room ≡ suc r → (start : ℕ) (rest : List ValueItem) (first : Ty) (f : Front)
       → Works o (behind_first r start first ∷ rest) f (Based start rest) (if is_symbol symbols.Star f then tuple_type inner room first f else single_type inner room first f)
@@ -116,7 +116,7 @@ module _ (o room : ℕ) (inner : Reader Ty)
       (inside r e (first_type r (place f) ∷ rest) (behind f)) (λ t g. behind_first_works r e (place f) rest t g))
 
   named_works : (rest : List ValueItem) (f : Front) (k : Option Ty) → Follows o (type_step rest f k) (Based (place f) rest) (type_or_fault f k)
-  named_works rest f (Some t) = goes_on o (given o (Based (place f) rest) t (behind f))
+  named_works rest f (Some t) = goes_on o (given_works o (Based (place f) rest) t (behind f))
   named_works rest f None = stops o _ (Based (place f) rest)
 
   base_works : (rest : List ValueItem) (f : Front) → Works o (a_type room ∷ rest) f (Based (place f) rest) (base_type inner room f)

@@ -20,7 +20,7 @@ use Rattle.grammar_laws.proofs.ExprsAre.{comma_shut, comma_shut_list}
 use Rattle.grammar_laws.proofs.Follows.{symbol_here}
 use Rattle.grammar_laws.proofs.TokenFacts.{room_open}
 use Rattle.plan_parser.specs.declared.item.TypedValue.{TypedValue}
-use Rattle.plan_parser.specs.Values.{typed, literal, begins_value, tuple_of, list_of, judged_item, fits, tuple_from, tuple, grouped, parens, like, listing, typed_nil, brackets, value_at, value_to, ended, argument_at, arguments_from, arguments_behind, value_of, args_of}
+use Rattle.plan_parser.specs.Values.{typed_value, literal, begins_value, tuple_of, list_of, judged_item, fits, tuple_from, tuple, grouped_value, parens, like, listing, typed_nil, brackets, value_at, value_to, nothing_follows, argument_at, arguments_from, arguments_behind, value_of, args_of}
 use Rattle.value_grammar.specs.Grammar.{IsLiteral, ValueAt, MoreAt, LikeAt, IsValue, ArgsAt, AreArgs}
 use Rattle.value_grammar.specs.Grammar as gram
 use Rattle.value_grammar.proofs.ValuesRead.{length_values}
@@ -76,14 +76,14 @@ literal_by : (o room : ℕ) (inner : Reader TypedValue) (f : Front) (i : TypedVa
 unfolding value_at is_symbol
 literal_by o room inner f i p = rw (p.no_open, p.no_bracket, p.is) refl
 
-unit_by : (o room : ℕ) (inner : Reader TypedValue) (f : Front) → is_symbol symbols.ParenOpen f ≡ true → is_symbol symbols.ParenClose (behind f) ≡ true → value_at inner o room f ≡ Ok (typed v.Unit ty.Unit, behind2 f)
+unit_by : (o room : ℕ) (inner : Reader TypedValue) (f : Front) → is_symbol symbols.ParenOpen f ≡ true → is_symbol symbols.ParenClose (behind f) ≡ true → value_at inner o room f ≡ Ok (typed_value v.Unit ty.Unit, behind2 f)
 unfolding value_at parens
 unit_by o room inner f a b = rw (a, b) refl
 
 tuple_by : (o q : ℕ) (inner : Reader TypedValue) (f g h : Front) (i : TypedValue) (is : List TypedValue) → is_symbol symbols.ParenOpen f ≡ true → is_symbol symbols.ParenClose (behind f) ≡ false → begins_value (behind f) ≡ true
     → inner (behind f) ≡ Ok (i, g) → is_symbol symbols.Comma g ≡ true → more inner begins_value symbols.Comma limits.Parts wanted.AValue 7 (i ∷ []) g ≡ Ok (is, h) → is_symbol symbols.ParenClose h ≡ true
     → value_at inner o (suc q) f ≡ Ok (tuple_of is, behind h)
-unfolding value_at parens grouped tuple tuple_from need_symbol
+unfolding value_at parens grouped_value tuple tuple_from need_symbol
 tuple_by o q inner f g h i is a b c d e m s = rw (a, b, c, room_open q, d, e, m, s) refl
 
 bracket_no_paren : (f : Front) → Sym symbols.BracketOpen f → is_symbol symbols.ParenOpen f ≡ false
@@ -119,7 +119,7 @@ step o r f x h = h
 mutual
   pub value_is : {o r : ℕ} {f g : Front} {i : TypedValue} → ValueAt o r f i g → o ≤ 1 → value_to o (suc r) f ≡ Ok (i, g)
   value_is {o} {r} {f} (gram.one_token {i = i} l) small = step o r f (i, behind f) (literal_by o r (value_to o r) f i (plain l))
-  value_is {o} {r} {f} (gram.nothing a b) small = step o r f (typed v.Unit ty.Unit, behind2 f) (unit_by o r (value_to o r) f (symbol_here f a) (symbol_here (behind f) b))
+  value_is {o} {r} {f} (gram.nothing a b) small = step o r f (typed_value v.Unit ty.Unit, behind2 f) (unit_by o r (value_to o r) f (symbol_here f a) (symbol_here (behind f) b))
   value_is {o} {f = f} (gram.tuple {r = q} {g = g} {h = h} {i = i} {j = j} {is = is} a d (gram.one_more comma e rest) few b) small =
       let s = starts d in
       step o (suc q) f (tuple_of (i ∷ j ∷ is), behind h)
@@ -151,8 +151,8 @@ mutual
 
 -- ---- a whole value
 
-end_ok : (f : Front) → f.tokens ≡ [] → ended f ≡ Ok tt
-unfolding ended
+end_ok : (f : Front) → f.tokens ≡ [] → nothing_follows f ≡ Ok tt
+unfolding nothing_follows
 end_ok f e = rw e refl
 
 pub value_read : (tokens : List Token) (end : ℕ) (x : Value) → IsValue tokens end x → value_of tokens end ≡ Ok x
@@ -197,7 +197,7 @@ arguments_are {f} (gram.some_args {g = g} {h = h} {i = i} {is = is} a d m few b)
     (some_arguments (behind f) g h i.value (map (λ k. k.value) (i ∷ is)) (argument_is d) (more_arguments_are m 7 (i.value ∷ []) few (comma_shut h b)) (symbol_here h b))
 
 args_by : (tokens : List Token) (end : ℕ) (g : Front) (xs : List Value) → is_symbol symbols.ParenOpen (record { tokens = tokens; end = end }) ≡ true → arguments_behind (behind (record { tokens = tokens; end = end })) ≡ Ok (xs, g)
-    → ended g ≡ Ok tt → args_of tokens end ≡ Ok xs
+    → nothing_follows g ≡ Ok tt → args_of tokens end ≡ Ok xs
 unfolding args_of need_symbol
 args_by tokens end g xs a b c = rw (a, b, c) refl
 

@@ -26,7 +26,7 @@ use Rattle.grammar_laws.proofs.ReadLists.{Added, more_reads}
 use Rattle.grammar_laws.proofs.TypesRead.{types_read}
 use Rattle.grammar_laws.proofs.TokenFacts.{comma_is_no_bracket, room_open}
 use Rattle.plan_parser.specs.declared.item.TypedValue.{TypedValue}
-use Rattle.plan_parser.specs.Values.{typed, literal, literal_from, begins_value, tuple_of, list_of, judged_item, fits, tuple_from, tuple, grouped, parens, like, listing, typed_nil, brackets, value_at, value_to, ended, argument_at, arguments_from, arguments_behind, value_of, args_of}
+use Rattle.plan_parser.specs.Values.{typed_value, literal, literal_from, begins_value, tuple_of, list_of, judged_item, fits, tuple_from, tuple, grouped_value, parens, like, listing, typed_nil, brackets, value_at, value_to, nothing_follows, argument_at, arguments_from, arguments_behind, value_of, args_of}
 use Rattle.value_grammar.specs.Grammar.{IsLiteral, ValueAt, MoreAt, LikeAt, IsValue, ArgsAt, AreArgs}
 use Rattle.value_grammar.specs.Grammar as gram
 
@@ -135,21 +135,21 @@ module _ (o q : ℕ) (small : o ≤ 1) (inner : Reader TypedValue) (ir : Inside 
       (if_symbol (ValueAt o (suc q) f) symbols.Colon (behind f) _ _ (λ colon. nil_reads f here colon)
       (either (ValueAt o (suc q) f) (begins_value (behind f)) _ _ (λ _. listing_reads o q (suc q) inner ir f here) (λ _. refusal_reads (ValueAt o (suc q) f) _)))
 
-  grouped_reads : (f : Front) → Sym symbols.ParenOpen f → Reads (ValueAt o (suc q) f) (grouped inner o (suc q) (place f) (behind f))
-  unfolding grouped
+  grouped_reads : (f : Front) → Sym symbols.ParenOpen f → Reads (ValueAt o (suc q) f) (grouped_value inner o (suc q) (place f) (behind f))
+  unfolding grouped_value
   grouped_reads f here =
       either (ValueAt o (suc q) f) (suc q == 0) _ _ (λ _. refusal_reads (ValueAt o (suc q) f) _)
       (λ _. after (ValueAt o q (behind f)) (ValueAt o (suc q) f) (inner (behind f)) _ (ir (behind f)) (λ first g one. tuple_reads o q (suc q) inner ir f here first g one))
 
 -- what a round bracket begins, by what it groups
-parens_reads : (o room : ℕ) (inner : Reader TypedValue) (f : Front) → Sym symbols.ParenOpen f → Reads (ValueAt o room f) (grouped inner o room (place f) (behind f)) → Reads (ValueAt o room f) (parens inner o room f)
+parens_reads : (o room : ℕ) (inner : Reader TypedValue) (f : Front) → Sym symbols.ParenOpen f → Reads (ValueAt o room f) (grouped_value inner o room (place f) (behind f)) → Reads (ValueAt o room f) (parens inner o room f)
 unfolding parens
 parens_reads o room inner f here k =
-    if_symbol (ValueAt o room f) symbols.ParenClose (behind f) _ _ (λ shut. found_reads (ValueAt o room f) (typed v.Unit ty.Unit) (behind2 f) (gram.nothing here shut))
+    if_symbol (ValueAt o room f) symbols.ParenClose (behind f) _ _ (λ shut. found_reads (ValueAt o room f) (typed_value v.Unit ty.Unit) (behind2 f) (gram.nothing here shut))
     (either (ValueAt o room f) (begins_value (behind f)) _ _ (λ _. k) (λ _. refusal_reads (ValueAt o room f) _))
 
-none_grouped : (o : ℕ) (inner : Reader TypedValue) (f : Front) → Reads (ValueAt o 0 f) (grouped inner o 0 (place f) (behind f))
-unfolding grouped
+none_grouped : (o : ℕ) (inner : Reader TypedValue) (f : Front) → Reads (ValueAt o 0 f) (grouped_value inner o 0 (place f) (behind f))
+unfolding grouped_value
 none_grouped o inner f = refusal_reads (ValueAt o 0 f) _
 
 none_bracketed : (o : ℕ) (inner : Reader TypedValue) (f : Front) → Reads (ValueAt o 0 f) (brackets inner o 0 f)
@@ -181,8 +181,8 @@ abbrev ended_at : Front → Bool → Result (Unit {0}) ParseFault
 ended_at f left = if left then Err (Expected wanted.AValue (place f)) else Ok tt
 
 -- where the end is reached the value is the whole
-ended_is : {A : Type 0} (f : Front) (a b : A) → (ended f >>= λ _. Ok a) ≡ Ok b → (f.tokens ≡ []) × (a ≡ b)
-unfolding ended
+ended_is : {A : Type 0} (f : Front) (a b : A) → (nothing_follows f >>= λ _. Ok a) ≡ Ok b → (f.tokens ≡ []) × (a ≡ b)
+unfolding nothing_follows
 ended_is {A} f a b h = by_rest (nat_lt 0 (length f.tokens)) refl h
   where
     by_rest : (c : Bool) → nat_lt 0 (length f.tokens) ≡ c → ◌≡◌ {A = Result A ParseFault} (ended_at f c >>= λ _. Ok a) (Ok b) → (f.tokens ≡ []) × (a ≡ b)
@@ -193,7 +193,7 @@ pub value_written : (tokens : List Token) (end : ℕ) (x : Value) → value_of t
 unfolding value_of
 value_written tokens end x h = by_answer (value_to 0 8 (record { tokens = tokens; end = end })) refl h
   where
-    by_answer : (r : Result (TypedValue × Front) ParseFault) → value_to 0 8 (record { tokens = tokens; end = end }) ≡ r → (r >>= λ i. ended i.1 >>= λ all. Ok i.0.value) ≡ Ok x → IsValue tokens end x
+    by_answer : (r : Result (TypedValue × Front) ParseFault) → value_to 0 8 (record { tokens = tokens; end = end }) ≡ r → (r >>= λ i. nothing_follows i.1 >>= λ all. Ok i.0.value) ≡ Ok x → IsValue tokens end x
     by_answer (Err e) q k = cc
     by_answer (Ok i) q k =
         let d = what_was_read (ValueAt 0 7 (record { tokens = tokens; end = end })) (value_to 0 8 (record { tokens = tokens; end = end })) i.0 i.1 (values_read 0 (omega arith) 7 (record { tokens = tokens; end = end })) q in
@@ -257,7 +257,7 @@ args_written tokens end xs h = by_open (need_symbol symbols.ParenOpen (record { 
     f = record { tokens = tokens; end = end }
 
     by_args : (o : Unit {0} × Front) → need_symbol symbols.ParenOpen (record { tokens = tokens; end = end }) ≡ Ok o → (r : Result (List Value × Front) ParseFault) → arguments_behind o.1 ≡ r
-        → (r >>= λ args. ended args.1 >>= λ all. Ok args.0) ≡ Ok xs → AreArgs tokens end xs
+        → (r >>= λ args. nothing_follows args.1 >>= λ all. Ok args.0) ≡ Ok xs → AreArgs tokens end xs
     by_args o p (Err e) q k = cc
     by_args o p (Ok a) q k =
         let d = what_was_read (ArgsAt (record { tokens = tokens; end = end })) (need_symbol symbols.ParenOpen (record { tokens = tokens; end = end }) >>= λ u. arguments_behind u.1) a.0 a.1 (all_reads (record { tokens = tokens; end = end }))
@@ -265,6 +265,6 @@ args_written tokens end xs h = by_open (need_symbol symbols.ParenOpen (record { 
         let w = ended_is a.1 a.0 xs k in
         subst (AreArgs tokens end) w.1 (gram.arguments d w.0)
 
-    by_open : (s : Result (Unit {0} × Front) ParseFault) → need_symbol symbols.ParenOpen (record { tokens = tokens; end = end }) ≡ s → (s >>= λ o. arguments_behind o.1 >>= λ args. ended args.1 >>= λ all. Ok args.0) ≡ Ok xs → AreArgs tokens end xs
+    by_open : (s : Result (Unit {0} × Front) ParseFault) → need_symbol symbols.ParenOpen (record { tokens = tokens; end = end }) ≡ s → (s >>= λ o. arguments_behind o.1 >>= λ args. nothing_follows args.1 >>= λ all. Ok args.0) ≡ Ok xs → AreArgs tokens end xs
     by_open (Err e) p k = cc
     by_open (Ok o) p k = by_args o p (arguments_behind o.1) refl k

@@ -17,9 +17,9 @@ use Rattle.plan_grammar.specs.declared.fault.Wanted.TheVariants as wanted
 use Rattle.plan_grammar.specs.Ahead.{Front, Reader, ◌>>=◌, place, behind, next_kind, is_symbol}
 use Rattle.plan_grammar.specs.Types.{more, type_to}
 use Rattle.plan_parser.specs.declared.item.TypedValue.{TypedValue as Read}
-use Rattle.plan_parser.specs.Values.{typed, literal, literal_from, begins_value, tuple_of, list_of, judged_item, fits, tuple_from, tuple, grouped, parens, like, listing, typed_nil, brackets, value_at, value_to, argument_at, arguments_from, arguments_behind}
+use Rattle.plan_parser.specs.Values.{typed_value, literal, literal_from, begins_value, tuple_of, list_of, judged_item, fits, tuple_from, tuple, grouped_value, parens, like, listing, typed_nil, brackets, value_at, value_to, argument_at, arguments_from, arguments_behind}
 use Rattle.value_grammar.specs.Agenda.{ValueItem, sym, a_type, a_value, made, behind_paren, first_part, behind_part, next_part, behind_parts, behind_bracket, element, behind_element, first_item, next_item, behind_item, behind_items, args, more_args, enter, hand, literal_type, literal_step, step}
-use Rattle.value_grammar.proofs.Works.{Works, Follows, goes_on, stops, begin, after, given, both, symbol_works}
+use Rattle.value_grammar.proofs.Works.{Works, Follows, goes_on, stops, begin, after, given_works, both, symbol_works}
 use Rattle.grammar_laws.proofs.TokenFacts.{room_open}
 use Rattle.value_grammar.proofs.TypesWork.{enters, types_work}
 
@@ -40,14 +40,14 @@ module _ (o : ℕ) where
   Inside q inner = (rest : List ValueItem) (f : Front) → Works o (a_value q ∷ rest) f (Hands rest) (inner f)
 
   literal_works : (rest : List ValueItem) (f : Front) (k : Option TokenKind) → Follows o (literal_step rest f (literal_type k)) (Hands rest) (literal_from f (literal k))
-  literal_works rest f (Some (kinds.Int n)) = goes_on o (given o (Hands rest) (typed (v.Int n) ty.Int) (behind f))
-  literal_works rest f (Some (kinds.Host n)) = goes_on o (given o (Hands rest) (typed (v.Host (record { 0 = n })) ty.Host) (behind f))
-  literal_works rest f (Some (kinds.Dev n)) = goes_on o (given o (Hands rest) (typed (v.Dev (record { 0 = n })) ty.Dev) (behind f))
-  literal_works rest f (Some (kinds.Char n)) = goes_on o (given o (Hands rest) (typed (v.Char n) ty.Char) (behind f))
-  literal_works rest f (Some (kinds.Str s)) = goes_on o (given o (Hands rest) (typed (v.Str s) ty.Str) (behind f))
-  literal_works rest f (Some (kinds.Blob b)) = goes_on o (given o (Hands rest) (typed (v.Blob b) ty.Blob) (behind f))
-  literal_works rest f (Some (kinds.Key keys.True)) = goes_on o (given o (Hands rest) (typed (v.Bool true) ty.Bool) (behind f))
-  literal_works rest f (Some (kinds.Key keys.False)) = goes_on o (given o (Hands rest) (typed (v.Bool false) ty.Bool) (behind f))
+  literal_works rest f (Some (kinds.Int n)) = goes_on o (given_works o (Hands rest) (typed_value (v.Int n) ty.Int) (behind f))
+  literal_works rest f (Some (kinds.Host n)) = goes_on o (given_works o (Hands rest) (typed_value (v.Host (record { 0 = n })) ty.Host) (behind f))
+  literal_works rest f (Some (kinds.Dev n)) = goes_on o (given_works o (Hands rest) (typed_value (v.Dev (record { 0 = n })) ty.Dev) (behind f))
+  literal_works rest f (Some (kinds.Char n)) = goes_on o (given_works o (Hands rest) (typed_value (v.Char n) ty.Char) (behind f))
+  literal_works rest f (Some (kinds.Str s)) = goes_on o (given_works o (Hands rest) (typed_value (v.Str s) ty.Str) (behind f))
+  literal_works rest f (Some (kinds.Blob b)) = goes_on o (given_works o (Hands rest) (typed_value (v.Blob b) ty.Blob) (behind f))
+  literal_works rest f (Some (kinds.Key keys.True)) = goes_on o (given_works o (Hands rest) (typed_value (v.Bool true) ty.Bool) (behind f))
+  literal_works rest f (Some (kinds.Key keys.False)) = goes_on o (given_works o (Hands rest) (typed_value (v.Bool false) ty.Bool) (behind f))
   literal_works rest f (Some (kinds.Key _)) = stops o _ (Hands rest)
   literal_works rest f (Some (kinds.Word w)) = stops o _ (Hands rest)
   literal_works rest f (Some (kinds.Part n)) = stops o _ (Hands rest)
@@ -57,7 +57,7 @@ module _ (o : ℕ) where
   -- a value whose end was read hands on its type
   made_works : (rest : List ValueItem) (i : Read) (f : Front) → Works o (made i.ty ∷ rest) f (Hands rest) (Ok (i, f))
   unfolding step
-  made_works rest i f = begin o (made i.ty) rest f (Hands rest) _ (goes_on o (given o (Hands rest) i f))
+  made_works rest i f = begin o (made i.ty) rest f (Hands rest) _ (goes_on o (given_works o (Hands rest) i f))
 
   module _ (q : ℕ) (inner : Reader Read) (inside : Inside q inner) where
     -- ---- tuples
@@ -67,14 +67,14 @@ module _ (o : ℕ) where
     unfolding more step
     parts_work rest zero done f =
         let next : List Read → List ValueItem = λ is. sym symbols.ParenClose ∷ made (ty.Tuple (types_of is)) ∷ rest in
-        begin o (behind_parts q 0 (types_of done)) rest f next _ (both o (is_symbol symbols.Comma f) _ _ next _ _ (stops o _ next) (goes_on o (given o next done f)))
+        begin o (behind_parts q 0 (types_of done)) rest f next _ (both o (is_symbol symbols.Comma f) _ _ next _ _ (stops o _ next) (goes_on o (given_works o next done f)))
     parts_work rest (suc left) done f =
         let next : List Read → List ValueItem = λ is. sym symbols.ParenClose ∷ made (ty.Tuple (types_of is)) ∷ rest in
         begin o (behind_parts q (suc left) (types_of done)) rest f next _ (both o (is_symbol symbols.Comma f) _ _ next _ _
         (goes_on o (after o (a_value q ∷ next_part q left (types_of done) ∷ rest) (behind f) (λ i. behind_parts q left (types_of done ++ i.ty ∷ []) ∷ rest) next (inner (behind f)) _
         (inside (next_part q left (types_of done) ∷ rest) (behind f))
         (λ i g. subst (λ ts. Works o (behind_parts q left ts ∷ rest) g next (more inner begins_value symbols.Comma limits.Parts wanted.AValue left (done ++ i ∷ []) g)) (one_more_type done i) (parts_work rest left (done ++ i ∷ []) g))))
-        (goes_on o (given o next done f)))
+        (goes_on o (given_works o next done f)))
 
     tuple_from_works : (room : ℕ) (rest : List ValueItem) (first : Read) (f : Front) → Works o (behind_parts q 7 (first.ty ∷ []) ∷ rest) f (Hands rest) (tuple_from inner o room first f)
     unfolding tuple_from
@@ -96,20 +96,20 @@ module _ (o : ℕ) where
     like_works room rest left u f =
         let next : Value → List ValueItem = λ _. behind_items q left u ∷ rest in
         after o (a_value q ∷ next_item q left u (place f) ∷ rest) f (λ i. behind_item q left u (place f) i.ty ∷ rest) next (inner f) _ (inside (next_item q left u (place f) ∷ rest) f)
-        (λ i g. begin o (behind_item q left u (place f) i.ty) rest g next _ (both o (same_type i.ty u) _ _ next _ _ (goes_on o (given o next i.value g)) (stops o _ next)))
+        (λ i g. begin o (behind_item q left u (place f) i.ty) rest g next _ (both o (same_type i.ty u) _ _ next _ _ (goes_on o (given_works o next i.value g)) (stops o _ next)))
 
     items_work : (room : ℕ) (rest : List ValueItem) (u : Ty) (left : ℕ) (done : List Value) (f : Front)
         → Works o (behind_items q left u ∷ rest) f (λ _. sym symbols.BracketClose ∷ made (ty.List u) ∷ rest) (more (like inner o room u) begins_value symbols.Comma limits.Items wanted.AValue left done f)
     unfolding more step
     items_work room rest u zero done f =
         let next : List Value → List ValueItem = λ _. sym symbols.BracketClose ∷ made (ty.List u) ∷ rest in
-        begin o (behind_items q 0 u) rest f next _ (both o (is_symbol symbols.Comma f) _ _ next _ _ (stops o _ next) (goes_on o (given o next done f)))
+        begin o (behind_items q 0 u) rest f next _ (both o (is_symbol symbols.Comma f) _ _ next _ _ (stops o _ next) (goes_on o (given_works o next done f)))
     items_work room rest u (suc left) done f =
         let next : List Value → List ValueItem = λ _. sym symbols.BracketClose ∷ made (ty.List u) ∷ rest in
         begin o (behind_items q (suc left) u) rest f next _ (both o (is_symbol symbols.Comma f) _ _ next _ _
         (goes_on o (after o (a_value q ∷ next_item q left u (place (behind f)) ∷ rest) (behind f) (λ _. behind_items q left u ∷ rest) next (like inner o room u (behind f)) _ (like_works room rest left u (behind f))
         (λ x g. items_work room rest u left (done ++ x ∷ []) g)))
-        (goes_on o (given o next done f)))
+        (goes_on o (given_works o next done f)))
 
     listing_works : (room : ℕ) (rest : List ValueItem) (f : Front) → Works o (a_value q ∷ first_item q ∷ rest) f (Hands rest) (listing inner o room f)
     unfolding listing
@@ -152,16 +152,16 @@ module _ (o : ℕ) where
 
   -- what a round bracket begins, by what it groups
   parens_works : (room : ℕ) (inner : Reader Read) (rest : List ValueItem) (f : Front)
-      → Follows o (enter room (place f) (λ q. a_value q ∷ first_part q ∷ rest) (behind f)) (Hands rest) (grouped inner o room (place f) (behind f))
+      → Follows o (enter room (place f) (λ q. a_value q ∷ first_part q ∷ rest) (behind f)) (Hands rest) (grouped_value inner o room (place f) (behind f))
       → Works o (behind_paren room (place f) ∷ rest) (behind f) (Hands rest) (parens inner o room f)
   unfolding parens step
   parens_works room inner rest f k =
       begin o (behind_paren room (place f)) rest (behind f) (Hands rest) _
-      (both o (is_symbol symbols.ParenClose (behind f)) _ _ (Hands rest) _ _ (goes_on o (given o (Hands rest) (typed v.Unit ty.Unit) (behind (behind f))))
+      (both o (is_symbol symbols.ParenClose (behind f)) _ _ (Hands rest) _ _ (goes_on o (given_works o (Hands rest) (typed_value v.Unit ty.Unit) (behind (behind f))))
       (both o (begins_value (behind f)) _ _ (Hands rest) _ _ k (stops o _ (Hands rest))))
 
   value_works_by : (room : ℕ) (inner : Reader Read) (rest : List ValueItem) (f : Front)
-      → Follows o (enter room (place f) (λ q. a_value q ∷ first_part q ∷ rest) (behind f)) (Hands rest) (grouped inner o room (place f) (behind f))
+      → Follows o (enter room (place f) (λ q. a_value q ∷ first_part q ∷ rest) (behind f)) (Hands rest) (grouped_value inner o room (place f) (behind f))
       → Follows o (enter room (place f) (λ q. behind_bracket q (place f) ∷ rest) (behind f)) (Hands rest) (brackets inner o room f)
       → Works o (a_value room ∷ rest) f (Hands rest) (value_at inner o room f)
   unfolding value_at step
@@ -170,13 +170,13 @@ module _ (o : ℕ) where
       (both o (is_symbol symbols.ParenOpen f) _ _ (Hands rest) _ _ (goes_on o (parens_works room inner rest f k))
       (both o (is_symbol symbols.BracketOpen f) _ _ (Hands rest) _ _ l (literal_works rest f (next_kind f))))
 
-  none_grouped : (inner : Reader Read) (rest : List ValueItem) (f : Front) → Follows o (Err (TooDeep (place f))) (Hands rest) (grouped inner o 0 (place f) (behind f))
-  unfolding grouped
+  none_grouped : (inner : Reader Read) (rest : List ValueItem) (f : Front) → Follows o (Err (TooDeep (place f))) (Hands rest) (grouped_value inner o 0 (place f) (behind f))
+  unfolding grouped_value
   none_grouped inner rest f = stops o _ (Hands rest)
 
   some_grouped : (q : ℕ) (inner : Reader Read) → Inside q inner → (rest : List ValueItem) (f : Front)
-      → Follows o (Ok (a_value q ∷ first_part q ∷ rest, behind f)) (Hands rest) (grouped inner o (suc q) (place f) (behind f))
-  unfolding grouped
+      → Follows o (Ok (a_value q ∷ first_part q ∷ rest, behind f)) (Hands rest) (grouped_value inner o (suc q) (place f) (behind f))
+  unfolding grouped_value
   some_grouped q inner inside rest f = rw (room_open q) (goes_on o (grouped_works q inner inside (place f) rest (behind f)))
 
   none_bracketed : (inner : Reader Read) (rest : List ValueItem) (f : Front) → Follows o (enter 0 (place f) (λ q. behind_bracket q (place f) ∷ rest) (behind f)) (Hands rest) (brackets inner o 0 f)
@@ -206,20 +206,20 @@ argument_works : (left : ℕ) (rest : List ValueItem) (f : Front) → Works 1 (a
 unfolding argument_at
 argument_works left rest f =
     let next : Value → List ValueItem = λ _. more_args left ∷ rest in
-    after 1 (a_value 7 ∷ more_args left ∷ rest) f (λ i. hand i.ty (more_args left ∷ rest)) next (value_to 1 8 f) _ (values_work 1 (omega arith) 7 (more_args left ∷ rest) f) (λ i g. given 1 next i.value g)
+    after 1 (a_value 7 ∷ more_args left ∷ rest) f (λ i. hand i.ty (more_args left ∷ rest)) next (value_to 1 8 f) _ (values_work 1 (omega arith) 7 (more_args left ∷ rest) f) (λ i g. given_works 1 next i.value g)
 
 more_arguments_work : (rest : List ValueItem) (left : ℕ) (done : List Value) (f : Front)
     → Works 1 (more_args left ∷ rest) f (λ _. rest) (more argument_at begins_value symbols.Comma limits.Arguments wanted.AValue left done f)
 unfolding more step
 more_arguments_work rest zero done f =
     let next : List Value → List ValueItem = λ _. rest in
-    begin 1 (more_args 0) rest f next _ (both 1 (is_symbol symbols.Comma f) _ _ next _ _ (stops 1 _ next) (goes_on 1 (given 1 next done f)))
+    begin 1 (more_args 0) rest f next _ (both 1 (is_symbol symbols.Comma f) _ _ next _ _ (stops 1 _ next) (goes_on 1 (given_works 1 next done f)))
 more_arguments_work rest (suc left) done f =
     let next : List Value → List ValueItem = λ _. rest in
     begin 1 (more_args (suc left)) rest f next _ (both 1 (is_symbol symbols.Comma f) _ _ next _ _
     (goes_on 1 (after 1 (a_value 7 ∷ more_args left ∷ rest) (behind f) (λ _. more_args left ∷ rest) next (argument_at (behind f)) _ (argument_works left rest (behind f))
     (λ x g. more_arguments_work rest left (done ++ x ∷ []) g)))
-    (goes_on 1 (given 1 next done f)))
+    (goes_on 1 (given_works 1 next done f)))
 
 some_arguments_work : (rest : List ValueItem) (f : Front) → Works 1 (a_value 7 ∷ more_args 7 ∷ sym symbols.ParenClose ∷ rest) f (λ _. rest) (arguments_from f)
 unfolding arguments_from
@@ -228,11 +228,11 @@ some_arguments_work rest f =
     after 1 (a_value 7 ∷ more_args 7 ∷ sym symbols.ParenClose ∷ rest) f (λ _. more_args 7 ∷ sym symbols.ParenClose ∷ rest) next (argument_at f) _ (argument_works 7 (sym symbols.ParenClose ∷ rest) f)
     (λ x g. after 1 (more_args 7 ∷ sym symbols.ParenClose ∷ rest) g (λ _. sym symbols.ParenClose ∷ rest) next (more argument_at begins_value symbols.Comma limits.Arguments wanted.AValue 7 (x ∷ []) g) _
     (more_arguments_work (sym symbols.ParenClose ∷ rest) 7 (x ∷ []) g)
-    (λ xs h. symbol_works 1 symbols.ParenClose rest h next _ (given 1 next xs (behind h))))
+    (λ xs h. symbol_works 1 symbols.ParenClose rest h next _ (given_works 1 next xs (behind h))))
 
 pub arguments_work : (rest : List ValueItem) (f : Front) → Works 1 (args ∷ rest) f (λ _. rest) (arguments_behind f)
 unfolding arguments_behind step
 arguments_work rest f =
     let next : List Value → List ValueItem = λ _. rest in
-    begin 1 args rest f next _ (both 1 (is_symbol symbols.ParenClose f) _ _ next _ _ (goes_on 1 (given 1 next [] (behind f)))
+    begin 1 args rest f next _ (both 1 (is_symbol symbols.ParenClose f) _ _ next _ _ (goes_on 1 (given_works 1 next [] (behind f)))
     (both 1 (begins_value f) _ _ next _ _ (goes_on 1 (some_arguments_work rest f)) (stops 1 _ next)))

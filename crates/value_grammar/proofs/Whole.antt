@@ -12,7 +12,7 @@ use Rattle.plan_grammar.specs.Ahead.{Front, ◌>>=◌, place, behind, need_symbo
 use Rattle.grammar_laws.proofs.Ends.{nowhere, to_end, None_left, as_refused, refused_as}
 use Rattle.plan_parser.specs.declared.value_fault.ValueFault.{ValueFault}
 use Rattle.plan_parser.specs.declared.value_fault.ValueFault.TheVariants as faults
-use Rattle.plan_parser.specs.Values.{value_to, ended, arguments_behind, value_of, args_of}
+use Rattle.plan_parser.specs.Values.{value_to, nothing_follows, arguments_behind, value_of, args_of}
 use Rattle.plan_parser.specs.ReadTexts.{Fails, no_tokens, no_value}
 use Rattle.value_grammar.specs.Grammar.{IsValue, AreArgs}
 use Rattle.value_grammar.proofs.ValuesRead.{value_written, args_written}
@@ -22,9 +22,9 @@ use Rattle.value_grammar.specs.Refusals.{FirstValueRefusal, FirstArgsRefusal, Is
 use Rattle.value_grammar.proofs.Works.{Works, Follows, goes_on, stops, begin, after, symbol_works, refuses_first}
 use Rattle.value_grammar.proofs.ValuesWork.{values_work, arguments_work}
 
-turned : {A B : Type 0} (r : Result A ParseFault) (h : A → Result B ParseFault) → (r >>= λ x. to_end (h x)) ≡ to_end (r >>= h)
-turned (Ok x) h = refl
-turned (Err e) h = refl
+end_passes_bind : {A B : Type 0} (r : Result A ParseFault) (h : A → Result B ParseFault) → (r >>= λ x. to_end (h x)) ≡ to_end (r >>= h)
+end_passes_bind (Ok x) h = refl
+end_passes_bind (Err e) h = refl
 
 -- whether something is left
 abbrev ended_by : Front → Bool → Result (Unit {0}) ParseFault
@@ -34,8 +34,8 @@ module _ {A : Type 0} (o : ℕ) where
   at_end : (x : A) (f : Front) → Works o [] f None_left (Ok (x, nowhere))
   at_end x f = record { works = λ e. (λ h. absurd (no_fault (step o) h), λ h. absurd (no_fault (step o) h)) }
 
-  ended_works : (x : A) (f : Front) → Works o (the_end ∷ []) f None_left (to_end (ended f >>= λ _. Ok x))
-  unfolding ended step
+  ended_works : (x : A) (f : Front) → Works o (the_end ∷ []) f None_left (to_end (nothing_follows f >>= λ _. Ok x))
+  unfolding nothing_follows step
   ended_works x f = begin o the_end [] f None_left _ (go (nat_lt 0 (length f.tokens)))
     where
       go : (b : Bool) → Follows o (if b then Err (Expected wanted.AValue (place f)) else Ok ([], f)) (None_left {A = A}) (to_end (ended_by f b >>= λ _. Ok x))
@@ -49,17 +49,17 @@ module _ (tokens : List Token) (end : ℕ) where
   value_works : Works 0 (a_value 7 ∷ the_end ∷ []) start None_left (to_end (value_of tokens end))
   unfolding value_of
   value_works =
-      subst (λ r. Works 0 (a_value 7 ∷ the_end ∷ []) start (None_left {A = Value}) r) (turned (value_to 0 8 start) (λ i. ended i.1 >>= λ _. Ok i.0.value))
-      (after 0 (a_value 7 ∷ the_end ∷ []) start (λ i. hand i.ty (the_end ∷ [])) None_left (value_to 0 8 start) (λ i. to_end (ended i.1 >>= λ _. Ok i.0.value)) (values_work 0 (omega arith) 7 (the_end ∷ []) start)
+      subst (λ r. Works 0 (a_value 7 ∷ the_end ∷ []) start (None_left {A = Value}) r) (end_passes_bind (value_to 0 8 start) (λ i. nothing_follows i.1 >>= λ _. Ok i.0.value))
+      (after 0 (a_value 7 ∷ the_end ∷ []) start (λ i. hand i.ty (the_end ∷ [])) None_left (value_to 0 8 start) (λ i. to_end (nothing_follows i.1 >>= λ _. Ok i.0.value)) (values_work 0 (omega arith) 7 (the_end ∷ []) start)
       (λ i g. ended_works 0 i.value g))
 
   args_work : Works 1 (sym symbols.ParenOpen ∷ args ∷ the_end ∷ []) start None_left (to_end (args_of tokens end))
   unfolding args_of
   args_work =
-      subst (λ r. Works 1 (sym symbols.ParenOpen ∷ args ∷ the_end ∷ []) start (None_left {A = List Value}) r) (turned (need_symbol symbols.ParenOpen start) (λ u. arguments_behind u.1 >>= λ xs. ended xs.1 >>= λ _. Ok xs.0))
-      (symbol_works 1 symbols.ParenOpen (args ∷ the_end ∷ []) start None_left (λ u. to_end (arguments_behind u.1 >>= λ xs. ended xs.1 >>= λ _. Ok xs.0))
-      (subst (λ r. Works 1 (args ∷ the_end ∷ []) (behind start) (None_left {A = List Value}) r) (turned (arguments_behind (behind start)) (λ xs. ended xs.1 >>= λ _. Ok xs.0))
-      (after 1 (args ∷ the_end ∷ []) (behind start) (λ _. the_end ∷ []) None_left (arguments_behind (behind start)) (λ xs. to_end (ended xs.1 >>= λ _. Ok xs.0)) (arguments_work (the_end ∷ []) (behind start))
+      subst (λ r. Works 1 (sym symbols.ParenOpen ∷ args ∷ the_end ∷ []) start (None_left {A = List Value}) r) (end_passes_bind (need_symbol symbols.ParenOpen start) (λ u. arguments_behind u.1 >>= λ xs. nothing_follows xs.1 >>= λ _. Ok xs.0))
+      (symbol_works 1 symbols.ParenOpen (args ∷ the_end ∷ []) start None_left (λ u. to_end (arguments_behind u.1 >>= λ xs. nothing_follows xs.1 >>= λ _. Ok xs.0))
+      (subst (λ r. Works 1 (args ∷ the_end ∷ []) (behind start) (None_left {A = List Value}) r) (end_passes_bind (arguments_behind (behind start)) (λ xs. nothing_follows xs.1 >>= λ _. Ok xs.0))
+      (after 1 (args ∷ the_end ∷ []) (behind start) (λ _. the_end ∷ []) None_left (arguments_behind (behind start)) (λ xs. to_end (nothing_follows xs.1 >>= λ _. Ok xs.0)) (arguments_work (the_end ∷ []) (behind start))
       (λ xs g. ended_works 1 xs g))))
 
   -- a value is refused exactly with the first refusal, and so are arguments

@@ -45,8 +45,8 @@ module _ (o : ℕ) where
   after now f mid next (Ok x) h k more = record { works = through (step o) now f (mid x.0) x.1 next (h x) k.works (more x.0 x.1).works }
   after now f mid next (Err e) h k more = record { works = k.works }
 
-  pub given : {A : Type 0} (next : A → List ValueItem) (x : A) (g : Front) → Works (next x) g next (Ok (x, g))
-  given next x g = record { works = λ e. (λ h. h, λ h. h) }
+  pub given_works : {A : Type 0} (next : A → List ValueItem) (x : A) (g : Front) → Works (next x) g next (Ok (x, g))
+  given_works next x g = record { works = λ e. (λ h. h, λ h. h) }
 
   -- a step and a reading that ask the same
   pub both : {A : Type 0} (b : Bool) (s t : StepOf ValueItem) (next : A → List ValueItem) (won lost : Result (A × Front) ParseFault)

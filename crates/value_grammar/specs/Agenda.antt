@@ -17,7 +17,7 @@ use Rattle.plan_grammar.specs.declared.fault.Wanted.TheVariants as wanted
 use Rattle.plan_grammar.specs.Ahead.{Front, place, behind, next_kind, is_symbol, is_key}
 use Rattle.plan_grammar.specs.Begins.{kind_type, begins_type}
 use Rattle.plan_grammar.specs.Types.{past}
-use Rattle.grammar_laws.specs.Agenda.{StepOf, expected}
+use Rattle.grammar_laws.specs.Agenda.{StepOf, expected_fault}
 use Rattle.plan_parser.specs.Values.{begins_value}
 
 -- What must be read. Of lists and tuples r more may stand inside each other, or q inside the one that is open; `left` more
@@ -90,15 +90,15 @@ literal_type _ = None
 -- one token that is a type or a value
 abbrev pub type_step : List ValueItem → Front → Option Ty → StepOf ValueItem
 type_step more f (Some t) = Ok (lists (place f) t ∷ more, behind f)
-type_step more f None = expected wanted.AType f
+type_step more f None = expected_fault wanted.AType f
 
 abbrev pub literal_step : List ValueItem → Front → Option Ty → StepOf ValueItem
 literal_step more f (Some t) = Ok (hand t more, behind f)
-literal_step more f None = expected wanted.AValue f
+literal_step more f None = expected_fault wanted.AValue f
 
 -- what is read from the first item, where so many brackets are open around the whole value
 unfoldable pub step : ℕ → ValueItem → List ValueItem → Front → StepOf ValueItem
-step o (sym w) more f = if is_symbol w f then Ok (more, behind f) else expected (wanted.Symbol w) f
+step o (sym w) more f = if is_symbol w f then Ok (more, behind f) else expected_fault (wanted.Symbol w) f
 step o (a_type r) more f =
     if is_symbol symbols.ParenOpen f then enter r (place f) (λ q. a_type q ∷ first_type q (place f) ∷ more) (behind f) else type_step more f (kind_type (next_kind f))
 step o (lists start t) more f =
@@ -119,8 +119,8 @@ step o (made t) more f = Ok (hand t more, f)
 step o (behind_paren r at) more f =
     if is_symbol symbols.ParenClose f then Ok (hand ty.Unit more, behind f)
     else if begins_value f then enter r at (λ q. a_value q ∷ first_part q ∷ more) f
-    else expected (wanted.Symbol symbols.ParenClose) f
-step o (behind_part q t) more f = if is_symbol symbols.Comma f then Ok (behind_parts q 7 (t ∷ []) ∷ more, f) else expected (wanted.Symbol symbols.Comma) f
+    else expected_fault (wanted.Symbol symbols.ParenClose) f
+step o (behind_part q t) more f = if is_symbol symbols.Comma f then Ok (behind_parts q 7 (t ∷ []) ∷ more, f) else expected_fault (wanted.Symbol symbols.Comma) f
 step o (behind_parts q zero ts) more f =
     if is_symbol symbols.Comma f then Err (past begins_value limits.Parts wanted.AValue (behind f)) else Ok (sym symbols.ParenClose ∷ made (ty.Tuple ts) ∷ more, f)
 step o (behind_parts q (suc left) ts) more f =
@@ -128,7 +128,7 @@ step o (behind_parts q (suc left) ts) more f =
 step o (behind_bracket q at) more f =
     if is_symbol symbols.Colon f then Ok (a_type (153 + q - o) ∷ element q at ∷ more, behind f)
     else if begins_value f then Ok (a_value q ∷ first_item q ∷ more, f)
-    else expected wanted.AValue f
+    else expected_fault wanted.AValue f
 step o (behind_element q at t) more f = if nat_lt (suc q) (type_depth t) then Err (TooDeep at) else Ok (sym symbols.BracketClose ∷ made (ty.List t) ∷ more, f)
 step o (behind_item q left u at t) more f = if same_type t u then Ok (behind_items q left u ∷ more, f) else Err (Expected wanted.AValue at)
 step o (behind_items q zero u) more f =
@@ -138,8 +138,8 @@ step o (behind_items q (suc left) u) more f =
 step o args more f =
     if is_symbol symbols.ParenClose f then Ok (more, behind f)
     else if begins_value f then Ok (a_value 7 ∷ more_args 7 ∷ sym symbols.ParenClose ∷ more, f)
-    else expected (wanted.Symbol symbols.ParenClose) f
+    else expected_fault (wanted.Symbol symbols.ParenClose) f
 step o (more_args zero) more f = if is_symbol symbols.Comma f then Err (past begins_value limits.Arguments wanted.AValue (behind f)) else Ok (more, f)
 step o (more_args (suc left)) more f = if is_symbol symbols.Comma f then Ok (a_value 7 ∷ more_args left ∷ more, behind f) else Ok (more, f)
-step o the_end more f = if nat_lt 0 (length f.tokens) then expected wanted.AValue f else Ok (more, f)
+step o the_end more f = if nat_lt 0 (length f.tokens) then expected_fault wanted.AValue f else Ok (more, f)
 step o _ more f = Ok (more, f)

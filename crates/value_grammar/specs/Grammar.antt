@@ -15,24 +15,24 @@ use Rattle.plan_lexer.specs.declared.token.Symbol.TheVariants as symbols
 use Rattle.plan_grammar.specs.Ahead.{Front, behind, next_kind}
 use Rattle.grammar_laws.specs.Grammar.{Sym, TypeAt, behind2}
 use Rattle.plan_parser.specs.declared.item.TypedValue.{TypedValue}
-use Rattle.plan_parser.specs.Values.{typed, tuple_of, list_of}
+use Rattle.plan_parser.specs.Values.{typed_value, tuple_of, list_of}
 
 -- a value that one token is
 pub data IsLiteral : Option TokenKind → TypedValue → Type 0 where
-  truth : IsLiteral (Some (kinds.Key keys.True)) (typed (v.Bool true) ty.Bool)
-  falsehood : IsLiteral (Some (kinds.Key keys.False)) (typed (v.Bool false) ty.Bool)
-  int : (z : ℤ) → IsLiteral (Some (kinds.Int z)) (typed (v.Int z) ty.Int)
-  host : (n : ℕ) → IsLiteral (Some (kinds.Host n)) (typed (v.Host (record { 0 = n })) ty.Host)
-  dev : (n : ℕ) → IsLiteral (Some (kinds.Dev n)) (typed (v.Dev (record { 0 = n })) ty.Dev)
-  char : (c : ℕ) → IsLiteral (Some (kinds.Char c)) (typed (v.Char c) ty.Char)
-  str : (s : List ℕ) → IsLiteral (Some (kinds.Str s)) (typed (v.Str s) ty.Str)
-  blob : (b : List ℕ) → IsLiteral (Some (kinds.Blob b)) (typed (v.Blob b) ty.Blob)
+  truth : IsLiteral (Some (kinds.Key keys.True)) (typed_value (v.Bool true) ty.Bool)
+  falsehood : IsLiteral (Some (kinds.Key keys.False)) (typed_value (v.Bool false) ty.Bool)
+  int : (z : ℤ) → IsLiteral (Some (kinds.Int z)) (typed_value (v.Int z) ty.Int)
+  host : (n : ℕ) → IsLiteral (Some (kinds.Host n)) (typed_value (v.Host (record { 0 = n })) ty.Host)
+  dev : (n : ℕ) → IsLiteral (Some (kinds.Dev n)) (typed_value (v.Dev (record { 0 = n })) ty.Dev)
+  char : (c : ℕ) → IsLiteral (Some (kinds.Char c)) (typed_value (v.Char c) ty.Char)
+  str : (s : List ℕ) → IsLiteral (Some (kinds.Str s)) (typed_value (v.Str s) ty.Str)
+  blob : (b : List ℕ) → IsLiteral (Some (kinds.Blob b)) (typed_value (v.Blob b) ty.Blob)
 
 mutual
   pub data ValueAt : ℕ → ℕ → Front → TypedValue → Front → Type 0 where
     -- literal | ( ) | ( value , value { , value } ), of at most 8 parts
     one_token : {o r : ℕ} {f : Front} {i : TypedValue} → IsLiteral (next_kind f) i → ValueAt o r f i (behind f)
-    nothing : {o r : ℕ} {f : Front} → Sym symbols.ParenOpen f → Sym symbols.ParenClose (behind f) → ValueAt o r f (typed v.Unit ty.Unit) (behind2 f)
+    nothing : {o r : ℕ} {f : Front} → Sym symbols.ParenOpen f → Sym symbols.ParenClose (behind f) → ValueAt o r f (typed_value v.Unit ty.Unit) (behind2 f)
     tuple : {o r : ℕ} {f g h : Front} {i j : TypedValue} {is : List TypedValue}
         → Sym symbols.ParenOpen f → ValueAt o r (behind f) i g → MoreAt o r g (j ∷ is) h → length (j ∷ is) ≤ 7 → Sym symbols.ParenClose h
         → ValueAt o (suc r) f (tuple_of (i ∷ j ∷ is)) (behind h)

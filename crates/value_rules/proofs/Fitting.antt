@@ -12,7 +12,7 @@ use Rattle.plan_base.specs.Trees.{ValueLayer}
 use Rattle.typing_rules.specs.Typing.{HasType, bool, int, str, blob, list, HaveTypes, no_values, and_value, AllHaveType, and_item}
 use Rattle.typing_rules.specs.TypingNames.{OpKind, of_list, takes, makes, kind_of, arithmetic, joining, equality, ordering, listing, is_joined, is_joined_at, is_ordered, is_ordered_at, part_of}
 use Rattle.value_rules.specs.Rules as rules
-use Rattle.value_rules.specs.Rules.{Given, gives, raises, unfit, bounded, divided, remainder, computed, numbers, before, answered_truth, limited, joined_values, put_first, binary, found_value, part, first_item, later_items, blob_part, of_one, of_three, primitive, too_large}
+use Rattle.value_rules.specs.Rules.{Given, gives, raises, unfit, bounded_number, divided_number, remainder, computed_number, numbers, before, answered_truth, limited_value, joined_values, put_first, binary, found_value, part, first_item, later_items, blob_part, of_one, of_three, primitive, too_large}
 use Rattle.value_rules.specs.Same.{same_value}
 use Rattle.value_rules.specs.Typed.{OperatorTakes, KindTakes, PrimitiveTakes, fixed, any_list, Fits}
 use Rattle.value_rules.proofs.Shapes.{Shape, shape_of, shape_at}
@@ -27,20 +27,20 @@ a_bool b = bool b (value.outs-Bool b) refl
 an_int : (n : ℤ) → HasType (value.Int n) ty.Int
 an_int n = int n (value.outs-Int n) refl
 
-bounded_fits : (z : ℤ) → Fits ty.Int (bounded z)
-unfolding bounded
+bounded_fits : (z : ℤ) → Fits ty.Int (bounded_number z)
+unfolding bounded_number
 bounded_fits z = choose ty.Int _ (gives (value.Int z)) (raises rules.overflow) (an_int z) tt
 
-divided_fits : (a b : ℤ) → Fits ty.Int (divided a b)
-unfolding divided
+divided_fits : (a b : ℤ) → Fits ty.Int (divided_number a b)
+unfolding divided_number
 divided_fits a b = choose ty.Int _ (raises rules.division_by_zero) _ tt (bounded_fits _)
 
 remainder_fits : (a b : ℤ) → Fits ty.Int (remainder a b)
 unfolding remainder
 remainder_fits a b = choose ty.Int _ (raises rules.division_by_zero) _ tt (bounded_fits _)
 
-limited_fits : (t : Ty) (v : Value) → HasType v t → Fits t (limited v)
-unfolding limited
+limited_fits : (t : Ty) (v : Value) → HasType v t → Fits t (limited_value v)
+unfolding limited_value
 limited_fits t v h = choose t _ (raises too_large) (gives v) tt h
 
 -- at values whose levels are known
@@ -50,37 +50,37 @@ numbers_fit f h k l (a, d) (b, e) = subst (λ x. Fits ty.Int (numbers f x l)) (s
 int_shape : {v : Value} → HasType v ty.Int → Shape Ty-F.Int (out-Value v)
 int_shape h = shape_at ty.Int Ty-F.Int ty.outs-Int h
 
-pub calculated : (o : Op) (a b : Value) → kind_of o ≡ arithmetic → HasType a ty.Int → HasType b ty.Int → Fits ty.Int (binary o a b)
+pub calculation_fits : (o : Op) (a b : Value) → kind_of o ≡ arithmetic → HasType a ty.Int → HasType b ty.Int → Fits ty.Int (binary o a b)
 unfolding binary
-calculated op.Add a b e h k = numbers_fit (computed op.Add) (λ x y. bounded_fits _) _ _ (int_shape h) (int_shape k)
-calculated op.Sub a b e h k = numbers_fit (computed op.Sub) (λ x y. bounded_fits _) _ _ (int_shape h) (int_shape k)
-calculated op.Mul a b e h k = numbers_fit (computed op.Mul) (λ x y. bounded_fits _) _ _ (int_shape h) (int_shape k)
-calculated op.Div a b e h k = numbers_fit (computed op.Div) divided_fits _ _ (int_shape h) (int_shape k)
-calculated op.Mod a b e h k = numbers_fit (computed op.Mod) remainder_fits _ _ (int_shape h) (int_shape k)
-calculated op.Cat a b e h k = cc
-calculated op.Eq a b e h k = cc
-calculated op.Ne a b e h k = cc
-calculated op.Lt a b e h k = cc
-calculated op.Le a b e h k = cc
-calculated op.Gt a b e h k = cc
-calculated op.Ge a b e h k = cc
-calculated op.Cons a b e h k = cc
+calculation_fits op.Add a b e h k = numbers_fit (computed_number op.Add) (λ x y. bounded_fits _) _ _ (int_shape h) (int_shape k)
+calculation_fits op.Sub a b e h k = numbers_fit (computed_number op.Sub) (λ x y. bounded_fits _) _ _ (int_shape h) (int_shape k)
+calculation_fits op.Mul a b e h k = numbers_fit (computed_number op.Mul) (λ x y. bounded_fits _) _ _ (int_shape h) (int_shape k)
+calculation_fits op.Div a b e h k = numbers_fit (computed_number op.Div) divided_fits _ _ (int_shape h) (int_shape k)
+calculation_fits op.Mod a b e h k = numbers_fit (computed_number op.Mod) remainder_fits _ _ (int_shape h) (int_shape k)
+calculation_fits op.Cat a b e h k = cc
+calculation_fits op.Eq a b e h k = cc
+calculation_fits op.Ne a b e h k = cc
+calculation_fits op.Lt a b e h k = cc
+calculation_fits op.Le a b e h k = cc
+calculation_fits op.Gt a b e h k = cc
+calculation_fits op.Ge a b e h k = cc
+calculation_fits op.Cons a b e h k = cc
 
-pub compared : (o : Op) (a b : Value) → kind_of o ≡ equality → Fits ty.Bool (binary o a b)
+pub comparison_fits : (o : Op) (a b : Value) → kind_of o ≡ equality → Fits ty.Bool (binary o a b)
 unfolding binary
-compared op.Eq a b e = a_bool (same_value a b)
-compared op.Ne a b e = a_bool (not (same_value a b))
-compared op.Add a b e = cc
-compared op.Sub a b e = cc
-compared op.Mul a b e = cc
-compared op.Div a b e = cc
-compared op.Mod a b e = cc
-compared op.Cat a b e = cc
-compared op.Lt a b e = cc
-compared op.Le a b e = cc
-compared op.Gt a b e = cc
-compared op.Ge a b e = cc
-compared op.Cons a b e = cc
+comparison_fits op.Eq a b e = a_bool (same_value a b)
+comparison_fits op.Ne a b e = a_bool (not (same_value a b))
+comparison_fits op.Add a b e = cc
+comparison_fits op.Sub a b e = cc
+comparison_fits op.Mul a b e = cc
+comparison_fits op.Div a b e = cc
+comparison_fits op.Mod a b e = cc
+comparison_fits op.Cat a b e = cc
+comparison_fits op.Lt a b e = cc
+comparison_fits op.Le a b e = cc
+comparison_fits op.Gt a b e = cc
+comparison_fits op.Ge a b e = cc
+comparison_fits op.Cons a b e = cc
 
 -- two values of an ordered type have an order
 abbrev IsKnown : Option Bool → Type 0
@@ -104,21 +104,21 @@ answered_fits : (f : Bool → Bool) (o : Option Bool) → IsKnown o → Fits ty.
 answered_fits f (Some b) h = a_bool (f b)
 answered_fits f None h = h
 
-pub ordered : (o : Op) (a b : Value) (u : Ty) → kind_of o ≡ ordering → is_ordered u ≡ true → HasType a u → HasType b u → Fits ty.Bool (binary o a b)
+pub order_fits : (o : Op) (a b : Value) (u : Ty) → kind_of o ≡ ordering → is_ordered u ≡ true → HasType a u → HasType b u → Fits ty.Bool (binary o a b)
 unfolding binary
-ordered op.Lt a b u e i h k = answered_fits (λ r. r) _ (ordered_at (out-Ty u) _ _ i (shape_of h) (shape_of k))
-ordered op.Le a b u e i h k = answered_fits not _ (ordered_at (out-Ty u) _ _ i (shape_of k) (shape_of h))
-ordered op.Gt a b u e i h k = answered_fits (λ r. r) _ (ordered_at (out-Ty u) _ _ i (shape_of k) (shape_of h))
-ordered op.Ge a b u e i h k = answered_fits not _ (ordered_at (out-Ty u) _ _ i (shape_of h) (shape_of k))
-ordered op.Add a b u e i h k = cc
-ordered op.Sub a b u e i h k = cc
-ordered op.Mul a b u e i h k = cc
-ordered op.Div a b u e i h k = cc
-ordered op.Mod a b u e i h k = cc
-ordered op.Cat a b u e i h k = cc
-ordered op.Eq a b u e i h k = cc
-ordered op.Ne a b u e i h k = cc
-ordered op.Cons a b u e i h k = cc
+order_fits op.Lt a b u e i h k = answered_fits (λ r. r) _ (ordered_at (out-Ty u) _ _ i (shape_of h) (shape_of k))
+order_fits op.Le a b u e i h k = answered_fits not _ (ordered_at (out-Ty u) _ _ i (shape_of k) (shape_of h))
+order_fits op.Gt a b u e i h k = answered_fits (λ r. r) _ (ordered_at (out-Ty u) _ _ i (shape_of k) (shape_of h))
+order_fits op.Ge a b u e i h k = answered_fits not _ (ordered_at (out-Ty u) _ _ i (shape_of h) (shape_of k))
+order_fits op.Add a b u e i h k = cc
+order_fits op.Sub a b u e i h k = cc
+order_fits op.Mul a b u e i h k = cc
+order_fits op.Div a b u e i h k = cc
+order_fits op.Mod a b u e i h k = cc
+order_fits op.Cat a b u e i h k = cc
+order_fits op.Eq a b u e i h k = cc
+order_fits op.Ne a b u e i h k = cc
+order_fits op.Cons a b u e i h k = cc
 
 -- a value that is made as the type's level says
 out_type : (t u : Ty) → out-Ty t ≡ out-Ty u → t ≡ u
@@ -141,21 +141,21 @@ joined_at t Ty-F.Chunk j k o e h i = cc
 joined_at t (Ty-F.List u) j k o e h i = cc
 joined_at t (Ty-F.Tuple ts) j k o e h i = cc
 
-pub concatenated : (o : Op) (a b : Value) (t : Ty) → kind_of o ≡ joining → is_joined t ≡ true → HasType a t → HasType b t → Fits t (binary o a b)
+pub concatenation_fits : (o : Op) (a b : Value) (t : Ty) → kind_of o ≡ joining → is_joined t ≡ true → HasType a t → HasType b t → Fits t (binary o a b)
 unfolding binary
-concatenated op.Cat a b t e i h k = joined_at t (out-Ty t) _ _ refl i (shape_of h) (shape_of k)
-concatenated op.Add a b t e i h k = cc
-concatenated op.Sub a b t e i h k = cc
-concatenated op.Mul a b t e i h k = cc
-concatenated op.Div a b t e i h k = cc
-concatenated op.Mod a b t e i h k = cc
-concatenated op.Eq a b t e i h k = cc
-concatenated op.Ne a b t e i h k = cc
-concatenated op.Lt a b t e i h k = cc
-concatenated op.Le a b t e i h k = cc
-concatenated op.Gt a b t e i h k = cc
-concatenated op.Ge a b t e i h k = cc
-concatenated op.Cons a b t e i h k = cc
+concatenation_fits op.Cat a b t e i h k = joined_at t (out-Ty t) _ _ refl i (shape_of h) (shape_of k)
+concatenation_fits op.Add a b t e i h k = cc
+concatenation_fits op.Sub a b t e i h k = cc
+concatenation_fits op.Mul a b t e i h k = cc
+concatenation_fits op.Div a b t e i h k = cc
+concatenation_fits op.Mod a b t e i h k = cc
+concatenation_fits op.Eq a b t e i h k = cc
+concatenation_fits op.Ne a b t e i h k = cc
+concatenation_fits op.Lt a b t e i h k = cc
+concatenation_fits op.Le a b t e i h k = cc
+concatenation_fits op.Gt a b t e i h k = cc
+concatenation_fits op.Ge a b t e i h k = cc
+concatenation_fits op.Cons a b t e i h k = cc
 
 pub list_shape : {v : Value} (u : Ty) → HasType v (ty.List u) → Shape (Ty-F.List u) (out-Value v)
 list_shape u h = shape_at (ty.List u) (Ty-F.List u) (ty.outs-List u) h
@@ -300,10 +300,10 @@ of_values prim.Length ts vs e h = cc
 -- ---- all operators and primitives
 
 by_kind : (o : Op) (k : OpKind) → kind_of o ≡ k → (a b : Value) (t u r : Ty) → KindTakes k t u r → HasType a t → HasType b u → Fits r (binary o a b)
-by_kind o arithmetic e a b t u r k h l = subst (λ x. Fits x (binary o a b)) (sym k.2) (calculated o a b e (subst (λ x. HasType a x) k.0 h) (subst (λ x. HasType b x) k.1 l))
-by_kind o joining e a b t u r k h l = subst (λ x. Fits x (binary o a b)) (sym k.2) (concatenated o a b t e k.0 h (subst (λ x. HasType b x) k.1 l))
-by_kind o equality e a b t u r k h l = subst (λ x. Fits x (binary o a b)) (sym k.1) (compared o a b e)
-by_kind o ordering e a b t u r k h l = subst (λ x. Fits x (binary o a b)) (sym k.2) (ordered o a b t e k.0 h (subst (λ x. HasType b x) k.1 l))
+by_kind o arithmetic e a b t u r k h l = subst (λ x. Fits x (binary o a b)) (sym k.2) (calculation_fits o a b e (subst (λ x. HasType a x) k.0 h) (subst (λ x. HasType b x) k.1 l))
+by_kind o joining e a b t u r k h l = subst (λ x. Fits x (binary o a b)) (sym k.2) (concatenation_fits o a b t e k.0 h (subst (λ x. HasType b x) k.1 l))
+by_kind o equality e a b t u r k h l = subst (λ x. Fits x (binary o a b)) (sym k.1) (comparison_fits o a b e)
+by_kind o ordering e a b t u r k h l = subst (λ x. Fits x (binary o a b)) (sym k.2) (order_fits o a b t e k.0 h (subst (λ x. HasType b x) k.1 l))
 by_kind o listing e a b t u r k h l = subst (λ x. Fits x (binary o a b)) (sym (k.1 ∙ k.0)) (put o a b t e h (subst (λ x. HasType b x) k.0 l))
 
 pub operator_fits : (o : Op) (a b : Value) (t u r : Ty) → OperatorTakes o t u r → HasType a t → HasType b u → Fits r (binary o a b)

@@ -56,28 +56,28 @@ abbrev pub greatest_int : ℤ
 greatest_int = pos 9223372036854775807
 
 -- a number of 64 bits, or `Overflow`
-unfoldable pub bounded : ℤ → Given
-bounded z = if int_le least_int z && int_le z greatest_int then gives (value.Int z) else raises overflow
+unfoldable pub bounded_number : ℤ → Given
+bounded_number z = if int_le least_int z && int_le z greatest_int then gives (value.Int z) else raises overflow
 
 abbrev pub is_zero : ℤ → Bool
 is_zero (pos n) = n == 0
 is_zero (negsuc n) = false
 
 -- towards zero
-unfoldable pub divided : ℤ → ℤ → Given
-divided a b = if is_zero b then raises division_by_zero else bounded (int_div a b)
+unfoldable pub divided_number : ℤ → ℤ → Given
+divided_number a b = if is_zero b then raises division_by_zero else bounded_number (int_div a b)
 
 -- with the sign of the left
 unfoldable pub remainder : ℤ → ℤ → Given
-remainder a b = if is_zero b then raises division_by_zero else bounded (int_rem a b)
+remainder a b = if is_zero b then raises division_by_zero else bounded_number (int_rem a b)
 
-abbrev pub computed : Op → ℤ → ℤ → Given
-computed op.Add a b = bounded (a +ℤ b)
-computed op.Sub a b = bounded (a -ℤ b)
-computed op.Mul a b = bounded (a *ℤ b)
-computed op.Div a b = divided a b
-computed op.Mod a b = remainder a b
-computed _ a b = unfit
+abbrev pub computed_number : Op → ℤ → ℤ → Given
+computed_number op.Add a b = bounded_number (a +ℤ b)
+computed_number op.Sub a b = bounded_number (a -ℤ b)
+computed_number op.Mul a b = bounded_number (a *ℤ b)
+computed_number op.Div a b = divided_number a b
+computed_number op.Mod a b = remainder a b
+computed_number _ a b = unfit
 
 -- on two numbers, else unfit
 abbrev pub numbers : (ℤ → ℤ → Given) → ValueLayer → ValueLayer → Given
@@ -100,16 +100,16 @@ answered_truth f None = unfit
 -- ---- lists and texts
 
 -- a value of weight 16,384 at most, else `TooLarge`
-unfoldable pub limited : Value → Given
-limited v = if nat_lt 16384 (weight v) then raises too_large else gives v
+unfoldable pub limited_value : Value → Given
+limited_value v = if nat_lt 16384 (weight v) then raises too_large else gives v
 
 abbrev pub joined_values : ValueLayer → ValueLayer → Given
-joined_values (Value-F.Str a) (Value-F.Str b) = limited (value.Str (a ++ b))
-joined_values (Value-F.Blob a) (Value-F.Blob b) = limited (value.Blob (a ++ b))
+joined_values (Value-F.Str a) (Value-F.Str b) = limited_value (value.Str (a ++ b))
+joined_values (Value-F.Blob a) (Value-F.Blob b) = limited_value (value.Blob (a ++ b))
 joined_values _ _ = unfit
 
 abbrev pub put_first : Value → ValueLayer → Given
-put_first x (Value-F.List t xs) = limited (value.List t (x ∷ xs))
+put_first x (Value-F.List t xs) = limited_value (value.List t (x ∷ xs))
 put_first x _ = unfit
 
 -- ---- operators
@@ -123,7 +123,7 @@ binary_by op.Lt a b = answered_truth (λ r. r) (before (out-Value a) (out-Value 
 binary_by op.Le a b = answered_truth not (before (out-Value b) (out-Value a))
 binary_by op.Gt a b = answered_truth (λ r. r) (before (out-Value b) (out-Value a))
 binary_by op.Ge a b = answered_truth not (before (out-Value a) (out-Value b))
-binary_by o a b = numbers (computed o) (out-Value a) (out-Value b)
+binary_by o a b = numbers (computed_number o) (out-Value a) (out-Value b)
 
 -- what `a op b` gives
 unfoldable pub binary : Op → Value → Value → Given

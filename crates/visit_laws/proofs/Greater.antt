@@ -13,14 +13,14 @@ use Rattle.plan_meaning.specs.declared.outcome.Outcome.TheVariants as outcome
 use Rattle.plan_meaning.specs.declared.outcome.Visit.{Visit}
 use Rattle.plan_meaning.specs.State.{VisitState}
 use Rattle.plan_meaning.specs.Run.{After, gave, stopped, RunStep}
-use Rattle.plan_meaning.specs.Visit.{IsVisit, Ends, allowance, begun, ended}
+use Rattle.plan_meaning.specs.Visit.{IsVisit, Ends, allowance, begun_state, ended_visit}
 use Rattle.meaning_laws.specs.Laws.{IsSpent, more, after_more, with_allowance}
 use Rattle.meaning_laws.proofs.Longer.{visit_allowance}
 use Rattle.meaning_laws.proofs.Allowances.{visits_alike, spent_exactly}
 use Rattle.visit_laws.specs.Given.{GivesAlone}
 
 -- the work that is spent is the same
-ended_alike : (v k : ℕ) (how : Outcome) (s : VisitState) → ended v how s ≡ ended (v + k) how (more k s)
+ended_alike : (v k : ℕ) (how : Outcome) (s : VisitState) → ended_visit v how s ≡ ended_visit (v + k) how (more k s)
 ended_alike v k how s =
     let same : v - s.work ≡ (v + k) - (s.work + k) = omega arith in
     ap (λ n. record { outcome = how; evals = s.evals; left = s.ctx.purse; outbox = s.outbox; notes = s.notes; work = n }) same
@@ -45,7 +45,7 @@ module _ (k : Chunk) (ctx : Ctx) (family : Family) (n : ServiceState) where
   unfolding IsVisit
   with_more v j r new e h =
       let a = with_allowance v k ctx family n in
-      let later = visit_allowance k (begun v ctx family n) j (unspent v ctx.purse a r new e h) in
+      let later = visit_allowance k (begun_state v ctx family n) j (unspent v ctx.purse a r new e h) in
       subst (λ b. Ends (v + j) ctx.purse b r new) (sym (ap (λ (s : RunStep Value). s.after) later)) (ends_again v j ctx.purse a r new e h)
 
   pub visit_again : (v w : ℕ) (r : Visit) (new : ServiceState) → v ≤ w → IsVisit v k ctx family n r new → r.outcome ≢ outcome.WorkSpent → IsVisit w k ctx family n r new

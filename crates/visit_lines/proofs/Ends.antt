@@ -24,7 +24,7 @@ use Rattle.node_model.specs.declared.acts.Act.{Act}
 use Rattle.node_model.specs.declared.acts.Act.TheVariants.{Injected, Arrived, Noted, Ended}
 use Rattle.node_model.specs.State.{NodeState, is_host}
 use Rattle.node_model.specs.Visits.{visit_at, settled_at}
-use Rattle.node_model.specs.Node.{NodeStep, mark, visit_sends, handled_acts, sends_acts, visit_acts, visited, next_serial, injected_packet, inject_step, packet_step, frame_step, takes_as, stamped_as, stamped_step, arrived, arrive_step}
+use Rattle.node_model.specs.Node.{NodeStep, mark, visit_sends, handled_acts, sends_acts, visit_acts, visit_step, next_serial, injected_packet, inject_step, packet_step, frame_step, takes_as, stamped_as, stamped_step, arrived_read, arrive_step}
 use Rattle.world_model.specs.declared.lines.Line.{Line}
 use Rattle.world_model.specs.declared.lines.Line.TheVariants.{At}
 use Rattle.world_model.specs.declared.lines.Wired.{Wired}
@@ -44,8 +44,8 @@ data Shown (here : Host) (acts : List Act) : List Visiting → Type 0 where
   none : Shown here acts []
   one : (v : Visiting) (front back : List Act) → v.node.here ≡ here → acts ≡ front ++ ended_act v ∷ back → Shown here acts (v ∷ [])
 
-visited_shown : (acts : List Act) (node : NodeState) (p : Packet) → Shown node.here (visited acts node p).acts (one_visit node p)
-unfolding visited visit_acts
+visited_shown : (acts : List Act) (node : NodeState) (p : Packet) → Shown node.here (visit_step acts node p).acts (one_visit node p)
+unfolding visit_step visit_acts
 visited_shown acts node p =
     let s : Settled = settled_at node p in
     let notes = map Noted s.visit.notes in
@@ -77,7 +77,7 @@ stamped_shown : (node : NodeState) (d : Dev) (x : PlainStamped) → Shown node.h
 unfolding stamped_step stamped_visits
 stamped_shown node d x = as_shown node d x (takes_as node.seen d x.stamp)
 
-arrived_shown : (node : NodeState) (d : Dev) (r : Result PlainStamped FrameFault) → Shown node.here (arrived node d r).acts (read_visits d r node)
+arrived_shown : (node : NodeState) (d : Dev) (r : Result PlainStamped FrameFault) → Shown node.here (arrived_read node d r).acts (read_visits d r node)
 arrived_shown node d (Ok x) = stamped_shown node d x
 arrived_shown node d (Err e) = none
 

@@ -2,7 +2,7 @@
 use Rattle.std.specs.Prelude.{◌≡◌, ◌≢◌, Result, Ok, Err}
 use Rattle.plan_base.specs.declared.tree.Exn.{Exn}
 use Rattle.plan_base.specs.declared.tree.Value.{Value}
-use Rattle.value_rules.specs.Rules.{Given, gives, raises, unfit, limited}
+use Rattle.value_rules.specs.Rules.{Given, gives, raises, unfit, limited_value}
 use Rattle.remote_calls.specs.declared.fault.SendFault.{SendFault}
 use Rattle.remote_calls.specs.declared.fault.SendFault.TheVariants as fault
 use Rattle.value_rules.specs.Rules.{no_service, too_large}
@@ -35,7 +35,7 @@ MeetsGiven want (Err _) = ⊥
 
 -- the same of a value that is not weighed yet
 abbrev pub MeetsUnweighed : Given → Result Value EvalStop → Type 0
-MeetsUnweighed want (Ok v) = want ≡ limited v
+MeetsUnweighed want (Ok v) = want ≡ limited_value v
 MeetsUnweighed want (Err (Raised x)) = want ≡ raises x
 MeetsUnweighed want (Err Wrong) = want ≡ unfit
 MeetsUnweighed want (Err NoMemory) = Unit {0}

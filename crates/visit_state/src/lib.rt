@@ -14,7 +14,7 @@ pub use bindings::{bound, value_of};
 pub use found::{catches, handler, place_among};
 pub use operate::{binary, cons, part, primitive};
 pub use raised::{no_bound, no_route, no_service, not_neighbour, too_large};
-pub use serving::served;
+pub use serving::ask_service;
 pub use shapes::{as_bool, as_chunk, as_dev, as_host, as_int, as_items};
 pub use state::{ALLOWANCE, State};
 pub use weighing::Weighing;

@@ -10,7 +10,7 @@ use plan_values::PrimFault;
 use std::alloc::Global;
 
 /// What an operator, a primitive or a part gave, as the end of an evaluation.
-fn given(answer: Result<Value, PrimFault>) -> Result<Value, EvalStop>
+fn answer_end(answer: Result<Value, PrimFault>) -> Result<Value, EvalStop>
     ensures { (want : Given) → Answers want answer → MeetsGiven want result }
 {
     match answer {
@@ -25,11 +25,11 @@ fn given(answer: Result<Value, PrimFault>) -> Result<Value, EvalStop>
 pub fn binary(alloc: Global, op: Op, a: &Value, b: &Value) -> Result<Value, EvalStop>
     ensures { MeetsGiven (rules.binary op a.now b.now) result }
 {
-    given(plan_values::binary(alloc, op, a, b))
+    answer_end(plan_values::binary(alloc, op, a, b))
 }
 
 /// The same of a value that isn't weighed yet.
-fn unweighed(answer: Result<Value, PrimFault>) -> Result<Value, EvalStop>
+fn unweighed_end(answer: Result<Value, PrimFault>) -> Result<Value, EvalStop>
     ensures { (want : Given) → AnswersUnweighed want answer → MeetsUnweighed want result }
 {
     match answer {
@@ -44,19 +44,19 @@ fn unweighed(answer: Result<Value, PrimFault>) -> Result<Value, EvalStop>
 pub fn cons(x: Value, xs: Value) -> Result<Value, EvalStop>
     ensures { MeetsUnweighed (rules.put_first x (out-Value xs)) result }
 {
-    unweighed(plan_values::cons(x, xs))
+    unweighed_end(plan_values::cons(x, xs))
 }
 
 /// What a primitive gives of its arguments.
 pub fn primitive(alloc: Global, p: Primitive, args: &Values) -> Result<Value, EvalStop>
     ensures { MeetsGiven (rules.primitive p args.now) result }
 {
-    given(plan_values::primitive(alloc, p, args))
+    answer_end(plan_values::primitive(alloc, p, args))
 }
 
 /// What `#i v` gives.
 pub fn part(alloc: Global, i: u8, v: &Value) -> Result<Value, EvalStop>
     ensures { MeetsGiven (rules.part i v.now) result }
 {
-    given(plan_values::part(alloc, i, v))
+    answer_end(plan_values::part(alloc, i, v))
 }

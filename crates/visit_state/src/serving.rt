@@ -1,5 +1,5 @@
 ghost use Rattle.std.specs.Prelude.{◌≡◌, ◌≤◌, IsSome};
-ghost use Rattle.plan_meaning.specs.State.{joined};
+ghost use Rattle.plan_meaning.specs.State.{joined_state};
 ghost use Rattle.plan_meaning.specs.Run as run;
 ghost use Rattle.plan_meaning.specs.Safe.{IsSafe};
 ghost use Rattle.visit_state.specs.Meets.{Meets};
@@ -13,7 +13,7 @@ use std::alloc::Global;
 /// Asks a declared service, and keeps its note. Conditions: a `begin` is open, and the arguments have the declared types
 /// and keep the limits.
 #[tactic(auto, unfolding(plan_meaning::specs::Run::serve))]
-pub fn served<S: Services>(
+pub fn ask_service<S: Services>(
     alloc: Global,
     state: &mut State,
     svc: &mut S,
@@ -21,15 +21,16 @@ pub fn served<S: Services>(
     args: &Values,
 ) -> Result<Value, EvalStop>
     requires open { IsSome (S.stands svc.old).begun }
-    requires safe { IsSafe (run.serve d.now args.now (joined state.old (S.stands svc.old))).asks }
-    ensures meets { Meets (run.serve d.now args.now (joined state.old (S.stands svc.old))) result (joined state.new (S.stands svc.new)) }
+    requires safe { IsSafe (run.serve d.now args.now
+        (joined_state state.old (S.stands svc.old))).asks }
+    ensures meets { Meets (run.serve d.now args.now (joined_state state.old (S.stands svc.old))) result (joined_state state.new (S.stands svc.new)) }
     ensures falls { state.new.work ≤ state.old.work }
     ensures offer { (S.stands svc.new).offer ≡ (S.stands svc.old).offer }
     ensures begun { (S.stands svc.new).begun ≡ (S.stands svc.old).begun }
 {
     match svc.call(alloc, d, args, state.ctx())? {
         Answer::Gives(v, note) => {
-            state.noted(note)?;
+            state.keep_note(note)?;
             Ok(v)
         }
         Answer::Raises(x) => Err(EvalStop::Raised(x)),

@@ -5,9 +5,9 @@ ghost use Rattle.plan_base.specs.Sizes.{weight, nesting};
 ghost use Rattle.plan_base.specs.declared.tree.Value.{Value};
 ghost use Rattle.service_api.specs.Services.{ServiceState, IsGoodChunk};
 ghost use Rattle.plan_meaning.specs.Safe.{IsSafe};
-ghost use Rattle.plan_meaning.specs.State.{Own, joined};
+ghost use Rattle.plan_meaning.specs.State.{Own, joined_state};
 ghost use Rattle.plan_meaning.specs.Run as run;
-ghost use Rattle.plan_meaning.specs.Visit.{allowance, ended};
+ghost use Rattle.plan_meaning.specs.Visit.{allowance, ended_visit};
 ghost use Rattle.plan_meaning.specs.Meaning as spec;
 ghost use Rattle.visit_state.specs.Meets.{Meets, StopsBy, Weighs};
 
@@ -92,8 +92,9 @@ impl State {
     }
 
     /// The visit that ended in this state.
-    pub fn ended(self, outcome: Outcome) -> Visit
-        ensures { (s : ServiceState) → result ≡ ended allowance outcome (joined self s) }
+    pub fn into_visit(self, outcome: Outcome) -> Visit
+        ensures { (s : ServiceState) → result ≡ ended_visit allowance outcome
+            (joined_state self s) }
     {
         let State {
             ctx,
@@ -124,8 +125,8 @@ impl State {
     /// Spends work where there is as much, or says no.
     #[tactic(auto, unfolding(plan_meaning::specs::Run::spend))]
     pub fn pays(&mut self, n: u64) -> bool
-        ensures paid { IsTrue result → (s : ServiceState) → (run.spend n (joined self.old s)).after ≡ gave tt (joined self.new s) }
-        ensures unpaid { IsFalse result → (s : ServiceState) → (run.spend n (joined self.old s)).after ≡ stopped WorkSpent (joined self.new s) }
+        ensures paid { IsTrue result → (s : ServiceState) → (run.spend n (joined_state self.old s)).after ≡ gave tt (joined_state self.new s) }
+        ensures unpaid { IsFalse result → (s : ServiceState) → (run.spend n (joined_state self.old s)).after ≡ stopped WorkSpent (joined_state self.new s) }
         ensures spends { IsTrue result → self.new.work + n ≡ self.old.work }
         ensures falls { self.new.work ≤ self.old.work }
     {
@@ -137,10 +138,11 @@ impl State {
     }
 
     /// Spends the weight of a value with that nesting, unless it passes the limits.
-    #[tactic(auto, unfolding(plan_meaning::specs::Run::weighed, plan_meaning::specs::Run::is_too_large))]
+    #[tactic(auto, unfolding(plan_meaning::specs::Run::weighed_value, plan_meaning::specs::Run::is_too_large))]
     pub fn weighs_as(&mut self, size: u64, deep: u32) -> Weighing
         ensures weighs { (v : Value) (s : ServiceState) → size ≡ min (weight v) 18446744073709551615 → deep ≡ min (nesting v) 4294967295
-            → Weighs (run.weighed v (joined self.old s)) v result (joined self.new s) }
+            → Weighs (run.weighed_value v (joined_state self.old s)) v
+            result (joined_state self.new s) }
         ensures falls { self.new.work ≤ self.old.work }
     {
         if is_too_large(size, deep) {
@@ -155,7 +157,7 @@ impl State {
 
     /// Spends the weight of a value, unless it passes the limits.
     pub fn weighs(&mut self, v: &Value) -> Weighing
-        ensures weighs { (s : ServiceState) → Weighs (run.weighed v.now (joined self.old s)) v.now result (joined self.new s) }
+        ensures weighs { (s : ServiceState) → Weighs (run.weighed_value v.now (joined_state self.old s)) v.now result (joined_state self.new s) }
         ensures falls { self.new.work ≤ self.old.work }
     {
         match plain_weight(v) {
@@ -165,8 +167,8 @@ impl State {
     }
 
     /// Refuses a value over the limits, and spends the weight of another.
-    pub fn weighed(&mut self, alloc: Global, v: Value) -> Result<Value, EvalStop>
-        ensures meets { (s : ServiceState) → Meets (run.weighed v (joined self.old s)) result (joined self.new s) }
+    pub fn weigh_value(&mut self, alloc: Global, v: Value) -> Result<Value, EvalStop>
+        ensures meets { (s : ServiceState) → Meets (run.weighed_value v (joined_state self.old s)) result (joined_state self.new s) }
         ensures falls { self.new.work ≤ self.old.work }
     {
         match self.weighs(&v) {
@@ -179,7 +181,7 @@ impl State {
     /// Pays for an eval.
     #[tactic(auto, unfolding(plan_meaning::specs::Meaning::pay_eval), using(crate::proofs::Paying::eval_is_paid, crate::proofs::Paying::eval_is_unpaid))]
     pub fn pay_eval(&mut self, alloc: Global) -> Result<(), EvalStop>
-        ensures meets { (s : ServiceState) → Meets (spec.pay_eval (joined self.old s)) result (joined self.new s) }
+        ensures meets { (s : ServiceState) → Meets (spec.pay_eval (joined_state self.old s)) result (joined_state self.new s) }
         ensures falls { self.new.work ≤ self.old.work }
     {
         let mut purse = Purse::of(self.ctx.purse);
@@ -194,11 +196,17 @@ impl State {
     }
 
     /// Sends a typed chunk on a way that is there.
-    #[tactic(auto, using(crate::proofs::Sending::checked))]
-    fn sent(&mut self, way: SendWay, chunk: Chunk, host: Host, route: Name) -> Result<(), EvalStop>
+    #[tactic(auto, using(crate::proofs::Sending::good_is_checked))]
+    fn send_on_way(
+        &mut self,
+        way: SendWay,
+        chunk: Chunk,
+        host: Host,
+        route: Name,
+    ) -> Result<(), EvalStop>
         requires good { IsGoodChunk chunk }
         requires paid { way.bound ≤ self.old.ctx.purse }
-        ensures meets { (s : ServiceState) → Meets (spec.sent way.dev chunk host way.bound route (joined self.old s)) result (joined self.new s) }
+        ensures meets { (s : ServiceState) → Meets (spec.sent_packet way.dev chunk host way.bound route (joined_state self.old s)) result (joined_state self.new s) }
         ensures falls { self.new.work ≤ self.old.work }
     {
         let chunk = CheckedChunk::of(chunk);
@@ -218,13 +226,13 @@ impl State {
         n: i64,
         route: &Name,
     ) -> Result<(), EvalStop>
-        requires safe { (s : ServiceState) × IsSafe (spec.send_remote chunk host n route.now (joined self.old s)).asks }
-        ensures meets { (s : ServiceState) → Meets (spec.send_remote chunk host n route.now (joined self.old s)) result (joined self.new s) }
+        requires safe { (s : ServiceState) × IsSafe (spec.send_remote chunk host n route.now (joined_state self.old s)).asks }
+        ensures meets { (s : ServiceState) → Meets (spec.send_remote chunk host n route.now (joined_state self.old s)) result (joined_state self.new s) }
         ensures falls { self.new.work ≤ self.old.work }
     {
         let purse = Purse::of(self.ctx.purse);
         match remote_way(&purse, &self.ctx, host, n, route) {
-            Ok(way) => self.sent(way, chunk, host, route.copy(alloc)?),
+            Ok(way) => self.send_on_way(way, chunk, host, route.copy(alloc)?),
             Err(fault) => Err(unsent(alloc, fault)),
         }
     }
@@ -238,20 +246,20 @@ impl State {
         n: i64,
         dev: Dev,
     ) -> Result<(), EvalStop>
-        requires safe { (s : ServiceState) × IsSafe (spec.send_neighbour chunk host n dev (joined self.old s)).asks }
-        ensures meets { (s : ServiceState) → Meets (spec.send_neighbour chunk host n dev (joined self.old s)) result (joined self.new s) }
+        requires safe { (s : ServiceState) × IsSafe (spec.send_neighbour chunk host n dev (joined_state self.old s)).asks }
+        ensures meets { (s : ServiceState) → Meets (spec.send_neighbour chunk host n dev (joined_state self.old s)) result (joined_state self.new s) }
         ensures falls { self.new.work ≤ self.old.work }
     {
         let purse = Purse::of(self.ctx.purse);
         match neighbour_way(&purse, &self.ctx, host, n, dev) {
-            Ok(way) => self.sent(way, chunk, host, default_route(alloc)?),
+            Ok(way) => self.send_on_way(way, chunk, host, default_route(alloc)?),
             Err(fault) => Err(unsent(alloc, fault)),
         }
     }
 
     /// Keeps the note of a service, if it made one.
-    pub fn noted(&mut self, note: Option<Note>) -> Result<(), NoMemory>
-        ensures ok { OnOk result (self.new ≡ record self.old { notes = run.noted note self.old.notes }) }
+    pub fn keep_note(&mut self, note: Option<Note>) -> Result<(), NoMemory>
+        ensures ok { OnOk result (self.new ≡ record self.old { notes = run.notes_after note self.old.notes }) }
         ensures falls { self.new.work ≤ self.old.work }
     {
         match note {

@@ -56,8 +56,8 @@ tally count history = sum_by (λ e. count e.line) history
 -- ---- histories
 
 -- the sum of the bounds of a family's injections, and of its packets from outside
-abbrev pub granted : Family → List Entry → ℕ
-granted f = tally (line_granted f)
+abbrev pub granted_sum : Family → List Entry → ℕ
+granted_sum f = tally (line_granted f)
 
 -- the number of a family's injections
 abbrev pub injections : Family → List Entry → ℕ
@@ -106,8 +106,8 @@ left_from f p (e ∷ es) = line_left f (past_with p e.line).late e.line + left_f
 
 -- the sum of what a family's visits left, and of the bounds of its packets that were dropped, stale or lost: of a frame that was
 -- handed and stayed on the wire only at its first handing
-abbrev pub left : Family → List Entry → ℕ
-left f = left_from f no_past
+abbrev pub left_sum : Family → List Entry → ℕ
+left_sum f = left_from f no_past
 
 -- ---- frames in queues and on the wire
 
@@ -120,12 +120,12 @@ unfoldable pub wire_sum : (PlainFrame → ℕ) → List Wired → ℕ
 wire_sum count wire = sum_by (λ x. count x.frame.frame) wire
 
 -- a count of a frame that was never handed
-abbrev pub unhanded : (PlainFrame → ℕ) → Wired → ℕ
-unhanded count x = if x.handed then 0 else count x.frame.frame
+abbrev pub unhanded_count : (PlainFrame → ℕ) → Wired → ℕ
+unhanded_count count x = if x.handed then 0 else count x.frame.frame
 
 -- a count over the frames on the wire that were never handed
 unfoldable pub unhanded_sum : (PlainFrame → ℕ) → List Wired → ℕ
-unhanded_sum count wire = sum_by (unhanded count) wire
+unhanded_sum count wire = sum_by (unhanded_count count) wire
 
 abbrev pub frames_sum : (PlainFrame → ℕ) → WorldState → ℕ
 frames_sum count w = nodes_sum count w.nodes + wire_sum count w.wire
@@ -142,14 +142,14 @@ packets f w = frames_sum (frame_one f) w
 
 -- what a family was granted is what it paid, what it still has and what it left
 pub record Balanced (f : Family) (history : List Entry) (w : WorldState) : Type 0 where
-  pub law : granted f history ≡ hops f history + evals f history + live f w + left f history
+  pub law : granted_sum f history ≡ hops f history + evals f history + live f w + left_sum f history
 
 -- a family never pays and has more than it was granted; it is injected at most once, and with nothing from outside it is granted
 -- at most 65,535
 pub record IsBounded (f : Family) (history : List Entry) (w : WorldState) : Type 0 where
   pub once : injections f history ≤ 1
-  pub limit : granted f history ≤ 65535 * (injections f history + forgeries f history)
-  pub within : hops f history + evals f history + live f w ≤ granted f history
+  pub limit : granted_sum f history ≤ 65535 * (injections f history + forgeries f history)
+  pub within : hops f history + evals f history + live f w ≤ granted_sum f history
 
 -- only a granted family has packets, and the nodes of its host go on with later serial numbers once it was injected
 pub record IsGranted (f : Family) (history : List Entry) (w : WorldState) : Type 0 where
@@ -183,7 +183,7 @@ pub record EventInBalance (f : Family) (late : Bool) (old : WorldState) (h : Eve
 
 -- what an event leaves behind a history is what its lines leave by the wire
 abbrev pub LeavesByWire : Family → List Entry → WorldState → WorldEvent → Type 0
-LeavesByWire f h w e = left f (h ++ entries w e) ≡ left f h + line_sum (line_left f (is_late w e)) (happens w e).lines
+LeavesByWire f h w e = left_sum f (h ++ entries w e) ≡ left_sum f h + line_sum (line_left f (is_late w e)) (happens w e).lines
 
 -- what stands of handings agrees with the wire: a frame there was handed where its number is among those, which are below the next one
 pub record PastAgrees (p : Past) (w : WorldState) : Type 0 where

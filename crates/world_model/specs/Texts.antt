@@ -14,7 +14,7 @@ use Rattle.world_model.specs.declared.lines.Line.{Line}
 use Rattle.world_model.specs.declared.lines.Line.TheVariants.{At, Forged, Wire, Off, Again, Lost, Nothing}
 use Rattle.world_model.specs.declared.lines.Entry.{Entry}
 use Rattle.world_model.specs.World.{WorldState, world_after, history_of}
-use Rattle.world_model.specs.Counts.{granted, hops, evals, left, live}
+use Rattle.world_model.specs.Counts.{granted_sum, hops, evals, left_sum, live}
 
 -- a frame in hex, where frames are shown
 abbrev pub shown_text : Bool → List ℕ → List ℕ
@@ -65,7 +65,7 @@ counts_text f g h e l r = family_text f ++ ((codes " granted " ++ decimal g) ++ 
 
 -- a row of the ledger
 unfoldable pub row_text : List Entry → WorldState → Family → List ℕ
-row_text history w f = counts_text f (granted f history) (hops f history) (evals f history) (live f w) (left f history)
+row_text history w f = counts_text f (granted_sum f history) (hops f history) (evals f history) (live f w) (left_sum f history)
 
 -- the rows of some families
 unfoldable pub rows_text : List Entry → WorldState → List Family → List ℕ

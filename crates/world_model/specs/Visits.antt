@@ -19,7 +19,7 @@ use Rattle.node_model.specs.declared.acts.Act.{Act}
 use Rattle.node_model.specs.declared.acts.Act.TheVariants.{Ended}
 use Rattle.node_model.specs.State.{NodeState, is_host}
 use Rattle.node_model.specs.Node.{next_serial, injected_packet, takes_as}
-use Rattle.node_model.specs.Visits.{around, evaluated, HasCase}
+use Rattle.node_model.specs.Visits.{around, evaluated_packet, HasCase}
 use Rattle.world_model.specs.declared.lines.Line.{Line}
 use Rattle.world_model.specs.declared.lines.Line.TheVariants.{At}
 use Rattle.world_model.specs.declared.lines.Wired.{Wired}
@@ -109,5 +109,5 @@ line_ends _ = 0
 
 -- the visit never is without a case, and with some allowance of work it ends by itself
 pub record EndsWell (v : Visiting) : Type 0 where
-  pub case : HasCase (evaluated (around v.node v.packet) (begun_now v.node.services) v.packet)
+  pub case : HasCase (evaluated_packet (around v.node v.packet) (begun_now v.node.services) v.packet)
   pub ends : VisitEnds v.packet.chunk (around v.node v.packet) v.packet.family (begun_now v.node.services)

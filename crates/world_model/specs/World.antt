@@ -50,11 +50,11 @@ pub record EventResult : Type 0 where
   pub lines : List Line
   pub world : WorldState
 
-abbrev pub happened : List Line → WorldState → EventResult
-happened lines w = record { lines = lines; world = w }
+abbrev pub happened_event : List Line → WorldState → EventResult
+happened_event lines w = record { lines = lines; world = w }
 
 abbrev pub nothing : WorldState → EventResult
-nothing w = happened (Nothing ∷ []) w
+nothing w = happened_event (Nothing ∷ []) w
 
 -- the place of a host's node
 abbrev pub place_of : List NodeState → Host → Option ℕ
@@ -97,7 +97,7 @@ lines_at h acts = map (At h) acts
 
 -- a step of the node at a place that moves nothing on the wire, after some lines
 abbrev pub steps_at : WorldState → Host → ℕ → List Line → NodeStep → EventResult
-steps_at w h at before step = happened (before ++ lines_at h step.acts) (with_node w at step.node)
+steps_at w h at before step = happened_event (before ++ lines_at h step.acts) (with_node w at step.node)
 
 -- a step of a host's node, behind what it says before; `nothing` where there is none
 unfoldable pub step_at : WorldState → Host → (NodeState → List Line) → (NodeState → NodeStep) → ℕ → Option NodeState → EventResult
@@ -127,12 +127,12 @@ forged_frame h (PlainFrame.Packet p) = Forged h p.family p.bound ∷ []
 forged_frame h _ = []
 
 -- bytes from outside that are accepted as a packet grant its bound
-abbrev pub forged : Host → Result PlainStamped FrameFault → List Line
-forged h (Ok x) = forged_frame h x.frame
-forged h (Err e) = []
+abbrev pub forged_lines : Host → Result PlainStamped FrameFault → List Line
+forged_lines h (Ok x) = forged_frame h x.frame
+forged_lines h (Err e) = []
 
 abbrev pub forged_at : Host → List ℕ → NodeState → List Line
-forged_at h bytes node = forged h (read_by node.version bytes)
+forged_at h bytes node = forged_lines h (read_by node.version bytes)
 
 abbrev pub raws : WorldState → Host → Dev → List ℕ → EventResult
 raws w h d bytes = steps w h (forged_at h bytes) (λ node. arrive_step node d bytes)
@@ -142,7 +142,7 @@ raws w h d bytes = steps w h (forged_at h bytes) (λ node. arrive_step node d by
 -- the frame that the node took goes onto the wire under the next number
 unfoldable pub send_taken : WorldState → Host → Dev → ℕ → LinkEnd → NodeStep → Option PlainStamped → EventResult
 send_taken w h d at to step None = nothing w
-send_taken w h d at to step (Some x) = happened (lines_at h step.acts ++ Wire w.«next» (stamped_bytes x) ∷ [])
+send_taken w h d at to step (Some x) = happened_event (lines_at h step.acts ++ Wire w.«next» (stamped_bytes x) ∷ [])
     (record {
       nodes = slice_set w.nodes at step.node;
       links = w.links;
@@ -213,7 +213,7 @@ hands w how number = hand_place w how (wire_place w.wire number)
 
 unfoldable pub lose_frame : WorldState → ℕ → Option Wired → EventResult
 lose_frame w place None = nothing w
-lose_frame w place (Some x) = happened (Off x.number ∷ Lost (what_of x.frame.frame) ∷ []) (without_frame w place)
+lose_frame w place (Some x) = happened_event (Off x.number ∷ Lost (what_of x.frame.frame) ∷ []) (without_frame w place)
 
 unfoldable pub lose_place : WorldState → Option ℕ → EventResult
 lose_place w None = nothing w
@@ -224,14 +224,14 @@ loses w number = lose_place w (wire_place w.wire number)
 
 -- ---- events and runs
 
-abbrev pub acted : WorldState → WorldEvent → EventResult
-acted w (Inject h chunk bound handler) = injects w h chunk bound handler
-acted w (Send h d) = sends w h d
-acted w (Deliver number) = hands w Taking number
-acted w (Repeat number) = hands w Leaving number
-acted w (Lose number) = loses w number
-acted w (Tick h) = ticks w h
-acted w (Raw h d bytes) = raws w h d bytes
+abbrev pub acted_event : WorldState → WorldEvent → EventResult
+acted_event w (Inject h chunk bound handler) = injects w h chunk bound handler
+acted_event w (Send h d) = sends w h d
+acted_event w (Deliver number) = hands w Taking number
+acted_event w (Repeat number) = hands w Leaving number
+acted_event w (Lose number) = loses w number
+acted_event w (Tick h) = ticks w h
+acted_event w (Raw h d bytes) = raws w h d bytes
 
 -- one event more was made
 abbrev pub counted_event : WorldState → WorldState
@@ -239,7 +239,7 @@ counted_event w = record w { made = w.made + 1 }
 
 -- one event; one that names nothing gives the line `nothing` and changes nothing
 abbrev pub happens : WorldState → WorldEvent → EventResult
-happens w e = happened (acted w e).lines (counted_event (acted w e).world)
+happens w e = happened_event (acted_event w e).lines (counted_event (acted_event w e).world)
 
 abbrev pub entry_at : ℕ → Line → Entry
 entry_at event line = record { event = event; line = line }

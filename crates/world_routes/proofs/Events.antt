@@ -35,7 +35,7 @@ use Rattle.world_model.specs.declared.lines.LinkEnd.{LinkEnd}
 use Rattle.world_model.specs.declared.lines.Wired.{Wired}
 use Rattle.world_model.specs.declared.lines.Handing.{Handing}
 use Rattle.world_model.specs.declared.lines.Handing.TheVariants.{Taking, Leaving}
-use Rattle.world_model.specs.World.{Cables, WorldState, EventResult, nothing, lines_at, step_at, step_place, steps, none_before, forged_frame, forged, forged_at, place_of, far_end, send_taken, send_at, send_over, send_place, sends, wire_place, hand_line, as_handed, wire_after, hand_at, hand_to, hand_frame, hand_place, hands, lose_frame, lose_place, loses, acted, happens}
+use Rattle.world_model.specs.World.{Cables, WorldState, EventResult, nothing, lines_at, step_at, step_place, steps, none_before, forged_frame, forged_lines, forged_at, place_of, far_end, send_taken, send_at, send_over, send_place, sends, wire_place, hand_line, as_handed, wire_after, hand_at, hand_to, hand_frame, hand_place, hands, lose_frame, lose_place, loses, acted_event, happens}
 use Rattle.world_model.specs.Wires.{WireLeads}
 use Rattle.world_routes.specs.Roads.{routing_in, CarriesNone, BringsNone}
 use Rattle.world_routes.specs.Routes.{FrameHasWay, IsRoutedAct, IsRouted}
@@ -129,7 +129,7 @@ frame_routed h (PlainFrame.Packet p) = All-cons IsRouted (Forged h p.family p.bo
 frame_routed h (PlainFrame.Advert a) = All-nil IsRouted
 frame_routed h (PlainFrame.Ask bound chunk) = All-nil IsRouted
 
-forged_routed : (h : Host) (r : Result PlainStamped FrameFault) → All IsRouted (forged h r)
+forged_routed : (h : Host) (r : Result PlainStamped FrameFault) → All IsRouted (forged_lines h r)
 forged_routed h (Ok x) = frame_routed h x.frame
 forged_routed h (Err e) = All-nil IsRouted
 
@@ -304,7 +304,7 @@ loses_keep w number k = lose_place_keeps w (wire_place w.wire number) k
 
 -- ---- events
 
-acted_keeps : (w : WorldState) (e : WorldEvent) → BringsNone w.version e → WorldHolds w → EventKeeps w (acted w e)
+acted_keeps : (w : WorldState) (e : WorldEvent) → BringsNone w.version e → WorldHolds w → EventKeeps w (acted_event w e)
 acted_keeps w (Inject h chunk bound handler) n k = steps_keep w h none_before (λ node. inject_step [] node chunk bound handler) (λ node. All-nil IsRouted)
     (record { keeps = λ node v q. inject_keeps (wiring w.links) (λ v. Unit {0}) node chunk bound handler q; stays = λ node. inject_stays node chunk bound handler }) k
 acted_keeps w (Send h d) n k = sends_keep w h d k

@@ -21,12 +21,12 @@ use Rattle.service_api.specs.declared.router.Hop.{Hop}
 use Rattle.service_api.specs.declared.router.RouteRow.{RouteRow}
 use Rattle.service_api.specs.declared.router.Hop.TheVariants.{To, NoService, NoRoute}
 use Rattle.service_api.specs.Routes.{hop, hop_in, own_device, default_route}
-use Rattle.service_api.specs.Services.{served}
+use Rattle.service_api.specs.Services.{served_call}
 use Rattle.plan_meaning.specs.declared.sent.Sent.{Sent}
 use Rattle.plan_meaning.specs.declared.stop.EvalStop.TheVariants.{Raised, WorkSpent, Wrong, NoMemory}
 use Rattle.plan_meaning.specs.State.{VisitState}
-use Rattle.plan_meaning.specs.Run.{After, gave, stopped, RunStep, Run, «next», quiet, raise, otherwise, spend, serve, answered}
-use Rattle.plan_meaning.specs.Meaning.{Env, pay_eval, no_bound, is_paid, bound_of, packet, sent, sent_by, send_remote, leads_to, is_next, not_neighbour, send_neighbour, run_to, meaning, visited}
+use Rattle.plan_meaning.specs.Run.{After, gave, stopped, RunStep, Run, «next», quiet, raise, otherwise, spend, serve, answered_call}
+use Rattle.plan_meaning.specs.Meaning.{Env, pay_eval, no_bound, is_paid, bound_of, packet, sent_packet, sent_by, send_remote, leads_to, is_next, not_neighbour, send_neighbour, run_to, meaning, visited_chunk}
 use Rattle.meaning_laws.specs.Laws.{left_by}
 use Rattle.meaning_laws.proofs.Walk.{Kept, run_kept, visited_kept}
 use Rattle.dv_routing.proofs.Costs.{same_host}
@@ -89,7 +89,7 @@ module _ (here : Host) (neighbours : List (Host × Dev)) (router : List RouteRow
   rescue_out (stopped NoMemory s) g h k = h
 
   sent_out : (s : VisitState) (dev : Dev) (k : Chunk) (h : Host) (n : ℕ) (r : Name) → IsLed here neighbours router (record { dev = dev; packet = packet s k h n r })
-      → Leading s.ctx s.outbox → Out (sent dev k h n r s).after
+      → Leading s.ctx s.outbox → Out (sent_packet dev k h n r s).after
   sent_out s dev k h n r e o = record {
     at = o.at;
     near = o.near;
@@ -120,16 +120,16 @@ module _ (here : Host) (neighbours : List (Host × Dev)) (router : List RouteRow
       split false z found = inr (next_among neighbours d h (ap (λ ns. leads_to ns d h) (sym o.near) ∙ found))
 
   next_out_led : (s : VisitState) (k : Chunk) (h : Host) (n : ℤ) (d : Dev) (t : Bool) → is_next s d h ≡ t → Leading s.ctx s.outbox
-      → Out (if t then sent d k h (bound_of n) default_route s else raise not_neighbour s).after
+      → Out (if t then sent_packet d k h (bound_of n) default_route s else raise not_neighbour s).after
   next_out_led s k h n d true e o = sent_out s d k h (bound_of n) default_route (next_led s k h (bound_of n) d o e) o
   next_out_led s k h n d false e o = o
 
   neighbour_out : (s : VisitState) (k : Chunk) (h : Host) (n : ℤ) (d : Dev) (b : Bool) → Leading s.ctx s.outbox
-      → Out (if b then (if is_next s d h then sent d k h (bound_of n) default_route s else raise not_neighbour s) else raise no_bound s).after
+      → Out (if b then (if is_next s d h then sent_packet d k h (bound_of n) default_route s else raise not_neighbour s) else raise no_bound s).after
   neighbour_out s k h n d true o = next_out_led s k h n d (is_next s d h) refl o
   neighbour_out s k h n d false o = o
 
-  served_out : (t : VisitState) → Leading t.ctx t.outbox → (a : Answer) → Out (answered a t)
+  served_out : (t : VisitState) → Leading t.ctx t.outbox → (a : Answer) → Out (answered_call a t)
   served_out t o (Gives v told) = o
   served_out t o (Raises x) = o
 
@@ -152,7 +152,7 @@ module _ (here : Host) (neighbours : List (Host × Dev)) (router : List RouteRow
 
   serves : (d : Svc) (args : List Value) → Leads Value (serve d args) (serve d args)
   unfolding serve
-  serves d args s o = served_out _ o (served s.services d args s.ctx).answer
+  serves d args s o = served_out _ o (served_call s.services d args s.ctx).answer
 
   leads_kept : Kept Leads
   leads_kept = record {
@@ -175,10 +175,10 @@ module _ (here : Host) (neighbours : List (Host × Dev)) (router : List RouteRow
   unfolding meaning
   means_leads code seen env e s o = run_leads (suc s.work) code seen env e s o
 
-  pub visit_leads : (k : Chunk) → Leads Value (visited meaning k) (visited meaning k)
+  pub visit_leads : (k : Chunk) → Leads Value (visited_chunk meaning k) (visited_chunk meaning k)
   visit_leads k = visited_kept Leads leads_kept meaning meaning means_leads k
 
-pub visit_led : (k : Chunk) (s : VisitState) → s.outbox ≡ [] → All (IsLed s.ctx.here s.ctx.neighbours s.ctx.router) (left_by (visited meaning k s).after).outbox
+pub visit_led : (k : Chunk) (s : VisitState) → s.outbox ≡ [] → All (IsLed s.ctx.here s.ctx.neighbours s.ctx.router) (left_by (visited_chunk meaning k s).after).outbox
 visit_led k s e =
     let P = IsLed s.ctx.here s.ctx.neighbours s.ctx.router in
     (visit_leads s.ctx.here s.ctx.neighbours s.ctx.router k s (record { at = refl; near = refl; routes = refl; led = All-same P s.outbox [] e (All-nil P) })).led

@@ -30,12 +30,12 @@ use Rattle.plan_meaning.specs.declared.stop.EvalStop.TheVariants.{Raised, WorkSp
 use Rattle.plan_meaning.specs.Meaning as means
 use Rattle.plan_meaning.specs.Meaning.{meaning}
 use Rattle.plan_meaning.specs.Run.{After, gave, stopped}
-use Rattle.plan_meaning.specs.Visit.{allowance, begun}
+use Rattle.plan_meaning.specs.Visit.{allowance, begun_state}
 use Rattle.meaning_laws.specs.Laws.{left_by}
 use Rattle.dv_routing.specs.Routing.{Routing, all_routes, own_advert}
 use Rattle.dv_routing.proofs.Best.{contains_later}
 use Rattle.dv_routing.proofs.Costs.{same_host}
-use Rattle.route_laws.specs.Network.{Wiring, RouteFrame, Told, Network, IsAt, with_node, queued, Moves, Tells, Hears, Goes, Stays, Then}
+use Rattle.route_laws.specs.Network.{Wiring, RouteFrame, Told, Network, IsAt, with_node, queued_frame, Moves, Tells, Hears, Goes, Stays, Then}
 use Rattle.world_routes.specs.Led.{IsLed}
 use Rattle.world_routes.proofs.Leading.{visit_led}
 use Rattle.world_routes.proofs.Moving.{led_moves}
@@ -44,12 +44,12 @@ use Rattle.node_model.specs.declared.acts.Act.TheVariants.{Injected, Arrived, No
 use Rattle.node_model.specs.declared.acts.Lane.{Lane}
 use Rattle.node_model.specs.declared.acts.Sending.{Sending}
 use Rattle.node_model.specs.State.{Links, Queues, NodeState, routing_of, is_host, neighbour_on, is_the_host, leads_to}
-use Rattle.settled_visit.specs.Settles.{handed, telling}
+use Rattle.settled_visit.specs.Settles.{handed_packet, telling}
 use Rattle.settled_visit.proofs.Tellings.{Tells as TellsSource}
 use Rattle.settled_visit.proofs.Sends.{all_settled}
-use Rattle.node_model.specs.Visits.{around, evaluated, visit_end, visit_of, visit_at, settled_at}
+use Rattle.node_model.specs.Visits.{around, evaluated_packet, visit_end, visit_of, visit_at, settled_at}
 use Rattle.spelled_frame.specs.Spelled.{what_of, numbered_frame}
-use Rattle.node_model.specs.Node.{NodeStep, stepped, lane_room, queue_room, has_room, lane_with, queue_push, mark, drop_act, takes_as, noting, stamped_as, stamped_step, arrived, arrive_step, send_act, send_queues, sends_acts, sends_queues, packet_sending, visit_sends, handled_acts, visit_acts, visited, next_serial, injected_packet, inject_step, only_acts, forward_by, forward_step, packet_step, hearing, advert_step, frame_step, next_tick, advert_sending, tick_sends, tick_step}
+use Rattle.node_model.specs.Node.{NodeStep, stepped_node, lane_room, queue_room, has_room, lane_with, queue_push, mark, drop_act, takes_as, noting, stamped_as, stamped_step, arrived_read, arrive_step, send_act, send_queues, sends_acts, sends_queues, packet_sending, visit_sends, handled_acts, visit_acts, visit_step, next_serial, injected_packet, inject_step, only_acts, forward_by, forward_step, packet_step, hearing, advert_step, frame_step, next_tick, advert_sending, tick_sends, tick_step}
 use Rattle.node_model.specs.Fits.{QueuesKeep}
 use Rattle.node_laws.proofs.Keeping.{Sends, send_keeps, sends_keep}
 use Rattle.world_routes.specs.Roads.{IsAsk, CarriesNone}
@@ -73,7 +73,7 @@ module _ (far : Wiring) (r : Routing) where
   -- queueing a frame at a node that knows this is a move
   abbrev pub MayGo : Sending → Type 0
   MayGo s = (w : Network) (at : ℕ) (queues : Queues) (queue : List RouteFrame) → IsAt w at (node_with r queues) → slice_get (cut_queues queues) s.dev.0 ≡ Some queue
-      → Moves far w (with_node w at (queued (node_with r queues) s.dev queue (cut_stamped s.frame)))
+      → Moves far w (with_node w at (queued_frame (node_with r queues) s.dev queue (cut_stamped s.frame)))
 
   pub record MayLeave (s : Sending) : Type 0 where
     pub goes : MayGo s
@@ -82,15 +82,15 @@ module _ (far : Wiring) (r : Routing) where
     pub dropped : IsRoutedAct s.dropped
     pub spent : IsRoutedAct s.spent
 
-  pushed : (queues : Queues) (d : Dev) (x : PlainStamped) (lane : Lane) → slice_set (cut_queues queues) d.0 (cut_lane lane ++ cut_stamped x ∷ []) ≡ cut_queues (slice_set queues d.0 (lane_with lane x))
-  pushed queues d x lane = sym (map-set cut_lane queues d.0 (lane_with lane x) ∙ ap (slice_set (cut_queues queues) d.0) (map_push cut_stamped lane.frames (numbered_frame lane.number x)))
+  cut_is_pushed : (queues : Queues) (d : Dev) (x : PlainStamped) (lane : Lane) → slice_set (cut_queues queues) d.0 (cut_lane lane ++ cut_stamped x ∷ []) ≡ cut_queues (slice_set queues d.0 (lane_with lane x))
+  cut_is_pushed queues d x lane = sym (map-set cut_lane queues d.0 (lane_with lane x) ∙ ap (slice_set (cut_queues queues) d.0) (map_push cut_stamped lane.frames (numbered_frame lane.number x)))
 
   push_goes : (t : Bool) (w : Network) (at : ℕ) (queues : Queues) (s : Sending) (lane : Lane) → MayGo s → IsAt w at (node_with r queues) → slice_get queues s.dev.0 ≡ Some lane
       → Goes far w (with_node w at (node_with r (cond t (queue_push queues s.dev s.frame (Some lane)) queues)))
   push_goes true w at queues s lane m p e =
       let move = m w at queues (cut_lane lane) p (get_map cut_lane queues s.dev.0 lane e) in
       let P : List (List RouteFrame) → Type 0 = λ qs. Moves far w (with_node w at (record { routing = r; queues = qs })) in
-      Then w _ _ (subst P (pushed queues s.dev s.frame lane) move) (Stays _)
+      Then w _ _ (subst P (cut_is_pushed queues s.dev s.frame lane) move) (Stays _)
   push_goes false w at queues s lane m p e = stays_at far w at r queues p
 
   place_goes : (o : Option Lane) (w : Network) (at : ℕ) (queues : Queues) (s : Sending) → MayGo s → IsAt w at (node_with r queues) → slice_get queues s.dev.0 ≡ o
@@ -170,18 +170,18 @@ end_led P bound (stopped NoMemory s) h = All-nil P
 
 -- what a visit at a node sends is led by its routes and neighbours
 visit_is_led : (node : NodeState) (p : Packet) → All (IsLed node.here node.neighbours (all_routes (routing_of node))) (visit_at node p).outbox
-unfolding visit_of evaluated
+unfolding visit_of evaluated_packet
 visit_is_led node p =
     end_led (IsLed node.here node.neighbours (all_routes (routing_of node))) p.bound
-    (means.visited meaning p.chunk (begun allowance (around node p) p.family (begun_now node.services))).after
-    (visit_led p.chunk (begun allowance (around node p) p.family (begun_now node.services)) refl)
+    (means.visited_chunk meaning p.chunk (begun_state allowance (around node p) p.family (begun_now node.services))).after
+    (visit_led p.chunk (begun_state allowance (around node p) p.family (begun_now node.services)) refl)
 
 -- so is what the settled visit sends: a handler changes no way, and what tells the source goes over the next hop to it
 settled_is_led : (node : NodeState) (p : Packet) → All (IsLed node.here node.neighbours (all_routes (routing_of node))) (settled_at node p).visit.outbox
 settled_is_led node p =
     let P : Sent → Type 0 = IsLed node.here node.neighbours (all_routes (routing_of node)) in
     let v = visit_at node p in
-    all_settled P p (around node p) v (All-weaker P (λ s. P (handed p.handler s)) (λ s led. record { default = led.default; leads = led.leads }) v.outbox (visit_is_led node p)) (λ t k. tells_led t k)
+    all_settled P p (around node p) v (All-weaker P (λ s. P (handed_packet p.handler s)) (λ s led. record { default = led.default; leads = led.leads }) v.outbox (visit_is_led node p)) (λ t k. tells_led t k)
   where
     tells_led : (t : Sent) → TellsSource p (around node p) (visit_at node p) t → IsLed node.here node.neighbours (all_routes (routing_of node)) t
     tells_led t k =
@@ -209,7 +209,7 @@ module _ (far : Wiring) where
     cases true node a b x y = x
     cases false node a b x y = y
 
-    still : (acts : List Act) (node : NodeState) → All IsRoutedAct acts → QueuesKeep GoesDefault node.queues → StepKeeps far On node (stepped acts None node)
+    still : (acts : List Act) (node : NodeState) → All IsRoutedAct acts → QueuesKeep GoesDefault node.queues → StepKeeps far On node (stepped_node acts None node)
     still acts node a q = record { goes = λ w at on p. stays_at far w at (routing_of node) node.queues p; queues = q; acts = a }
 
     two_acts : (a b : Act) → IsRoutedAct a → IsRoutedAct b → All IsRoutedAct (a ∷ b ∷ [])
@@ -231,8 +231,8 @@ module _ (far : Wiring) where
         (All-cons IsRoutedAct (Ended p.family v.outcome v.evals v.left) (handled ++ sends) tt
         (All-append IsRoutedAct handled sends (handled_routed p.family s.handled (visit_at node p).left) (sends_routed far (routing_of node) node.queues (visit_sends (mark node) v) (visit_leaves node p))))
 
-    visited_keeps : (acts : List Act) (node : NodeState) (p : Packet) → All IsRoutedAct acts → QueuesKeep GoesDefault node.queues → StepKeeps far On node (visited acts node p)
-    unfolding visited
+    visited_keeps : (acts : List Act) (node : NodeState) (p : Packet) → All IsRoutedAct acts → QueuesKeep GoesDefault node.queues → StepKeeps far On node (visit_step acts node p)
+    unfolding visit_step
     visited_keeps acts node p a q = record {
       goes = λ w at on k. sends_go far (routing_of node) w at node.queues (visit_sends (mark node) (settled_at node p).visit) (visit_leaves node p) k;
       queues = sends_default far (routing_of node) node.queues (visit_sends (mark node) (settled_at node p).visit) (visit_leaves node p) q;
@@ -240,7 +240,7 @@ module _ (far : Wiring) where
     }
 
     inject_cases : (t : Bool) (node : NodeState) (chunk : Chunk) (bound : ℕ) (handler : Option Name) → QueuesKeep GoesDefault node.queues
-        → StepKeeps far On node (cond t (stepped ([] ++ SerialsSpent ∷ []) None node) (visited ([] ++ Injected (record { source = node.here; serial = node.serial }) bound ∷ []) (next_serial node) (injected_packet node chunk bound handler)))
+        → StepKeeps far On node (cond t (stepped_node ([] ++ SerialsSpent ∷ []) None node) (visit_step ([] ++ Injected (record { source = node.here; serial = node.serial }) bound ∷ []) (next_serial node) (injected_packet node chunk bound handler)))
     inject_cases true node chunk bound handler q = still (SerialsSpent ∷ []) node (All-cons IsRoutedAct SerialsSpent [] tt (All-nil IsRoutedAct)) q
     inject_cases false node chunk bound handler q =
         let act = Injected (record { source = node.here; serial = node.serial }) bound in
@@ -374,7 +374,7 @@ module _ (far : Wiring) where
       let act = Stale TooOld (what_of x.frame) in
       still On (Arrived d ∷ act ∷ []) node (two_acts On (Arrived d) act tt tt) q
 
-  read_keeps : (On : Network → Type 0) (node : NodeState) (d : Dev) (r : Result PlainStamped FrameFault) → CarriesNone r → QueuesKeep GoesDefault node.queues → StepKeeps far On node (arrived node d r)
+  read_keeps : (On : Network → Type 0) (node : NodeState) (d : Dev) (r : Result PlainStamped FrameFault) → CarriesNone r → QueuesKeep GoesDefault node.queues → StepKeeps far On node (arrived_read node d r)
   unfolding stamped_step
   read_keeps On node d (Ok x) none q = ask_keeps On node d x (takes_as node.seen d x.stamp) none q
   read_keeps On node d (Err e) none q = still On (Arrived d ∷ Bad e ∷ []) node (two_acts On (Arrived d) (Bad e) tt tt) q

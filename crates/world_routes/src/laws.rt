@@ -9,10 +9,10 @@ ghost use Rattle.world_routes.specs.Routes.{Reached, RoutesHold, KeepsRoutes, Ru
 ghost use Rattle.plan_base.specs.declared.tree.Chunk.{Chunk};
 ghost use Rattle.plan_meaning.specs.declared.sent.Sent.{Sent};
 ghost use Rattle.plan_meaning.specs.State.{VisitState};
-ghost use Rattle.plan_meaning.specs.Meaning.{meaning, visited};
+ghost use Rattle.plan_meaning.specs.Meaning.{meaning, visited_chunk};
 ghost use Rattle.meaning_laws.specs.Laws.{left_by};
 ghost use Rattle.dv_routing.specs.Routing.{all_routes};
-ghost use Rattle.route_laws.specs.Network.{Wiring, RouteFrame, Parcel, Node, Network, IsAt, with_node, queued, Moves};
+ghost use Rattle.route_laws.specs.Network.{Wiring, RouteFrame, Parcel, Node, Network, IsAt, with_node, queued_frame, Moves};
 ghost use Rattle.world_routes.specs.Led.{IsLed, IsLedIn};
 
 /// A beginning within the rules is reached.
@@ -60,12 +60,12 @@ pub fn journeys_are_short()
 
 /// What a visit sends is led by its surroundings, however it ends.
 pub fn visits_are_led()
-    ensures { (k : Chunk) (s : VisitState) → s.outbox ≡ [] → All (IsLedIn s.ctx) (left_by (visited meaning k s).after).outbox }
+    ensures { (k : Chunk) (s : VisitState) → s.outbox ≡ [] → All (IsLedIn s.ctx) (left_by (visited_chunk meaning k s).after).outbox }
 {}
 
 /// A send that is led by a node's routes and neighbours and is queued there is a move.
 pub fn led_sends_move()
     ensures { (far : Wiring) (w : Network) (at : ℕ) (node : Node) (s : Sent) (queue : List RouteFrame) → IsAt w at node
         → IsLed node.routing.here node.routing.neighbours (all_routes node.routing) s → slice_get node.queues s.dev.0 ≡ Some queue
-        → Moves far w (with_node w at (queued node s.dev queue (Parcel s.packet.dest))) }
+        → Moves far w (with_node w at (queued_frame node s.dev queue (Parcel s.packet.dest))) }
 {}

@@ -14,15 +14,15 @@ use Rattle.grammar_laws.proofs.Works.{refuses_first}
 use Rattle.grammar_laws.proofs.ExprsWork.{exprs_work}
 use Rattle.grammar_laws.proofs.one_answer.Goals as goal
 
-answered : (r : ℕ) (f : Front) (q : Result (Node × Front) ParseFault) → expr_to (suc r) levels.Whole f ≡ q → IsAnswered r f
-answered r f (Ok x) e = inl (x.0, x.1, what_was_read (ExprAt r f) (expr_to (suc r) levels.Whole f) x.0 x.1 (exprs_read r levels.Whole f) e)
-answered r f (Err d) e = inr (d, (refuses_first (whole r ∷ []) f (expr_to (suc r) levels.Whole f) (exprs_work r levels.Whole [] f) d).0 e)
+result_is_answer : (r : ℕ) (f : Front) (q : Result (Node × Front) ParseFault) → expr_to (suc r) levels.Whole f ≡ q → IsAnswered r f
+result_is_answer r f (Ok x) e = inl (x.0, x.1, what_was_read (ExprAt r f) (expr_to (suc r) levels.Whole f) x.0 x.1 (exprs_read r levels.Whole f) e)
+result_is_answer r f (Err d) e = inr (d, (refuses_first (whole r ∷ []) f (expr_to (suc r) levels.Whole f) (exprs_work r levels.Whole [] f) d).0 e)
 
 no_both : {A E : Type 0} (x : A) (e : E) → ◌≡◌ {A = Result A E} (Ok x) (Err e) → ⊥
 no_both x e h = cc
 
 pub returns-clause-some : goal.returns-clause-some
-returns-clause-some c = λ r f. answered r f (expr_to (suc r) levels.Whole f) refl
+returns-clause-some c = λ r f. result_is_answer r f (expr_to (suc r) levels.Whole f) refl
 
 pub returns-clause-apart : goal.returns-clause-apart
 returns-clause-apart c =

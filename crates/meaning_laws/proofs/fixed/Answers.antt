@@ -1,5 +1,5 @@
-use Rattle.meaning_laws.proofs.Within.{fixed}
+use Rattle.meaning_laws.proofs.Within.{meaning_is_fixed}
 use Rattle.meaning_laws.proofs.fixed.Goals as goal
 
 pub returns : goal.returns
-returns c = fixed
+returns c = meaning_is_fixed

@@ -9,15 +9,15 @@ use Rattle.program_grammar.proofs.ProgramsAre.{program_is}
 use Rattle.program_grammar.proofs.ProgramsWork.{program_refused}
 use Rattle.program_grammar.proofs.one_answer.Goals as goal
 
-answered : (tokens : List Token) (end : ℕ) (r : Result Draft ParseFault) → program_of tokens end ≡ r → IsProgramOrRefused tokens end
-answered tokens end (Ok d) e = inl (d, program_written tokens end d e)
-answered tokens end (Err d) e = inr (d, (program_refused tokens end d).0 e)
+result_is_answer : (tokens : List Token) (end : ℕ) (r : Result Draft ParseFault) → program_of tokens end ≡ r → IsProgramOrRefused tokens end
+result_is_answer tokens end (Ok d) e = inl (d, program_written tokens end d e)
+result_is_answer tokens end (Err d) e = inr (d, (program_refused tokens end d).0 e)
 
 no_both : {A E : Type 0} (x : A) (e : E) → ◌≡◌ {A = Result A E} (Ok x) (Err e) → ⊥
 no_both x e h = cc
 
 pub returns-clause-some : goal.returns-clause-some
-returns-clause-some c = λ tokens end. answered tokens end (program_of tokens end) refl
+returns-clause-some c = λ tokens end. result_is_answer tokens end (program_of tokens end) refl
 
 pub returns-clause-apart : goal.returns-clause-apart
 returns-clause-apart c = λ tokens end d e p h. no_both d e (sym (program_is p) ∙ (program_refused tokens end e).1 h)

@@ -15,12 +15,12 @@ use Rattle.program_grammar.specs.Agenda.{IsSized}
 use Rattle.program_grammar.proofs.ProgramsWork.{size_is}
 use Rattle.program_grammar.proofs.what_is_judged.Goals as goal
 
-sized : (f : Front) (r : Result (Node × Front) ParseFault) → expr_to 161 levels.Whole f ≡ r → IsSized f
-sized f (Ok x) e = inl (x.0, x.1, what_was_read (ExprAt 160 f) (expr_to 161 levels.Whole f) x.0 x.1 (exprs_read 160 levels.Whole f) e, size_is f x.1 x.0 e)
-sized f (Err d) e = inr (d, (refuses_first (whole 160 ∷ []) f (expr_to 161 levels.Whole f) (exprs_work 160 levels.Whole [] f) d).0 e)
+result_is_sized : (f : Front) (r : Result (Node × Front) ParseFault) → expr_to 161 levels.Whole f ≡ r → IsSized f
+result_is_sized f (Ok x) e = inl (x.0, x.1, what_was_read (ExprAt 160 f) (expr_to 161 levels.Whole f) x.0 x.1 (exprs_read 160 levels.Whole f) e, size_is f x.1 x.0 e)
+result_is_sized f (Err d) e = inr (d, (refuses_first (whole 160 ∷ []) f (expr_to 161 levels.Whole f) (exprs_work 160 levels.Whole [] f) d).0 e)
 
 pub returns-clause-body : goal.returns-clause-body
 returns-clause-body c = λ f g n d ends. size_is f g n (expr_is d ends)
 
 pub returns-clause-some : goal.returns-clause-some
-returns-clause-some c = λ f. sized f (expr_to 161 levels.Whole f) refl
+returns-clause-some c = λ f. result_is_sized f (expr_to 161 levels.Whole f) refl

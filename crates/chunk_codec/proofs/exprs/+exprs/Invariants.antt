@@ -56,8 +56,8 @@ decreases-remote_behind l = 5 * l.room - 2
 abbrev pub decreases-neighbour_behind : goal.decreases-neighbour_behind
 decreases-neighbour_behind l = 5 * l.room - 2
 
-abbrev pub decreases-boxed : goal.decreases-boxed
-decreases-boxed l = 5 * l.room + 1
+abbrev pub decreases-boxed_expr : goal.decreases-boxed_expr
+decreases-boxed_expr l = 5 * l.room + 1
 
 abbrev pub decreases-exprs_of : goal.decreases-exprs_of
 decreases-exprs_of l = 5 * l.room + 1

@@ -8,9 +8,9 @@ pub invariant_of-result : goal.invariant_of-result
 invariant_of-result c =
     let none : c.in_ok-ill.field-0 ≡ None = grind (arith, common_steps, c.in_default.not-Some) in
     let small : c.is_small.result ≡ true = grind (arith, c.if-not-is_small.false) in
-    call_made c.in_ok-shared.field-0 c.args.program.now c.in_ok-copy.field-0 c.args.entry.now c.args.args c.in_ok-shared.ensures.value c.in_ok-copy.ensures c.shared.ensures.kept c.requires.formed c.requires.full (sym c.is_small.ensures ∙ small)
+    call_made c.in_ok-share_program.field-0 c.args.program.now c.in_ok-copy.field-0 c.args.entry.now c.args.args c.in_ok-share_program.ensures.value c.in_ok-copy.ensures c.share_program.ensures.kept c.requires.formed c.requires.full (sym c.is_small.ensures ∙ small)
     (sym (c.in_ok-ill.ensures ∙ (λ i. ill_call right (c.program.ensures.value i) c.args.entry.now (c.as_slice.ensures i))) ∙ none)
 
 pub returns-clause-found : goal.returns-clause-found
 returns-clause-found c =
-    (λ i. record { code = c.in_ok-shared.ensures.value i; entry = c.in_ok-copy.ensures i; args = c.args.args }, invariant_of-result c)
+    (λ i. record { code = c.in_ok-share_program.ensures.value i; entry = c.in_ok-copy.ensures i; args = c.args.args }, invariant_of-result c)

@@ -1,7 +1,7 @@
 use Rattle.std.proofs.Common.{◌≡◌, ◌+◌}
 use Rattle.std.specs.Prelude.{drop}
-use Rattle.frag_chunks.specs.Gathers.{filled}
+use Rattle.frag_chunks.specs.Gathers.{filled_parts}
 use Rattle.frag_chunks.proofs.holding.count_there.Given as goal
 
 abbrev pub invariant-loop-i : goal.invariant-loop-i
-invariant-loop-i l = l.count + filled (drop l.i l.slots) ≡ filled l.slots
+invariant-loop-i l = l.count + filled_parts (drop l.i l.slots) ≡ filled_parts l.slots

@@ -19,7 +19,7 @@ count_lines-requires g c =
 pub returns-clause-text : goal.returns-clause-text
 returns-clause-text g c = λ w h.
     let lines = (c.in_ok-lines.ensures.ok w h).list in
-    let own = entries_are w c.args.event.now _ _ c.args.world.now.made (ap (λ n. n + 1) c.made-number.ensures) h.is.made (c.as_slice-2.ensures ∙ lines) in
+    let own = entries_are w c.args.event.now _ _ c.args.world.now.made (ap (λ n. n + 1) c.event_count-number.ensures) h.is.made (c.as_slice-2.ensures ∙ lines) in
     c.in_ok-put_lines.ensures.whole ∙ ap (λ x. c.args.text.now ++ entries_text c.args.frames x) own
 
 pub returns-clause-world : goal.returns-clause-world
@@ -29,5 +29,5 @@ pub returns-clause-ledger : goal.returns-clause-ledger
 returns-clause-ledger g c = λ w old h l s.
     let late = c.is_late-late.ensures ∙ ap (λ wire. late_in wire c.args.event.now) h.is.wire in
     let lines = (c.in_ok-lines.ensures.ok w h).list in
-    let own = entries_are w c.args.event.now _ _ c.args.world.now.made (ap (λ n. n + 1) c.made-number.ensures) h.is.made (c.as_slice.ensures ∙ lines) in
+    let own = entries_are w c.args.event.now _ _ c.args.world.now.made (ap (λ n. n + 1) c.event_count-number.ensures) h.is.made (c.as_slice.ensures ∙ lines) in
     subst (λ x. Stands (old ++ x) c.count_lines.new.ledger) own (c.in_ok-count_lines.ensures old _ (leaves_as old w c.args.event.now _ _ _ late own (c.as_slice.ensures ∙ lines) l) s)

@@ -9,4 +9,4 @@ returns-in_err-plain-clause-fault c =
     rw (p.1, p.2) (read_fault c.args.bytes.now c.in_err-plain.field-0.0 c.in_err-plain.ensures.fault)
 
 pub returns-clause-fault : goal.returns-clause-fault
-returns-clause-fault c = whole_fault c.args.bytes.now c.in_ok-plain.plain c.in_ok-plain.ensures.found c.checked.result c.checked.ensures.fault
+returns-clause-fault c = whole_fault c.args.bytes.now c.in_ok-plain.plain c.in_ok-plain.ensures.found c.checked_frame.result c.checked_frame.ensures.fault

@@ -1,5 +1,5 @@
 use Rattle.std.proofs.Common.{◌≡◌, Ok}
-use Rattle.plan_meaning.specs.State.{joined}
+use Rattle.plan_meaning.specs.State.{joined_state}
 use Rattle.eval_steps.specs.declared.stack_frame.StackFrame.TheVariants as frame
 use Rattle.plan_eval.specs.declared.rest.Flow.TheVariants as flow
 use Rattle.eval_steps.proofs.Leading.{onward}
@@ -10,12 +10,12 @@ use Rattle.plan_eval.proofs.back.chunk_back.Goals as goal
 pub returns-in-Ok-Done-clause-flows : goal.returns-in-Ok-Done-clause-flows
 returns-in-Ok-Done-clause-flows c codes code seen at want m h =
     let is : c.args.flow ≡ Ok (flow.Done c.in-Ok-Done._given) = cc in
-    let now = joined c.args.state.now m in
-    flows_from codes code seen at _ _ c.ended.result (joined c.ended.new.state m)
+    let now = joined_state c.args.state.now m in
+    flows_from codes code seen at _ _ c.ended_by_value.result (joined_state c.ended_by_value.new.state m)
     (onward _ _ _ (resume_gave code seen at want now frame.Chunk c.in-Ok-Done._given (rw is at h)) (chunk_given code seen at now c.in-Ok-Done._given))
-    (c.ended.ensures.flows codes code seen at m)
+    (c.ended_by_value.ensures.flows codes code seen at m)
 
 pub returns-in_ok-inside-in-Ok-Wait-clause-flows : goal.returns-in_ok-inside-in-Ok-Wait-clause-flows
 returns-in_ok-inside-in-Ok-Wait-clause-flows c codes code seen at want m h =
     let is : c.args.flow ≡ Ok (flow.Wait c.in-Ok-Wait.rest) = cc in
-    rw c.in_ok-inside-in-Ok-Wait.ensures (waits_chunk code seen at want (joined c.args.state.now m) codes c.in-Ok-Wait.rest (rw is at h))
+    rw c.in_ok-inside-in-Ok-Wait.ensures (waits_chunk code seen at want (joined_state c.args.state.now m) codes c.in-Ok-Wait.rest (rw is at h))

@@ -1,5 +1,5 @@
 use Rattle.std.proofs.Common.{◌≡◌, Ok, Err}
-use Rattle.plan_meaning.specs.State.{joined}
+use Rattle.plan_meaning.specs.State.{joined_state}
 use Rattle.plan_eval.specs.declared.rest.Flow.TheVariants as flow
 use Rattle.plan_eval.specs.Direct.{spot}
 use Rattle.eval_steps.proofs.Leading.{itself}
@@ -18,12 +18,12 @@ pub returns-in_ok-inside-in-Ok-Wait-clause-advances : goal.returns-in_ok-inside-
 returns-in_ok-inside-in-Ok-Wait-clause-advances g c codes inner want deep h =
     let is : c.args.flow ≡ Ok (flow.Wait c.in-Ok-Wait.rest) = cc in
     rw c.in_ok-inside-in-Ok-Wait.ensures
-    (waits_inside codes c.args.here.now.code.now c.args.here.now.fun (spot c.args.here.now c.args.e.now) c.args.frame inner deep c.in-Ok-Wait.rest (joined c.args.state.now (g.S.Services.stands c.args.svc.now)) _ want (itself _) (rw is at h))
+    (waits_inside codes c.args.here.now.code.now c.args.here.now.fun (spot c.args.here.now c.args.e.now) c.args.frame inner deep c.in-Ok-Wait.rest (joined_state c.args.state.now (g.S.Services.stands c.args.svc.now)) _ want (itself _) (rw is at h))
 
 pub returns-in-Err-clause-advances : goal.returns-in-Err-clause-advances
 returns-in-Err-clause-advances g c codes inner want deep h =
     let is : c.args.flow ≡ Err c.in-Err.stop = cc in
-    c.stop_back.ensures.advances codes c.args.here.now.code.now c.args.here.now.fun (spot c.args.here.now c.args.e.now).env want (joined c.args.state.now (g.S.Services.stands c.args.svc.now)) (rw is at h)
+    c.stop_back.ensures.advances codes c.args.here.now.code.now c.args.here.now.fun (spot c.args.here.now c.args.e.now).env want (joined_state c.args.state.now (g.S.Services.stands c.args.svc.now)) (rw is at h)
 
 pub returns-in-Err-clause-turns : goal.returns-in-Err-clause-turns
 returns-in-Err-clause-turns g c depth old h =

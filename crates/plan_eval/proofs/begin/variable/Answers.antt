@@ -1,6 +1,6 @@
 use Rattle.std.proofs.Common.{rules}
-use Rattle.plan_meaning.specs.State.{joined}
-use Rattle.plan_meaning.specs.Run.{weighed}
+use Rattle.plan_meaning.specs.State.{joined_state}
+use Rattle.plan_meaning.specs.Run.{weighed_value}
 use Rattle.plan_eval.specs.Direct.{spot}
 use Rattle.eval_steps.specs.Leads.{Leads}
 use Rattle.eval_steps.specs.Nexts.{begins}
@@ -10,6 +10,6 @@ use Rattle.plan_eval.proofs.begin.variable.Goals as goal
 
 pub returns-in_ok-copy-in-Some-clause-flows : goal.returns-in_ok-copy-in-Some-clause-flows
 returns-in_ok-copy-in-Some-clause-flows c codes n =
-    let leads : Leads (begins c.args.here.now.code.now c.args.here.now.fun (spot c.args.here.now c.args.e.now) (joined c.args.state.now n)) (weighed c.in_ok-copy-in-Some.field-0 (joined c.args.state.now n)) = search (rules, gives_name) in
-    flows_from codes c.args.here.now.code.now c.args.here.now.fun (spot c.args.here.now c.args.e.now) _ _ c.ended.result (joined c.ended.new.state n) leads
-    (c.ended.ensures.flows codes c.args.here.now.code.now c.args.here.now.fun (spot c.args.here.now c.args.e.now) n)
+    let leads : Leads (begins c.args.here.now.code.now c.args.here.now.fun (spot c.args.here.now c.args.e.now) (joined_state c.args.state.now n)) (weighed_value c.in_ok-copy-in-Some.field-0 (joined_state c.args.state.now n)) = search (rules, gives_name) in
+    flows_from codes c.args.here.now.code.now c.args.here.now.fun (spot c.args.here.now c.args.e.now) _ _ c.ended_by_value.result (joined_state c.ended_by_value.new.state n) leads
+    (c.ended_by_value.ensures.flows codes c.args.here.now.code.now c.args.here.now.fun (spot c.args.here.now c.args.e.now) n)

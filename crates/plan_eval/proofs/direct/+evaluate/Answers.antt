@@ -5,10 +5,10 @@ use Rattle.plan_base.specs.declared.tree.Value as value
 use Rattle.plan_eval.specs.declared.row.Row.TheVariants as row
 use Rattle.typing_rules.specs.TypingNames.{place_of}
 use Rattle.plan_meaning.specs.declared.stop.EvalStop.TheVariants.{WorkSpent, Wrong}
-use Rattle.plan_meaning.specs.State.{joined}
-use Rattle.plan_meaning.specs.Run.{gave, weighed}
+use Rattle.plan_meaning.specs.State.{joined_state}
+use Rattle.plan_meaning.specs.Run.{gave, weighed_value}
 use Rattle.plan_meaning.specs.Safe.{IsSafe}
-use Rattle.plan_meaning.specs.Meaning.{meaning, as_bool, bound, entered, visited}
+use Rattle.plan_meaning.specs.Meaning.{meaning, as_bool, bound, entered_function, visited_chunk}
 use Rattle.eval_steps.specs.declared.stack_frame.StackFrame.TheVariants as frame
 use Rattle.eval_steps.specs.declared.next.Next.TheVariants as next
 use Rattle.plan_eval.specs.declared.rest.Flow.TheVariants as flow
@@ -26,7 +26,7 @@ use Rattle.plan_eval.proofs.Hot.{let_form, let_first, let_parts, let_no_try, let
 use Rattle.plan_eval.proofs.Turning.{visited_nowhere}
 use Rattle.plan_eval.proofs.Ending.{resume_final}
 use Rattle.eval_steps.proofs.Delivering.{visited_on}
-use Rattle.plan_eval.proofs.Waiting.{paused, waits_inside}
+use Rattle.plan_eval.proofs.Waiting.{nothing_begun_waits, waits_inside}
 use Rattle.plan_eval.proofs.Backs.{flows_from, enters_from}
 use Rattle.plan_eval.proofs.Diving.{grown_get, here_grown, grows_on, grows_none, deeper_here, opened_paused, opened_safe, part_safe, body_leads, body_binds, bodies_from}
 use Rattle.plan_eval.proofs.direct.+evaluate.Goals as goal
@@ -35,67 +35,67 @@ use Rattle.plan_eval.proofs.direct.+evaluate.Goals as goal
 
 pub evaluate-returns-then-depth-eq0-clause-flows : goal.evaluate-returns-then-depth-eq0-clause-flows
 evaluate-returns-then-depth-eq0-clause-flows g t c =
-    rw c.pause.ensures (paused c.args.codes.now c.args.here.now.code.now c.args.here.now.fun (spot c.args.here.now c.args.e.now) (joined c.args.state.now (g.S.Services.stands c.args.svc.now)))
+    rw c.pause.ensures (nothing_begun_waits c.args.codes.now c.args.here.now.code.now c.args.here.now.fun (spot c.args.here.now c.args.e.now) (joined_state c.args.state.now (g.S.Services.stands c.args.svc.now)))
 
 pub evaluate-returns-then-not-pays-clause-flows : goal.evaluate-returns-then-not-pays-clause-flows
 evaluate-returns-then-not-pays-clause-flows g t c = λ other.
-    begun_spent c.args.here.now.code.now c.args.here.now.fun (spot c.args.here.now c.args.e.now).env c.args.e.now WorkSpent (joined c.args.state.now (g.S.Services.stands c.args.svc.now)) _
+    begun_spent c.args.here.now.code.now c.args.here.now.fun (spot c.args.here.now c.args.e.now).env c.args.e.now WorkSpent (joined_state c.args.state.now (g.S.Services.stands c.args.svc.now)) _
     (c.if-not-pays.ensures.unpaid refl (g.S.Services.stands c.args.svc.now))
 
 pub evaluate-returns-in-Int-clause-flows : goal.evaluate-returns-in-Int-clause-flows
 evaluate-returns-in-Int-clause-flows g t c =
-    let leads = begun_here c.args.here.now.code.now c.args.here.now.fun (spot c.args.here.now c.args.e.now).env c.args.e.now (joined c.args.state.now (g.S.Services.stands c.args.svc.now)) (joined c.pays.new.self (g.S.Services.stands c.args.svc.now))
+    let leads = begun_here c.args.here.now.code.now c.args.here.now.fun (spot c.args.here.now c.args.e.now).env c.args.e.now (joined_state c.args.state.now (g.S.Services.stands c.args.svc.now)) (joined_state c.pays.new.self (g.S.Services.stands c.args.svc.now))
     (c.if-not-pays.ensures.paid refl (g.S.Services.stands c.args.svc.now)) in
-    flows_from c.args.codes.now c.args.here.now.code.now c.args.here.now.fun (spot c.args.here.now c.args.e.now) _ _ c.number.result (joined c.number.new.state (g.S.Services.stands c.args.svc.now)) leads (c.number.ensures.flows c.args.codes.now (g.S.Services.stands c.args.svc.now))
+    flows_from c.args.codes.now c.args.here.now.code.now c.args.here.now.fun (spot c.args.here.now c.args.e.now) _ _ c.number.result (joined_state c.number.new.state (g.S.Services.stands c.args.svc.now)) leads (c.number.ensures.flows c.args.codes.now (g.S.Services.stands c.args.svc.now))
 
 pub evaluate-returns-in-Var-clause-flows : goal.evaluate-returns-in-Var-clause-flows
 evaluate-returns-in-Var-clause-flows g t c =
-    let leads = begun_here c.args.here.now.code.now c.args.here.now.fun (spot c.args.here.now c.args.e.now).env c.args.e.now (joined c.args.state.now (g.S.Services.stands c.args.svc.now)) (joined c.pays.new.self (g.S.Services.stands c.args.svc.now))
+    let leads = begun_here c.args.here.now.code.now c.args.here.now.fun (spot c.args.here.now c.args.e.now).env c.args.e.now (joined_state c.args.state.now (g.S.Services.stands c.args.svc.now)) (joined_state c.pays.new.self (g.S.Services.stands c.args.svc.now))
     (c.if-not-pays.ensures.paid refl (g.S.Services.stands c.args.svc.now)) in
-    flows_from c.args.codes.now c.args.here.now.code.now c.args.here.now.fun (spot c.args.here.now c.args.e.now) _ _ c.variable.result (joined c.variable.new.state (g.S.Services.stands c.args.svc.now)) leads (c.variable.ensures.flows c.args.codes.now (g.S.Services.stands c.args.svc.now))
+    flows_from c.args.codes.now c.args.here.now.code.now c.args.here.now.fun (spot c.args.here.now c.args.e.now) _ _ c.variable.result (joined_state c.variable.new.state (g.S.Services.stands c.args.svc.now)) leads (c.variable.ensures.flows c.args.codes.now (g.S.Services.stands c.args.svc.now))
 
 pub evaluate-choice-requires : goal.evaluate-choice-requires
 evaluate-choice-requires g t c =
     let form : out-Expr c.args.e.now ≡ Expr-F.If c.get-t.result.now c.get-a.result.now c.get-b.result.now =
     rw (c.in-If.is, c.get-t.ensures, c.get-a.ensures, c.get-b.ensures) (if_form c.in-If.t c.in-If.a c.in-If.b) in
-    let leads = begun_here c.args.here.now.code.now c.args.here.now.fun (spot c.args.here.now c.args.e.now).env c.args.e.now (joined c.args.state.now (g.S.Services.stands c.args.svc.now)) (joined c.pays.new.self (g.S.Services.stands c.args.svc.now))
+    let leads = begun_here c.args.here.now.code.now c.args.here.now.fun (spot c.args.here.now c.args.e.now).env c.args.e.now (joined_state c.args.state.now (g.S.Services.stands c.args.svc.now)) (joined_state c.pays.new.self (g.S.Services.stands c.args.svc.now))
     (c.if-not-pays.ensures.paid refl (g.S.Services.stands c.args.svc.now)) in
-    let safe : IsSafe (begins c.args.here.now.code.now c.args.here.now.fun (spot c.args.here.now c.args.e.now) (joined c.pays.new.self (g.S.Services.stands c.args.svc.now))).asks = leads.safe c.requires.safe in
+    let safe : IsSafe (begins c.args.here.now.code.now c.args.here.now.fun (spot c.args.here.now c.args.e.now) (joined_state c.pays.new.self (g.S.Services.stands c.args.svc.now))).asks = leads.safe c.requires.safe in
     search rules
 
 pub evaluate-returns-in-If-clause-flows : goal.evaluate-returns-in-If-clause-flows
 evaluate-returns-in-If-clause-flows g t c =
-    let leads = begun_here c.args.here.now.code.now c.args.here.now.fun (spot c.args.here.now c.args.e.now).env c.args.e.now (joined c.args.state.now (g.S.Services.stands c.args.svc.now)) (joined c.pays.new.self (g.S.Services.stands c.args.svc.now))
+    let leads = begun_here c.args.here.now.code.now c.args.here.now.fun (spot c.args.here.now c.args.e.now).env c.args.e.now (joined_state c.args.state.now (g.S.Services.stands c.args.svc.now)) (joined_state c.pays.new.self (g.S.Services.stands c.args.svc.now))
     (c.if-not-pays.ensures.paid refl (g.S.Services.stands c.args.svc.now)) in
-    flows_from c.choice.new.codes c.args.here.now.code.now c.args.here.now.fun (spot c.args.here.now c.args.e.now) _ _ c.choice.result (joined c.choice.new.state (g.S.Services.stands c.choice.new.svc)) leads c.choice.ensures.flows
+    flows_from c.choice.new.codes c.args.here.now.code.now c.args.here.now.fun (spot c.args.here.now c.args.e.now) _ _ c.choice.result (joined_state c.choice.new.state (g.S.Services.stands c.choice.new.svc)) leads c.choice.ensures.flows
 
 pub evaluate-operation-requires : goal.evaluate-operation-requires
 evaluate-operation-requires g t c =
     let form : out-Expr c.args.e.now ≡ Expr-F.Binary c.in-Binary.op c.get-a-in-Binary.result.now c.get-b-in-Binary.result.now =
     rw (c.in-Binary.is, c.get-a-in-Binary.ensures, c.get-b-in-Binary.ensures) (binary_form c.in-Binary.op c.in-Binary.a c.in-Binary.b) in
-    let leads = begun_here c.args.here.now.code.now c.args.here.now.fun (spot c.args.here.now c.args.e.now).env c.args.e.now (joined c.args.state.now (g.S.Services.stands c.args.svc.now)) (joined c.pays.new.self (g.S.Services.stands c.args.svc.now))
+    let leads = begun_here c.args.here.now.code.now c.args.here.now.fun (spot c.args.here.now c.args.e.now).env c.args.e.now (joined_state c.args.state.now (g.S.Services.stands c.args.svc.now)) (joined_state c.pays.new.self (g.S.Services.stands c.args.svc.now))
     (c.if-not-pays.ensures.paid refl (g.S.Services.stands c.args.svc.now)) in
-    let safe : IsSafe (begins c.args.here.now.code.now c.args.here.now.fun (spot c.args.here.now c.args.e.now) (joined c.pays.new.self (g.S.Services.stands c.args.svc.now))).asks = leads.safe c.requires.safe in
+    let safe : IsSafe (begins c.args.here.now.code.now c.args.here.now.fun (spot c.args.here.now c.args.e.now) (joined_state c.pays.new.self (g.S.Services.stands c.args.svc.now))).asks = leads.safe c.requires.safe in
     search rules
 
 pub evaluate-returns-in-Binary-clause-flows : goal.evaluate-returns-in-Binary-clause-flows
 evaluate-returns-in-Binary-clause-flows g t c =
-    let leads = begun_here c.args.here.now.code.now c.args.here.now.fun (spot c.args.here.now c.args.e.now).env c.args.e.now (joined c.args.state.now (g.S.Services.stands c.args.svc.now)) (joined c.pays.new.self (g.S.Services.stands c.args.svc.now))
+    let leads = begun_here c.args.here.now.code.now c.args.here.now.fun (spot c.args.here.now c.args.e.now).env c.args.e.now (joined_state c.args.state.now (g.S.Services.stands c.args.svc.now)) (joined_state c.pays.new.self (g.S.Services.stands c.args.svc.now))
     (c.if-not-pays.ensures.paid refl (g.S.Services.stands c.args.svc.now)) in
-    flows_from c.operation.new.codes c.args.here.now.code.now c.args.here.now.fun (spot c.args.here.now c.args.e.now) _ _ c.operation.result (joined c.operation.new.state (g.S.Services.stands c.operation.new.svc)) leads c.operation.ensures.flows
+    flows_from c.operation.new.codes c.args.here.now.code.now c.args.here.now.fun (spot c.args.here.now c.args.e.now) _ _ c.operation.result (joined_state c.operation.new.state (g.S.Services.stands c.operation.new.svc)) leads c.operation.ensures.flows
 
 pub evaluate-general-requires : goal.evaluate-general-requires
 evaluate-general-requires g t c =
-    let leads = begun_here c.args.here.now.code.now c.args.here.now.fun (spot c.args.here.now c.args.e.now).env c.args.e.now (joined c.args.state.now (g.S.Services.stands c.args.svc.now)) (joined c.pays.new.self (g.S.Services.stands c.args.svc.now))
+    let leads = begun_here c.args.here.now.code.now c.args.here.now.fun (spot c.args.here.now c.args.e.now).env c.args.e.now (joined_state c.args.state.now (g.S.Services.stands c.args.svc.now)) (joined_state c.pays.new.self (g.S.Services.stands c.args.svc.now))
     (c.if-not-pays.ensures.paid refl (g.S.Services.stands c.args.svc.now)) in
-    let safe : IsSafe (begins c.args.here.now.code.now c.args.here.now.fun (spot c.args.here.now c.args.e.now) (joined c.pays.new.self (g.S.Services.stands c.args.svc.now))).asks = leads.safe c.requires.safe in
+    let safe : IsSafe (begins c.args.here.now.code.now c.args.here.now.fun (spot c.args.here.now c.args.e.now) (joined_state c.pays.new.self (g.S.Services.stands c.args.svc.now))).asks = leads.safe c.requires.safe in
     search rules
 
 pub evaluate-returns-in_default : goal.evaluate-returns-in_default
 evaluate-returns-in_default g t c =
-    let leads = begun_here c.args.here.now.code.now c.args.here.now.fun (spot c.args.here.now c.args.e.now).env c.args.e.now (joined c.args.state.now (g.S.Services.stands c.args.svc.now)) (joined c.pays.new.self (g.S.Services.stands c.args.svc.now))
+    let leads = begun_here c.args.here.now.code.now c.args.here.now.fun (spot c.args.here.now c.args.e.now).env c.args.e.now (joined_state c.args.state.now (g.S.Services.stands c.args.svc.now)) (joined_state c.pays.new.self (g.S.Services.stands c.args.svc.now))
     (c.if-not-pays.ensures.paid refl (g.S.Services.stands c.args.svc.now)) in
-    let flows = flows_from c.general.new.codes c.args.here.now.code.now c.args.here.now.fun (spot c.args.here.now c.args.e.now) _ _ c.general.result (joined c.general.new.state (g.S.Services.stands c.general.new.svc)) leads c.general.ensures.flows in
+    let flows = flows_from c.general.new.codes c.args.here.now.code.now c.args.here.now.fun (spot c.args.here.now c.args.e.now) _ _ c.general.result (joined_state c.general.new.state (g.S.Services.stands c.general.new.svc)) leads c.general.ensures.flows in
     search rules
 
 -- ---- forms by themselves
@@ -103,7 +103,7 @@ evaluate-returns-in_default g t c =
 pub last_part-evaluate-flow-requires : goal.last_part-evaluate-flow-requires
 last_part-evaluate-flow-requires g t c =
     let deep = deeper_here (spot c.args.here.now c.args.e.now) (frame.Last c.args.n) c.args.part.now c.requires.part refl in
-    let safe : IsSafe (meaning c.args.here.now.code.now c.args.here.now.fun (spot c.args.here.now c.args.e.now).env c.args.part.now (joined c.args.state.now (g.S.Services.stands c.args.svc.now))).asks = part_safe c.args.here.now.code.now c.args.here.now.fun (spot c.args.here.now c.args.e.now) (frame.Last c.args.n) (joined c.args.state.now (g.S.Services.stands c.args.svc.now)) c.args.part.now deep c.requires.safe in
+    let safe : IsSafe (meaning c.args.here.now.code.now c.args.here.now.fun (spot c.args.here.now c.args.e.now).env c.args.part.now (joined_state c.args.state.now (g.S.Services.stands c.args.svc.now))).asks = part_safe c.args.here.now.code.now c.args.here.now.fun (spot c.args.here.now c.args.e.now) (frame.Last c.args.n) (joined_state c.args.state.now (g.S.Services.stands c.args.svc.now)) c.args.part.now deep c.requires.safe in
     search rules
 
 pub last_part-returns-clause-flows : goal.last_part-returns-clause-flows
@@ -113,86 +113,86 @@ last_part-returns-clause-flows g t c =
 
 pub choice-evaluate-requires : goal.choice-evaluate-requires
 choice-evaluate-requires g t c =
-    let safe : IsSafe (meaning c.args.here.now.code.now c.args.here.now.fun (spot c.args.here.now c.args.e.now).env c.args.t.now (joined c.args.state.now (g.S.Services.stands c.args.svc.now))).asks = first_safe c.args.here.now.code.now c.args.here.now.fun (spot c.args.here.now c.args.e.now) c.args.t.now (joined c.args.state.now (g.S.Services.stands c.args.svc.now)) (if_parts c.args.here.now.code.now c.args.here.now.fun c.args.e.now c.args.t.now c.args.a.now c.args.b.now (spot c.args.here.now c.args.e.now).env c.requires.form) (if_test c.args.here.now.code.now c.args.here.now.fun c.args.e.now c.args.t.now c.args.a.now c.args.b.now (spot c.args.here.now c.args.e.now).env c.requires.form) c.requires.safe in
+    let safe : IsSafe (meaning c.args.here.now.code.now c.args.here.now.fun (spot c.args.here.now c.args.e.now).env c.args.t.now (joined_state c.args.state.now (g.S.Services.stands c.args.svc.now))).asks = first_safe c.args.here.now.code.now c.args.here.now.fun (spot c.args.here.now c.args.e.now) c.args.t.now (joined_state c.args.state.now (g.S.Services.stands c.args.svc.now)) (if_parts c.args.here.now.code.now c.args.here.now.fun c.args.e.now c.args.t.now c.args.a.now c.args.b.now (spot c.args.here.now c.args.e.now).env c.requires.form) (if_test c.args.here.now.code.now c.args.here.now.fun c.args.e.now c.args.t.now c.args.a.now c.args.b.now (spot c.args.here.now c.args.e.now).env c.requires.form) c.requires.safe in
     search rules
 
 pub choice-last_part-requires : goal.choice-last_part-requires
 choice-last_part-requires g t c =
     let is : c.evaluate.result ≡ Ok (flow.Done c.in-Ok-Done.v) = cc in
-    let came : (meaning c.args.here.now.code.now c.args.here.now.fun (spot c.args.here.now c.args.e.now).env c.args.t.now (joined c.args.state.now (g.S.Services.stands c.args.svc.now))).after ≡ gave c.in-Ok-Done.v (joined c.evaluate.new.state (g.S.Services.stands c.evaluate.new.svc)) = rw is at c.evaluate.ensures.flows in
+    let came : (meaning c.args.here.now.code.now c.args.here.now.fun (spot c.args.here.now c.args.e.now).env c.args.t.now (joined_state c.args.state.now (g.S.Services.stands c.args.svc.now))).after ≡ gave c.in-Ok-Done.v (joined_state c.evaluate.new.state (g.S.Services.stands c.evaluate.new.svc)) = rw is at c.evaluate.ensures.flows in
     let test : as_bool c.in-Ok-Done.v ≡ Some true = cc in
     let here = here_grown _ _ _ c.evaluate.ensures.grown c.requires.here in
     let part : part_or_self c.args.e.now (Some 1) ≡ Some c.args.a.now = if_yes c.args.here.now.code.now c.args.here.now.fun c.args.e.now c.args.t.now c.args.a.now c.args.b.now (spot c.args.here.now c.args.e.now).env c.requires.form in
-    let safe : IsSafe (next_step c.args.here.now.code.now c.args.here.now.fun (spot c.args.here.now c.args.e.now) (next.Open (frame.Last 1)) (joined c.evaluate.new.state (g.S.Services.stands c.evaluate.new.svc))).asks =
-    (if_true c.args.here.now.code.now c.args.here.now.fun c.args.e.now c.args.t.now c.args.a.now c.args.b.now (spot c.args.here.now c.args.e.now).env c.requires.form (joined c.args.state.now (g.S.Services.stands c.args.svc.now)) (joined c.evaluate.new.state (g.S.Services.stands c.evaluate.new.svc)) c.in-Ok-Done.v came test).safe c.requires.safe in
+    let safe : IsSafe (next_step c.args.here.now.code.now c.args.here.now.fun (spot c.args.here.now c.args.e.now) (next.Open (frame.Last 1)) (joined_state c.evaluate.new.state (g.S.Services.stands c.evaluate.new.svc))).asks =
+    (if_true c.args.here.now.code.now c.args.here.now.fun c.args.e.now c.args.t.now c.args.a.now c.args.b.now (spot c.args.here.now c.args.e.now).env c.requires.form (joined_state c.args.state.now (g.S.Services.stands c.args.svc.now)) (joined_state c.evaluate.new.state (g.S.Services.stands c.evaluate.new.svc)) c.in-Ok-Done.v came test).safe c.requires.safe in
     search rules
 
 pub choice-returns-in-Some-true-clause-flows : goal.choice-returns-in-Some-true-clause-flows
 choice-returns-in-Some-true-clause-flows g t c =
     let is : c.evaluate.result ≡ Ok (flow.Done c.in-Ok-Done.v) = cc in
-    let came : (meaning c.args.here.now.code.now c.args.here.now.fun (spot c.args.here.now c.args.e.now).env c.args.t.now (joined c.args.state.now (g.S.Services.stands c.args.svc.now))).after ≡ gave c.in-Ok-Done.v (joined c.evaluate.new.state (g.S.Services.stands c.evaluate.new.svc)) = rw is at c.evaluate.ensures.flows in
+    let came : (meaning c.args.here.now.code.now c.args.here.now.fun (spot c.args.here.now c.args.e.now).env c.args.t.now (joined_state c.args.state.now (g.S.Services.stands c.args.svc.now))).after ≡ gave c.in-Ok-Done.v (joined_state c.evaluate.new.state (g.S.Services.stands c.evaluate.new.svc)) = rw is at c.evaluate.ensures.flows in
     let test : as_bool c.in-Ok-Done.v ≡ Some true = cc in
-    flows_from c.last_part.new.codes c.args.here.now.code.now c.args.here.now.fun (spot c.args.here.now c.args.e.now) _ _ c.last_part.result (joined c.last_part.new.state (g.S.Services.stands c.last_part.new.svc))
-    (if_true c.args.here.now.code.now c.args.here.now.fun c.args.e.now c.args.t.now c.args.a.now c.args.b.now (spot c.args.here.now c.args.e.now).env c.requires.form (joined c.args.state.now (g.S.Services.stands c.args.svc.now)) (joined c.evaluate.new.state (g.S.Services.stands c.evaluate.new.svc)) c.in-Ok-Done.v came test) c.last_part.ensures.flows
+    flows_from c.last_part.new.codes c.args.here.now.code.now c.args.here.now.fun (spot c.args.here.now c.args.e.now) _ _ c.last_part.result (joined_state c.last_part.new.state (g.S.Services.stands c.last_part.new.svc))
+    (if_true c.args.here.now.code.now c.args.here.now.fun c.args.e.now c.args.t.now c.args.a.now c.args.b.now (spot c.args.here.now c.args.e.now).env c.requires.form (joined_state c.args.state.now (g.S.Services.stands c.args.svc.now)) (joined_state c.evaluate.new.state (g.S.Services.stands c.evaluate.new.svc)) c.in-Ok-Done.v came test) c.last_part.ensures.flows
 
 pub choice-last_part-requires-in-Some-false : goal.choice-last_part-requires-in-Some-false
 choice-last_part-requires-in-Some-false g t c =
     let is : c.evaluate.result ≡ Ok (flow.Done c.in-Ok-Done.v) = cc in
-    let came : (meaning c.args.here.now.code.now c.args.here.now.fun (spot c.args.here.now c.args.e.now).env c.args.t.now (joined c.args.state.now (g.S.Services.stands c.args.svc.now))).after ≡ gave c.in-Ok-Done.v (joined c.evaluate.new.state (g.S.Services.stands c.evaluate.new.svc)) = rw is at c.evaluate.ensures.flows in
+    let came : (meaning c.args.here.now.code.now c.args.here.now.fun (spot c.args.here.now c.args.e.now).env c.args.t.now (joined_state c.args.state.now (g.S.Services.stands c.args.svc.now))).after ≡ gave c.in-Ok-Done.v (joined_state c.evaluate.new.state (g.S.Services.stands c.evaluate.new.svc)) = rw is at c.evaluate.ensures.flows in
     let test : as_bool c.in-Ok-Done.v ≡ Some false = cc in
     let here = here_grown _ _ _ c.evaluate.ensures.grown c.requires.here in
     let part : part_or_self c.args.e.now (Some 2) ≡ Some c.args.b.now = if_no c.args.here.now.code.now c.args.here.now.fun c.args.e.now c.args.t.now c.args.a.now c.args.b.now (spot c.args.here.now c.args.e.now).env c.requires.form in
-    let safe : IsSafe (next_step c.args.here.now.code.now c.args.here.now.fun (spot c.args.here.now c.args.e.now) (next.Open (frame.Last 2)) (joined c.evaluate.new.state (g.S.Services.stands c.evaluate.new.svc))).asks =
-    (if_false c.args.here.now.code.now c.args.here.now.fun c.args.e.now c.args.t.now c.args.a.now c.args.b.now (spot c.args.here.now c.args.e.now).env c.requires.form (joined c.args.state.now (g.S.Services.stands c.args.svc.now)) (joined c.evaluate.new.state (g.S.Services.stands c.evaluate.new.svc)) c.in-Ok-Done.v came test).safe c.requires.safe in
+    let safe : IsSafe (next_step c.args.here.now.code.now c.args.here.now.fun (spot c.args.here.now c.args.e.now) (next.Open (frame.Last 2)) (joined_state c.evaluate.new.state (g.S.Services.stands c.evaluate.new.svc))).asks =
+    (if_false c.args.here.now.code.now c.args.here.now.fun c.args.e.now c.args.t.now c.args.a.now c.args.b.now (spot c.args.here.now c.args.e.now).env c.requires.form (joined_state c.args.state.now (g.S.Services.stands c.args.svc.now)) (joined_state c.evaluate.new.state (g.S.Services.stands c.evaluate.new.svc)) c.in-Ok-Done.v came test).safe c.requires.safe in
     search rules
 
 pub choice-returns-in-Some-false-clause-flows : goal.choice-returns-in-Some-false-clause-flows
 choice-returns-in-Some-false-clause-flows g t c =
     let is : c.evaluate.result ≡ Ok (flow.Done c.in-Ok-Done.v) = cc in
-    let came : (meaning c.args.here.now.code.now c.args.here.now.fun (spot c.args.here.now c.args.e.now).env c.args.t.now (joined c.args.state.now (g.S.Services.stands c.args.svc.now))).after ≡ gave c.in-Ok-Done.v (joined c.evaluate.new.state (g.S.Services.stands c.evaluate.new.svc)) = rw is at c.evaluate.ensures.flows in
+    let came : (meaning c.args.here.now.code.now c.args.here.now.fun (spot c.args.here.now c.args.e.now).env c.args.t.now (joined_state c.args.state.now (g.S.Services.stands c.args.svc.now))).after ≡ gave c.in-Ok-Done.v (joined_state c.evaluate.new.state (g.S.Services.stands c.evaluate.new.svc)) = rw is at c.evaluate.ensures.flows in
     let test : as_bool c.in-Ok-Done.v ≡ Some false = cc in
-    flows_from c.last_part-in-Some-false.new.codes c.args.here.now.code.now c.args.here.now.fun (spot c.args.here.now c.args.e.now) _ _ c.last_part-in-Some-false.result (joined c.last_part-in-Some-false.new.state (g.S.Services.stands c.last_part-in-Some-false.new.svc))
-    (if_false c.args.here.now.code.now c.args.here.now.fun c.args.e.now c.args.t.now c.args.a.now c.args.b.now (spot c.args.here.now c.args.e.now).env c.requires.form (joined c.args.state.now (g.S.Services.stands c.args.svc.now)) (joined c.evaluate.new.state (g.S.Services.stands c.evaluate.new.svc)) c.in-Ok-Done.v came test) c.last_part-in-Some-false.ensures.flows
+    flows_from c.last_part-in-Some-false.new.codes c.args.here.now.code.now c.args.here.now.fun (spot c.args.here.now c.args.e.now) _ _ c.last_part-in-Some-false.result (joined_state c.last_part-in-Some-false.new.state (g.S.Services.stands c.last_part-in-Some-false.new.svc))
+    (if_false c.args.here.now.code.now c.args.here.now.fun c.args.e.now c.args.t.now c.args.a.now c.args.b.now (spot c.args.here.now c.args.e.now).env c.requires.form (joined_state c.args.state.now (g.S.Services.stands c.args.svc.now)) (joined_state c.evaluate.new.state (g.S.Services.stands c.evaluate.new.svc)) c.in-Ok-Done.v came test) c.last_part-in-Some-false.ensures.flows
 
 pub choice-returns-in-Ok-Done-clause-flows : goal.choice-returns-in-Ok-Done-clause-flows
 choice-returns-in-Ok-Done-clause-flows g t c = λ other.
     let is : c.evaluate.result ≡ Ok (flow.Done c.in-Ok-Done.v) = cc in
-    let came : (meaning c.args.here.now.code.now c.args.here.now.fun (spot c.args.here.now c.args.e.now).env c.args.t.now (joined c.args.state.now (g.S.Services.stands c.args.svc.now))).after ≡ gave c.in-Ok-Done.v (joined c.evaluate.new.state (g.S.Services.stands c.evaluate.new.svc)) = rw is at c.evaluate.ensures.flows in
+    let came : (meaning c.args.here.now.code.now c.args.here.now.fun (spot c.args.here.now c.args.e.now).env c.args.t.now (joined_state c.args.state.now (g.S.Services.stands c.args.svc.now))).after ≡ gave c.in-Ok-Done.v (joined_state c.evaluate.new.state (g.S.Services.stands c.evaluate.new.svc)) = rw is at c.evaluate.ensures.flows in
     let test : as_bool c.in-Ok-Done.v ≡ None = cc in
-    if_wrong c.args.here.now.code.now c.args.here.now.fun c.args.e.now c.args.t.now c.args.a.now c.args.b.now (spot c.args.here.now c.args.e.now).env c.requires.form (joined c.args.state.now (g.S.Services.stands c.args.svc.now)) (joined c.evaluate.new.state (g.S.Services.stands c.evaluate.new.svc)) c.in-Ok-Done.v came test
+    if_wrong c.args.here.now.code.now c.args.here.now.fun c.args.e.now c.args.t.now c.args.a.now c.args.b.now (spot c.args.here.now c.args.e.now).env c.requires.form (joined_state c.args.state.now (g.S.Services.stands c.args.svc.now)) (joined_state c.evaluate.new.state (g.S.Services.stands c.evaluate.new.svc)) c.in-Ok-Done.v came test
 
 pub choice-returns-in-Ok-Wait-clause-flows : goal.choice-returns-in-Ok-Wait-clause-flows
 choice-returns-in-Ok-Wait-clause-flows g t c =
     let is : c.evaluate.result ≡ Ok (flow.Wait c.in-Ok-Wait.rest) = cc in
     let none = c.new.ensures in
     rw (c.in_ok-inside-in-Ok-Wait.ensures, none)
-    (waits_inside c.evaluate.new.codes c.args.here.now.code.now c.args.here.now.fun (spot c.args.here.now c.args.e.now) (frame.Part 0 []) _ (if_test c.args.here.now.code.now c.args.here.now.fun c.args.e.now c.args.t.now c.args.a.now c.args.b.now (spot c.args.here.now c.args.e.now).env c.requires.form) c.in-Ok-Wait.rest (joined c.evaluate.new.state (g.S.Services.stands c.evaluate.new.svc)) _ _ (first_leads c.args.here.now.code.now c.args.here.now.fun (spot c.args.here.now c.args.e.now) c.args.t.now (joined c.args.state.now (g.S.Services.stands c.args.svc.now)) (if_parts c.args.here.now.code.now c.args.here.now.fun c.args.e.now c.args.t.now c.args.a.now c.args.b.now (spot c.args.here.now c.args.e.now).env c.requires.form) (if_test c.args.here.now.code.now c.args.here.now.fun c.args.e.now c.args.t.now c.args.a.now c.args.b.now (spot c.args.here.now c.args.e.now).env c.requires.form)) (rw is at c.evaluate.ensures.flows))
+    (waits_inside c.evaluate.new.codes c.args.here.now.code.now c.args.here.now.fun (spot c.args.here.now c.args.e.now) (frame.Part 0 []) _ (if_test c.args.here.now.code.now c.args.here.now.fun c.args.e.now c.args.t.now c.args.a.now c.args.b.now (spot c.args.here.now c.args.e.now).env c.requires.form) c.in-Ok-Wait.rest (joined_state c.evaluate.new.state (g.S.Services.stands c.evaluate.new.svc)) _ _ (first_leads c.args.here.now.code.now c.args.here.now.fun (spot c.args.here.now c.args.e.now) c.args.t.now (joined_state c.args.state.now (g.S.Services.stands c.args.svc.now)) (if_parts c.args.here.now.code.now c.args.here.now.fun c.args.e.now c.args.t.now c.args.a.now c.args.b.now (spot c.args.here.now c.args.e.now).env c.requires.form) (if_test c.args.here.now.code.now c.args.here.now.fun c.args.e.now c.args.t.now c.args.a.now c.args.b.now (spot c.args.here.now c.args.e.now).env c.requires.form)) (rw is at c.evaluate.ensures.flows))
 
 pub choice-returns-clause-flows : goal.choice-returns-clause-flows
 choice-returns-clause-flows g t c = λ other.
     let is : c.evaluate.result ≡ Err c.in-Err.stop = cc in
     let ends = (rw is at c.evaluate.ensures.flows) other in
-    (first_leads c.args.here.now.code.now c.args.here.now.fun (spot c.args.here.now c.args.e.now) c.args.t.now (joined c.args.state.now (g.S.Services.stands c.args.svc.now)) (if_parts c.args.here.now.code.now c.args.here.now.fun c.args.e.now c.args.t.now c.args.a.now c.args.b.now (spot c.args.here.now c.args.e.now).env c.requires.form) (if_test c.args.here.now.code.now c.args.here.now.fun c.args.e.now c.args.t.now c.args.a.now c.args.b.now (spot c.args.here.now c.args.e.now).env c.requires.form)).same ∙ part_stops_so c.args.here.now.code.now c.args.here.now.fun (spot c.args.here.now c.args.e.now) 0 [] _ c.in-Err.stop _ (if_no_try c.args.here.now.code.now c.args.here.now.fun c.args.e.now c.args.t.now c.args.a.now c.args.b.now (spot c.args.here.now c.args.e.now).env c.requires.form) ends
+    (first_leads c.args.here.now.code.now c.args.here.now.fun (spot c.args.here.now c.args.e.now) c.args.t.now (joined_state c.args.state.now (g.S.Services.stands c.args.svc.now)) (if_parts c.args.here.now.code.now c.args.here.now.fun c.args.e.now c.args.t.now c.args.a.now c.args.b.now (spot c.args.here.now c.args.e.now).env c.requires.form) (if_test c.args.here.now.code.now c.args.here.now.fun c.args.e.now c.args.t.now c.args.a.now c.args.b.now (spot c.args.here.now c.args.e.now).env c.requires.form)).same ∙ part_stops_so c.args.here.now.code.now c.args.here.now.fun (spot c.args.here.now c.args.e.now) 0 [] _ c.in-Err.stop _ (if_no_try c.args.here.now.code.now c.args.here.now.fun c.args.e.now c.args.t.now c.args.a.now c.args.b.now (spot c.args.here.now c.args.e.now).env c.requires.form) ends
 
 pub operation-evaluate-requires : goal.operation-evaluate-requires
 operation-evaluate-requires g t c =
-    let safe : IsSafe (meaning c.args.here.now.code.now c.args.here.now.fun (spot c.args.here.now c.args.e.now).env c.args.a.now (joined c.args.state.now (g.S.Services.stands c.args.svc.now))).asks = first_safe c.args.here.now.code.now c.args.here.now.fun (spot c.args.here.now c.args.e.now) c.args.a.now (joined c.args.state.now (g.S.Services.stands c.args.svc.now)) (operator_parts c.args.here.now.code.now c.args.here.now.fun c.args.op c.args.e.now c.args.a.now c.args.b.now (spot c.args.here.now c.args.e.now).env c.requires.form) (left_part c.args.here.now.code.now c.args.here.now.fun c.args.op c.args.e.now c.args.a.now c.args.b.now (spot c.args.here.now c.args.e.now).env c.requires.form) c.requires.safe in
+    let safe : IsSafe (meaning c.args.here.now.code.now c.args.here.now.fun (spot c.args.here.now c.args.e.now).env c.args.a.now (joined_state c.args.state.now (g.S.Services.stands c.args.svc.now))).asks = first_safe c.args.here.now.code.now c.args.here.now.fun (spot c.args.here.now c.args.e.now) c.args.a.now (joined_state c.args.state.now (g.S.Services.stands c.args.svc.now)) (operator_parts c.args.here.now.code.now c.args.here.now.fun c.args.op c.args.e.now c.args.a.now c.args.b.now (spot c.args.here.now c.args.e.now).env c.requires.form) (left_part c.args.here.now.code.now c.args.here.now.fun c.args.op c.args.e.now c.args.a.now c.args.b.now (spot c.args.here.now c.args.e.now).env c.requires.form) c.requires.safe in
     search rules
 
 pub operation-evaluate-flow-requires : goal.operation-evaluate-flow-requires
 operation-evaluate-flow-requires g t c =
     let is : c.evaluate.result ≡ Ok (flow.Done c.in-Ok-Done.x) = cc in
-    let came : (meaning c.args.here.now.code.now c.args.here.now.fun (spot c.args.here.now c.args.e.now).env c.args.a.now (joined c.args.state.now (g.S.Services.stands c.args.svc.now))).after ≡ gave c.in-Ok-Done.x (joined c.evaluate.new.state (g.S.Services.stands c.evaluate.new.svc)) = rw is at c.evaluate.ensures.flows in
+    let came : (meaning c.args.here.now.code.now c.args.here.now.fun (spot c.args.here.now c.args.e.now).env c.args.a.now (joined_state c.args.state.now (g.S.Services.stands c.args.svc.now))).after ≡ gave c.in-Ok-Done.x (joined_state c.evaluate.new.state (g.S.Services.stands c.evaluate.new.svc)) = rw is at c.evaluate.ensures.flows in
     let here = here_grown _ _ _ c.evaluate.ensures.grown c.requires.here in
-    let safe : IsSafe (meaning c.args.here.now.code.now c.args.here.now.fun (spot c.args.here.now c.args.e.now).env c.args.b.now (joined c.evaluate.new.state (g.S.Services.stands c.evaluate.new.svc))).asks = resume_asks c.args.here.now.code.now c.args.here.now.fun (spot c.args.here.now c.args.e.now) (frame.Part 1 (c.in-Ok-Done.x ∷ [])) _ ((right_leads c.args.here.now.code.now c.args.here.now.fun c.args.op c.args.e.now c.args.a.now c.args.b.now (spot c.args.here.now c.args.e.now).env c.requires.form (joined c.args.state.now (g.S.Services.stands c.args.svc.now)) (joined c.evaluate.new.state (g.S.Services.stands c.evaluate.new.svc)) c.in-Ok-Done.x came).safe c.requires.safe) in
+    let safe : IsSafe (meaning c.args.here.now.code.now c.args.here.now.fun (spot c.args.here.now c.args.e.now).env c.args.b.now (joined_state c.evaluate.new.state (g.S.Services.stands c.evaluate.new.svc))).asks = resume_asks c.args.here.now.code.now c.args.here.now.fun (spot c.args.here.now c.args.e.now) (frame.Part 1 (c.in-Ok-Done.x ∷ [])) _ ((right_leads c.args.here.now.code.now c.args.here.now.fun c.args.op c.args.e.now c.args.a.now c.args.b.now (spot c.args.here.now c.args.e.now).env c.requires.form (joined_state c.args.state.now (g.S.Services.stands c.args.svc.now)) (joined_state c.evaluate.new.state (g.S.Services.stands c.evaluate.new.svc)) c.in-Ok-Done.x came).safe c.requires.safe) in
     search rules
 
 pub operation-returns-in-Ok-Done-clause-flows : goal.operation-returns-in-Ok-Done-clause-flows
 operation-returns-in-Ok-Done-clause-flows g t c =
     let is : c.evaluate.result ≡ Ok (flow.Done c.in-Ok-Done.x) = cc in
-    let came : (meaning c.args.here.now.code.now c.args.here.now.fun (spot c.args.here.now c.args.e.now).env c.args.a.now (joined c.args.state.now (g.S.Services.stands c.args.svc.now))).after ≡ gave c.in-Ok-Done.x (joined c.evaluate.new.state (g.S.Services.stands c.evaluate.new.svc)) = rw is at c.evaluate.ensures.flows in
-    flows_from c.evaluate-flow.new.codes c.args.here.now.code.now c.args.here.now.fun (spot c.args.here.now c.args.e.now) _ _ c.operands_back.result (joined c.operands_back.new.state (g.S.Services.stands c.evaluate-flow.new.svc))
-    (right_leads c.args.here.now.code.now c.args.here.now.fun c.args.op c.args.e.now c.args.a.now c.args.b.now (spot c.args.here.now c.args.e.now).env c.requires.form (joined c.args.state.now (g.S.Services.stands c.args.svc.now)) (joined c.evaluate.new.state (g.S.Services.stands c.evaluate.new.svc)) c.in-Ok-Done.x came)
+    let came : (meaning c.args.here.now.code.now c.args.here.now.fun (spot c.args.here.now c.args.e.now).env c.args.a.now (joined_state c.args.state.now (g.S.Services.stands c.args.svc.now))).after ≡ gave c.in-Ok-Done.x (joined_state c.evaluate.new.state (g.S.Services.stands c.evaluate.new.svc)) = rw is at c.evaluate.ensures.flows in
+    flows_from c.evaluate-flow.new.codes c.args.here.now.code.now c.args.here.now.fun (spot c.args.here.now c.args.e.now) _ _ c.operands_back.result (joined_state c.operands_back.new.state (g.S.Services.stands c.evaluate-flow.new.svc))
+    (right_leads c.args.here.now.code.now c.args.here.now.fun c.args.op c.args.e.now c.args.a.now c.args.b.now (spot c.args.here.now c.args.e.now).env c.requires.form (joined_state c.args.state.now (g.S.Services.stands c.args.svc.now)) (joined_state c.evaluate.new.state (g.S.Services.stands c.evaluate.new.svc)) c.in-Ok-Done.x came)
     (c.operands_back.ensures.flows c.evaluate-flow.new.codes c.args.here.now.code.now c.args.here.now.fun c.args.e.now c.args.a.now c.args.b.now (spot c.args.here.now c.args.e.now).env _ _ (g.S.Services.stands c.evaluate-flow.new.svc) c.requires.form (right_part c.args.here.now.code.now c.args.here.now.fun c.args.op c.args.e.now c.args.a.now c.args.b.now (spot c.args.here.now c.args.e.now).env c.requires.form c.in-Ok-Done.x) c.evaluate-flow.ensures.flows)
 
 pub operation-returns-in_ok-inside-in-Ok-Wait-clause-flows : goal.operation-returns-in_ok-inside-in-Ok-Wait-clause-flows
@@ -200,13 +200,13 @@ operation-returns-in_ok-inside-in-Ok-Wait-clause-flows g t c =
     let is : c.evaluate.result ≡ Ok (flow.Wait c.in-Ok-Wait.rest) = cc in
     let none = c.new.ensures in
     rw (c.in_ok-inside-in-Ok-Wait.ensures, none)
-    (waits_inside c.evaluate.new.codes c.args.here.now.code.now c.args.here.now.fun (spot c.args.here.now c.args.e.now) (frame.Part 0 []) _ (left_part c.args.here.now.code.now c.args.here.now.fun c.args.op c.args.e.now c.args.a.now c.args.b.now (spot c.args.here.now c.args.e.now).env c.requires.form) c.in-Ok-Wait.rest (joined c.evaluate.new.state (g.S.Services.stands c.evaluate.new.svc)) _ _ (first_leads c.args.here.now.code.now c.args.here.now.fun (spot c.args.here.now c.args.e.now) c.args.a.now (joined c.args.state.now (g.S.Services.stands c.args.svc.now)) (operator_parts c.args.here.now.code.now c.args.here.now.fun c.args.op c.args.e.now c.args.a.now c.args.b.now (spot c.args.here.now c.args.e.now).env c.requires.form) (left_part c.args.here.now.code.now c.args.here.now.fun c.args.op c.args.e.now c.args.a.now c.args.b.now (spot c.args.here.now c.args.e.now).env c.requires.form)) (rw is at c.evaluate.ensures.flows))
+    (waits_inside c.evaluate.new.codes c.args.here.now.code.now c.args.here.now.fun (spot c.args.here.now c.args.e.now) (frame.Part 0 []) _ (left_part c.args.here.now.code.now c.args.here.now.fun c.args.op c.args.e.now c.args.a.now c.args.b.now (spot c.args.here.now c.args.e.now).env c.requires.form) c.in-Ok-Wait.rest (joined_state c.evaluate.new.state (g.S.Services.stands c.evaluate.new.svc)) _ _ (first_leads c.args.here.now.code.now c.args.here.now.fun (spot c.args.here.now c.args.e.now) c.args.a.now (joined_state c.args.state.now (g.S.Services.stands c.args.svc.now)) (operator_parts c.args.here.now.code.now c.args.here.now.fun c.args.op c.args.e.now c.args.a.now c.args.b.now (spot c.args.here.now c.args.e.now).env c.requires.form) (left_part c.args.here.now.code.now c.args.here.now.fun c.args.op c.args.e.now c.args.a.now c.args.b.now (spot c.args.here.now c.args.e.now).env c.requires.form)) (rw is at c.evaluate.ensures.flows))
 
 pub operation-returns-in-Err-clause-flows : goal.operation-returns-in-Err-clause-flows
 operation-returns-in-Err-clause-flows g t c = λ other.
     let is : c.evaluate.result ≡ Err c.in-Err.stop = cc in
     let ends = (rw is at c.evaluate.ensures.flows) other in
-    (first_leads c.args.here.now.code.now c.args.here.now.fun (spot c.args.here.now c.args.e.now) c.args.a.now (joined c.args.state.now (g.S.Services.stands c.args.svc.now)) (operator_parts c.args.here.now.code.now c.args.here.now.fun c.args.op c.args.e.now c.args.a.now c.args.b.now (spot c.args.here.now c.args.e.now).env c.requires.form) (left_part c.args.here.now.code.now c.args.here.now.fun c.args.op c.args.e.now c.args.a.now c.args.b.now (spot c.args.here.now c.args.e.now).env c.requires.form)).same ∙ part_stops_so c.args.here.now.code.now c.args.here.now.fun (spot c.args.here.now c.args.e.now) 0 [] _ c.in-Err.stop _ (operator_no_try c.args.here.now.code.now c.args.here.now.fun c.args.op c.args.e.now c.args.a.now c.args.b.now (spot c.args.here.now c.args.e.now).env c.requires.form) ends
+    (first_leads c.args.here.now.code.now c.args.here.now.fun (spot c.args.here.now c.args.e.now) c.args.a.now (joined_state c.args.state.now (g.S.Services.stands c.args.svc.now)) (operator_parts c.args.here.now.code.now c.args.here.now.fun c.args.op c.args.e.now c.args.a.now c.args.b.now (spot c.args.here.now c.args.e.now).env c.requires.form) (left_part c.args.here.now.code.now c.args.here.now.fun c.args.op c.args.e.now c.args.a.now c.args.b.now (spot c.args.here.now c.args.e.now).env c.requires.form)).same ∙ part_stops_so c.args.here.now.code.now c.args.here.now.fun (spot c.args.here.now c.args.e.now) 0 [] _ c.in-Err.stop _ (operator_no_try c.args.here.now.code.now c.args.here.now.fun c.args.op c.args.e.now c.args.a.now c.args.b.now (spot c.args.here.now c.args.e.now).env c.requires.form) ends
 
 -- ---- an open expression
 
@@ -224,38 +224,38 @@ proceed-loop-more-preserved g t c =
       begun = c.advance.ensures.begun ∙ i.begun;
     }
 
-pub opened-returns-in_default-clause-advances : goal.opened-returns-in_default-clause-advances
-opened-returns-in_default-clause-advances g t c = λ other.
+pub evaluate_part-returns-in_default-clause-advances : goal.evaluate_part-returns-in_default-clause-advances
+evaluate_part-returns-in_default-clause-advances g t c = λ other.
     let none : part_or_self c.args.e.now (part_number c.args.frame) ≡ None = sym c.in_default.ensures in
-    no_part c.args.here.now.code.now c.args.here.now.fun (spot c.args.here.now c.args.e.now) _ (joined c.args.state.now (g.S.Services.stands c.args.svc.now)) c.args.frame none (itself _)
+    no_part c.args.here.now.code.now c.args.here.now.fun (spot c.args.here.now c.args.e.now) _ (joined_state c.args.state.now (g.S.Services.stands c.args.svc.now)) c.args.frame none (itself _)
 
-pub opened-returns-then-is_bound-clause-advances : goal.opened-returns-then-is_bound-clause-advances
-opened-returns-then-is_bound-clause-advances g t c =
+pub evaluate_part-returns-then-is_bound-clause-advances : goal.evaluate_part-returns-then-is_bound-clause-advances
+evaluate_part-returns-then-is_bound-clause-advances g t c =
     let part : part_or_self c.args.e.now (part_number c.args.frame) ≡ Some c.in-Some.part.now = sym c.in-Some.ensures in
     rw c.in_ok-pause_in.ensures
-    (opened_paused c.args.here.now.code.now c.args.here.now.fun (spot c.args.here.now c.args.e.now) c.args.frame (joined c.args.state.now (g.S.Services.stands c.args.svc.now)) c.args.codes.now c.in-Some.part.now part)
+    (opened_paused c.args.here.now.code.now c.args.here.now.fun (spot c.args.here.now c.args.e.now) c.args.frame (joined_state c.args.state.now (g.S.Services.stands c.args.svc.now)) c.args.codes.now c.in-Some.part.now part)
 
-pub opened-evaluate-flow-requires : goal.opened-evaluate-flow-requires
-opened-evaluate-flow-requires g t c =
+pub evaluate_part-evaluate-flow-requires : goal.evaluate_part-evaluate-flow-requires
+evaluate_part-evaluate-flow-requires g t c =
     let part : part_or_self c.args.e.now (part_number c.args.frame) ≡ Some c.in-Some.part.now = sym c.in-Some.ensures in
     let deep = deeper_here (spot c.args.here.now c.args.e.now) c.args.frame c.in-Some.part.now part (sym c.is_bound.ensures ∙ c.if-is_bound.false) in
-    let safe : IsSafe (meaning c.args.here.now.code.now c.args.here.now.fun (spot c.args.here.now c.args.e.now).env c.in-Some.part.now (joined c.args.state.now (g.S.Services.stands c.args.svc.now))).asks =
-    part_safe c.args.here.now.code.now c.args.here.now.fun (spot c.args.here.now c.args.e.now) c.args.frame (joined c.args.state.now (g.S.Services.stands c.args.svc.now)) c.in-Some.part.now deep c.requires.safe in
+    let safe : IsSafe (meaning c.args.here.now.code.now c.args.here.now.fun (spot c.args.here.now c.args.e.now).env c.in-Some.part.now (joined_state c.args.state.now (g.S.Services.stands c.args.svc.now))).asks =
+    part_safe c.args.here.now.code.now c.args.here.now.fun (spot c.args.here.now c.args.e.now) c.args.frame (joined_state c.args.state.now (g.S.Services.stands c.args.svc.now)) c.in-Some.part.now deep c.requires.safe in
     search rules
 
-pub opened-part_back-requires-clause-safe : goal.opened-part_back-requires-clause-safe
-opened-part_back-requires-clause-safe g t c =
+pub evaluate_part-part_back-requires-clause-safe : goal.evaluate_part-part_back-requires-clause-safe
+evaluate_part-part_back-requires-clause-safe g t c =
     let part : part_or_self c.args.e.now (part_number c.args.frame) ≡ Some c.in-Some.part.now = sym c.in-Some.ensures in
     let deep = deeper_here (spot c.args.here.now c.args.e.now) c.args.frame c.in-Some.part.now part (sym c.is_bound.ensures ∙ c.if-is_bound.false) in (
       _,
       _,
       _,
       c.evaluate-flow.ensures.flows,
-      opened_safe c.args.here.now.code.now c.args.here.now.fun (spot c.args.here.now c.args.e.now) c.args.frame (joined c.args.state.now (g.S.Services.stands c.args.svc.now)) c.in-Some.part.now deep c.requires.safe,
+      opened_safe c.args.here.now.code.now c.args.here.now.fun (spot c.args.here.now c.args.e.now) c.args.frame (joined_state c.args.state.now (g.S.Services.stands c.args.svc.now)) c.in-Some.part.now deep c.requires.safe,
     )
 
-pub opened-returns-clause-advances : goal.opened-returns-clause-advances
-opened-returns-clause-advances g t c =
+pub evaluate_part-returns-clause-advances : goal.evaluate_part-returns-clause-advances
+evaluate_part-returns-clause-advances g t c =
     let part : part_or_self c.args.e.now (part_number c.args.frame) ≡ Some c.in-Some.part.now = sym c.in-Some.ensures in
     let deep = deeper_here (spot c.args.here.now c.args.e.now) c.args.frame c.in-Some.part.now part (sym c.is_bound.ensures ∙ c.if-is_bound.false) in
     rw deep (c.part_back.ensures.advances _ _ _ deep c.evaluate-flow.ensures.flows)
@@ -266,13 +266,13 @@ pub enter-returns-in_default-clause-enters : goal.enter-returns-in_default-claus
 enter-returns-in_default-clause-enters g t c = λ other.
     let found : slice_get c.get.result.now.funs c.args.fun ≡ None = sym c.in_default.ensures.value in
     let none : slice_get c.args.code.now.funs c.args.fun ≡ None = rw c.get.ensures at found in
-    enters_none c.args.code.now c.args.fun c.args.args (joined c.args.state.now (g.S.Services.stands c.args.svc.now)) none
+    enters_none c.args.code.now c.args.fun c.args.args (joined_state c.args.state.now (g.S.Services.stands c.args.svc.now)) none
 
 pub enter-returns-then-len-clause-enters : goal.enter-returns-then-len-clause-enters
 enter-returns-then-len-clause-enters g t c = λ other.
     let found : Some c.in-Some.function.now ≡ slice_get c.get.result.now.funs c.args.fun = c.in-Some.ensures.value in
     let has : slice_get c.args.code.now.funs c.args.fun ≡ Some c.in-Some.function.now = rw c.get.ensures at (sym found) in
-    enters_other c.args.code.now c.args.fun c.args.args c.in-Some.function.now (joined c.args.state.now (g.S.Services.stands c.args.svc.now)) has
+    enters_other c.args.code.now c.args.fun c.args.args c.in-Some.function.now (joined_state c.args.state.now (g.S.Services.stands c.args.svc.now)) has
     (λ (e : length c.in-Some.function.now.params ≡ length c.args.args). c.if-len.true (c.len.ensures ∙ e ∙ sym c.len-2.ensures))
 
 pub body_flow-evaluate-requires : goal.body_flow-evaluate-requires
@@ -281,14 +281,14 @@ body_flow-evaluate-requires g t c =
     let none = c.as_slice-2.ensures ∙ c.new-none.ensures in
     let bare = c.as_slice-3.ensures ∙ c.new-bare.ensures in
     let binds : IsSome (bound c.args.function.now.params c.as_slice.result.now) =
-    body_binds c.args.code.now c.args.fun c.args.function.now c.args.args.now c.as_slice.result.now c.as_slice-2.result.now c.as_slice-3.result.now (joined c.args.state.now (g.S.Services.stands c.args.svc.now)) c.requires.function c.requires.many args none bare in
-    let safe : IsSafe (meaning c.args.code.now c.args.fun (env_of c.args.function.now c.as_slice.result.now c.as_slice-2.result.now ++ bound_here c.as_slice-3.result.now) c.args.function.now.body (joined c.args.state.now (g.S.Services.stands c.args.svc.now))).asks =
-    (body_leads c.args.code.now c.args.fun c.args.function.now c.args.args.now c.as_slice.result.now c.as_slice-2.result.now c.as_slice-3.result.now (joined c.args.state.now (g.S.Services.stands c.args.svc.now)) c.requires.function c.requires.many args none bare).safe c.requires.safe in
+    body_binds c.args.code.now c.args.fun c.args.function.now c.args.args.now c.as_slice.result.now c.as_slice-2.result.now c.as_slice-3.result.now (joined_state c.args.state.now (g.S.Services.stands c.args.svc.now)) c.requires.function c.requires.many args none bare in
+    let safe : IsSafe (meaning c.args.code.now c.args.fun (env_of c.args.function.now c.as_slice.result.now c.as_slice-2.result.now ++ bound_here c.as_slice-3.result.now) c.args.function.now.body (joined_state c.args.state.now (g.S.Services.stands c.args.svc.now))).asks =
+    (body_leads c.args.code.now c.args.fun c.args.function.now c.args.args.now c.as_slice.result.now c.as_slice-2.result.now c.as_slice-3.result.now (joined_state c.args.state.now (g.S.Services.stands c.args.svc.now)) c.requires.function c.requires.many args none bare).safe c.requires.safe in
     search rules
 
 pub body_flow-returns-clause-flows : goal.body_flow-returns-clause-flows
 body_flow-returns-clause-flows g t c =
-    bodies_from c.args.code.now c.args.fun c.args.function.now c.args.args.now c.as_slice.result.now c.as_slice-2.result.now c.as_slice-3.result.now (joined c.args.state.now (g.S.Services.stands c.args.svc.now)) c.requires.function c.requires.many c.as_slice.ensures (c.as_slice-2.ensures ∙ c.new-none.ensures) (c.as_slice-3.ensures ∙ c.new-bare.ensures)
+    bodies_from c.args.code.now c.args.fun c.args.function.now c.args.args.now c.as_slice.result.now c.as_slice-2.result.now c.as_slice-3.result.now (joined_state c.args.state.now (g.S.Services.stands c.args.svc.now)) c.requires.function c.requires.many c.as_slice.ensures (c.as_slice-2.ensures ∙ c.new-none.ensures) (c.as_slice-3.ensures ∙ c.new-bare.ensures)
     c.evaluate.new.codes c.args.number c.evaluate.result _ (grown_get c.args.codes.now c.evaluate.new.codes c.args.number c.args.code.now c.evaluate.ensures.grown c.requires.program) c.evaluate.ensures.flows
 
 pub visit-returns-in_default-clause-enters : goal.visit-returns-in_default-clause-enters
@@ -299,15 +299,15 @@ visit-returns-in_default-clause-enters g t c = λ other.
 pub visit-enter-requires : goal.visit-enter-requires
 visit-enter-requires g t c =
     let place : place_of c.args.chunk.entry c.args.chunk.code.funs ≡ Some c.in-Some.fun = cc in
-    let safe : IsSafe (entered meaning c.args.chunk.code c.in-Some.fun c.args.chunk.args (joined c.args.state.now (g.S.Services.stands c.args.svc.now))).asks =
-    (visited_on c.args.chunk c.in-Some.fun (joined c.args.state.now (g.S.Services.stands c.args.svc.now)) place).safe c.requires.safe in
+    let safe : IsSafe (entered_function meaning c.args.chunk.code c.in-Some.fun c.args.chunk.args (joined_state c.args.state.now (g.S.Services.stands c.args.svc.now))).asks =
+    (visited_on c.args.chunk c.in-Some.fun (joined_state c.args.state.now (g.S.Services.stands c.args.svc.now)) place).safe c.requires.safe in
     let program : slice_get c.open_code.new.codes c.in_ok-number.number ≡ Some c.args.chunk.code = c.in_ok-number.ensures.placed.there in
     search rules
 
 pub visit-returns-clause-enters : goal.visit-returns-clause-enters
 visit-returns-clause-enters g t c =
     let place : place_of c.args.chunk.entry c.args.chunk.code.funs ≡ Some c.in-Some.fun = cc in
-    enters_from c.enter.new.codes _ _ c.enter.result _ (visited_on c.args.chunk c.in-Some.fun (joined c.args.state.now (g.S.Services.stands c.args.svc.now)) place) c.enter.ensures.enters
+    enters_from c.enter.new.codes _ _ c.enter.result _ (visited_on c.args.chunk c.in-Some.fun (joined_state c.args.state.now (g.S.Services.stands c.args.svc.now)) place) c.enter.ensures.enters
 
 pub visit-returns-clause-grown : goal.visit-returns-clause-grown
 visit-returns-clause-grown g t c = grows_on _ _ _ c.open_code.ensures.grown c.enter.ensures.grown
@@ -315,7 +315,7 @@ visit-returns-clause-grown g t c = grows_on _ _ _ c.open_code.ensures.grown c.en
 pub all_parts-loop-x-init : goal.all_parts-loop-x-init
 all_parts-loop-x-init g t c = record {
   here = c.requires.here;
-  leads = rw c.new-held.ensures (row_begins c.args.here.now.code.now c.args.here.now.fun c.args.e.now (spot c.args.here.now c.args.e.now).env c.args.es.now c.requires.form c.requires.parts (joined c.args.state.now (g.S.Services.stands c.args.svc.now)));
+  leads = rw c.new-held.ensures (row_begins c.args.here.now.code.now c.args.here.now.fun c.args.e.now (spot c.args.here.now c.args.e.now).env c.args.es.now c.requires.form c.requires.parts (joined_state c.args.state.now (g.S.Services.stands c.args.svc.now)));
   falls = omega arith;
   grown = grows_none _ _ refl;
   offer = refl;
@@ -329,7 +329,7 @@ all_parts-evaluate-requires g t c =
     let i = c.loop-x.invariant in
     let opened : IsSome (g.S.Services.stands c.loop-x.svc).begun = rw i.begun c.requires.open in
     let here = i.here in
-    let safe : IsSafe (meaning c.args.here.now.code.now c.args.here.now.fun (spot c.args.here.now c.args.e.now).env c.in-Some.x.now (joined c.loop-x.state (g.S.Services.stands c.loop-x.svc))).asks = next_safe c.args.here.now.code.now c.args.here.now.fun c.args.e.now (spot c.args.here.now c.args.e.now).env c.args.es.now c.requires.form c.requires.parts c.loop-x.held c.in-Some.x.now (joined c.args.state.now (g.S.Services.stands c.args.svc.now)) (joined c.loop-x.state (g.S.Services.stands c.loop-x.svc)) is_x i.leads c.requires.safe in
+    let safe : IsSafe (meaning c.args.here.now.code.now c.args.here.now.fun (spot c.args.here.now c.args.e.now).env c.in-Some.x.now (joined_state c.loop-x.state (g.S.Services.stands c.loop-x.svc))).asks = next_safe c.args.here.now.code.now c.args.here.now.fun c.args.e.now (spot c.args.here.now c.args.e.now).env c.args.es.now c.requires.form c.requires.parts c.loop-x.held c.in-Some.x.now (joined_state c.args.state.now (g.S.Services.stands c.args.svc.now)) (joined_state c.loop-x.state (g.S.Services.stands c.loop-x.svc)) is_x i.leads c.requires.safe in
     let falls = i.falls in
     search rules
 
@@ -342,7 +342,7 @@ all_parts-loop-x-preserved g t c =
     let less : c.evaluate.new.state.work < c.loop-x.state.work = rw is at c.evaluate.ensures.spends in
     record {
       here = here_grown _ _ _ c.evaluate.ensures.grown i.here;
-      leads = row_more c.args.here.now.code.now c.args.here.now.fun c.args.e.now (spot c.args.here.now c.args.e.now).env c.args.es.now c.requires.form c.requires.parts c.loop-x.held c.add.new.self c.in-Some.x.now c.in-Ok-Done.v (joined c.args.state.now (g.S.Services.stands c.args.svc.now)) (joined c.loop-x.state (g.S.Services.stands c.loop-x.svc)) (joined c.evaluate.new.state (g.S.Services.stands c.evaluate.new.svc)) is_x i.leads (rw is at c.evaluate.ensures.flows) c.in_ok-add-in-Ok-Done.ensures.ok;
+      leads = row_more c.args.here.now.code.now c.args.here.now.fun c.args.e.now (spot c.args.here.now c.args.e.now).env c.args.es.now c.requires.form c.requires.parts c.loop-x.held c.add.new.self c.in-Some.x.now c.in-Ok-Done.v (joined_state c.args.state.now (g.S.Services.stands c.args.svc.now)) (joined_state c.loop-x.state (g.S.Services.stands c.loop-x.svc)) (joined_state c.evaluate.new.state (g.S.Services.stands c.evaluate.new.svc)) is_x i.leads (rw is at c.evaluate.ensures.flows) c.in_ok-add-in-Ok-Done.ensures.ok;
       falls = omega (arith, i.falls, less);
       grown = grows_on _ _ _ i.grown c.evaluate.ensures.grown;
       offer = c.evaluate.ensures.offer ∙ i.offer;
@@ -356,8 +356,8 @@ all_parts-returns-in-Ok-Wait-clause-rows g t c =
     let i = c.loop-x.invariant in
     let is : c.evaluate.result ≡ Ok (flow.Wait c.in-Ok-Wait.rest) = cc in
     rw (c.in_ok-stopped_in-in-Ok-Wait.ensures, c.len-in-Ok-Wait.ensures)
-    (waits_inside c.evaluate.new.codes c.args.here.now.code.now c.args.here.now.fun (spot c.args.here.now c.args.e.now) (frame.Part (length c.loop-x.held) c.loop-x.held) _ (next_deep c.args.here.now.code.now c.args.here.now.fun c.args.e.now (spot c.args.here.now c.args.e.now).env c.args.es.now c.requires.form c.requires.parts c.loop-x.held c.in-Some.x.now is_x) c.in-Ok-Wait.rest (joined c.evaluate.new.state (g.S.Services.stands c.evaluate.new.svc)) _ _
-    (row_next c.args.here.now.code.now c.args.here.now.fun c.args.e.now (spot c.args.here.now c.args.e.now).env c.args.es.now c.requires.form c.requires.parts c.loop-x.held c.in-Some.x.now (joined c.args.state.now (g.S.Services.stands c.args.svc.now)) (joined c.loop-x.state (g.S.Services.stands c.loop-x.svc)) is_x i.leads) (rw is at c.evaluate.ensures.flows))
+    (waits_inside c.evaluate.new.codes c.args.here.now.code.now c.args.here.now.fun (spot c.args.here.now c.args.e.now) (frame.Part (length c.loop-x.held) c.loop-x.held) _ (next_deep c.args.here.now.code.now c.args.here.now.fun c.args.e.now (spot c.args.here.now c.args.e.now).env c.args.es.now c.requires.form c.requires.parts c.loop-x.held c.in-Some.x.now is_x) c.in-Ok-Wait.rest (joined_state c.evaluate.new.state (g.S.Services.stands c.evaluate.new.svc)) _ _
+    (row_next c.args.here.now.code.now c.args.here.now.fun c.args.e.now (spot c.args.here.now c.args.e.now).env c.args.es.now c.requires.form c.requires.parts c.loop-x.held c.in-Some.x.now (joined_state c.args.state.now (g.S.Services.stands c.args.svc.now)) (joined_state c.loop-x.state (g.S.Services.stands c.loop-x.svc)) is_x i.leads) (rw is at c.evaluate.ensures.flows))
 
 pub all_parts-returns-in-Err-clause-rows : goal.all_parts-returns-in-Err-clause-rows
 all_parts-returns-in-Err-clause-rows g t c = λ other.
@@ -366,175 +366,175 @@ all_parts-returns-in-Err-clause-rows g t c = λ other.
     let i = c.loop-x.invariant in
     let is : c.evaluate.result ≡ Err c.in-Err.stop = cc in
     let ends = (rw is at c.evaluate.ensures.flows) other in
-    (row_next c.args.here.now.code.now c.args.here.now.fun c.args.e.now (spot c.args.here.now c.args.e.now).env c.args.es.now c.requires.form c.requires.parts c.loop-x.held c.in-Some.x.now (joined c.args.state.now (g.S.Services.stands c.args.svc.now)) (joined c.loop-x.state (g.S.Services.stands c.loop-x.svc)) is_x i.leads).same ∙ part_stops_so c.args.here.now.code.now c.args.here.now.fun (spot c.args.here.now c.args.e.now) (length c.loop-x.held) c.loop-x.held _ c.in-Err.stop _ (row_no_try (out-Expr c.args.e.now) c.requires.form) ends
+    (row_next c.args.here.now.code.now c.args.here.now.fun c.args.e.now (spot c.args.here.now c.args.e.now).env c.args.es.now c.requires.form c.requires.parts c.loop-x.held c.in-Some.x.now (joined_state c.args.state.now (g.S.Services.stands c.args.svc.now)) (joined_state c.loop-x.state (g.S.Services.stands c.loop-x.svc)) is_x i.leads).same ∙ part_stops_so c.args.here.now.code.now c.args.here.now.fun (spot c.args.here.now c.args.e.now) (length c.loop-x.held) c.loop-x.held _ c.in-Err.stop _ (row_no_try (out-Expr c.args.e.now) c.requires.form) ends
 
 pub all_parts-returns-clause-rows : goal.all_parts-returns-clause-rows
 all_parts-returns-clause-rows g t c =
     let found : slice_get c.args.es.now c.len.result ≡ None = sym c.in_default.ensures in
     let none : slice_get c.args.es.now (length c.loop-x.held) ≡ None = rw c.len.ensures at found in
-    row_done c.args.here.now.code.now c.args.here.now.fun c.args.e.now (spot c.args.here.now c.args.e.now).env c.args.es.now c.requires.form c.requires.parts c.loop-x.held (joined c.args.state.now (g.S.Services.stands c.args.svc.now)) (joined c.loop-x.state (g.S.Services.stands c.loop-x.svc)) none c.loop-x.invariant.leads
+    row_done c.args.here.now.code.now c.args.here.now.fun c.args.e.now (spot c.args.here.now c.args.e.now).env c.args.es.now c.requires.form c.requires.parts c.loop-x.held (joined_state c.args.state.now (g.S.Services.stands c.args.svc.now)) (joined_state c.loop-x.state (g.S.Services.stands c.loop-x.svc)) none c.loop-x.invariant.leads
 
 pub evaluate-eval-requires : goal.evaluate-eval-requires
 evaluate-eval-requires g t c =
     let form : out-Expr c.args.e.now ≡ Expr-F.Eval c.get.result.now = rw (c.in-Eval.is, c.get.ensures) (eval_form c.in-Eval.a) in
-    let leads = begun_here c.args.here.now.code.now c.args.here.now.fun (spot c.args.here.now c.args.e.now).env c.args.e.now (joined c.args.state.now (g.S.Services.stands c.args.svc.now)) (joined c.pays.new.self (g.S.Services.stands c.args.svc.now))
+    let leads = begun_here c.args.here.now.code.now c.args.here.now.fun (spot c.args.here.now c.args.e.now).env c.args.e.now (joined_state c.args.state.now (g.S.Services.stands c.args.svc.now)) (joined_state c.pays.new.self (g.S.Services.stands c.args.svc.now))
     (c.if-not-pays.ensures.paid refl (g.S.Services.stands c.args.svc.now)) in
-    let safe : IsSafe (begins c.args.here.now.code.now c.args.here.now.fun (spot c.args.here.now c.args.e.now) (joined c.pays.new.self (g.S.Services.stands c.args.svc.now))).asks = leads.safe c.requires.safe in
+    let safe : IsSafe (begins c.args.here.now.code.now c.args.here.now.fun (spot c.args.here.now c.args.e.now) (joined_state c.pays.new.self (g.S.Services.stands c.args.svc.now))).asks = leads.safe c.requires.safe in
     search rules
 
 pub evaluate-returns-in-Eval-clause-flows : goal.evaluate-returns-in-Eval-clause-flows
 evaluate-returns-in-Eval-clause-flows g t c =
-    let leads = begun_here c.args.here.now.code.now c.args.here.now.fun (spot c.args.here.now c.args.e.now).env c.args.e.now (joined c.args.state.now (g.S.Services.stands c.args.svc.now)) (joined c.pays.new.self (g.S.Services.stands c.args.svc.now))
+    let leads = begun_here c.args.here.now.code.now c.args.here.now.fun (spot c.args.here.now c.args.e.now).env c.args.e.now (joined_state c.args.state.now (g.S.Services.stands c.args.svc.now)) (joined_state c.pays.new.self (g.S.Services.stands c.args.svc.now))
     (c.if-not-pays.ensures.paid refl (g.S.Services.stands c.args.svc.now)) in
-    flows_from c.eval.new.codes c.args.here.now.code.now c.args.here.now.fun (spot c.args.here.now c.args.e.now) _ _ c.eval.result (joined c.eval.new.state (g.S.Services.stands c.eval.new.svc)) leads c.eval.ensures.flows
+    flows_from c.eval.new.codes c.args.here.now.code.now c.args.here.now.fun (spot c.args.here.now c.args.e.now) _ _ c.eval.result (joined_state c.eval.new.state (g.S.Services.stands c.eval.new.svc)) leads c.eval.ensures.flows
 
 pub row-all_parts-requires : goal.row-all_parts-requires
 row-all_parts-requires g t c =
     let parts : parts_of (out-Expr c.args.e.now) ≡ c.as_slice.result.now = rw c.as_slice.ensures c.requires.parts in
     search rules
 
-pub row-made-requires : goal.row-made-requires
-row-made-requires g t c =
+pub row-finish_row-requires : goal.row-finish_row-requires
+row-finish_row-requires g t c =
     let is : c.all_parts.result ≡ Ok (row.All c.in-Ok-All.values) = cc in
     let leads = rw is at c.all_parts.ensures.rows in
     let here = here_grown _ _ _ c.all_parts.ensures.grown c.requires.here in
-    let safe : IsSafe (row_gave c.args.here.now.code.now c.args.here.now.fun (spot c.args.here.now c.args.e.now) c.in-Ok-All.values (joined c.all_parts.new.state (g.S.Services.stands c.all_parts.new.svc))).asks = leads.safe c.requires.safe in
+    let safe : IsSafe (row_gave c.args.here.now.code.now c.args.here.now.fun (spot c.args.here.now c.args.e.now) c.in-Ok-All.values (joined_state c.all_parts.new.state (g.S.Services.stands c.all_parts.new.svc))).asks = leads.safe c.requires.safe in
     search rules
 
 pub row-returns-in-Ok-All-clause-flows : goal.row-returns-in-Ok-All-clause-flows
 row-returns-in-Ok-All-clause-flows g t c =
     let is : c.all_parts.result ≡ Ok (row.All c.in-Ok-All.values) = cc in
-    flows_from c.made.new.codes c.args.here.now.code.now c.args.here.now.fun (spot c.args.here.now c.args.e.now) _ _ c.made.result (joined c.made.new.state (g.S.Services.stands c.made.new.svc)) (rw is at c.all_parts.ensures.rows) c.made.ensures.flows
+    flows_from c.finish_row.new.codes c.args.here.now.code.now c.args.here.now.fun (spot c.args.here.now c.args.e.now) _ _ c.finish_row.result (joined_state c.finish_row.new.state (g.S.Services.stands c.finish_row.new.svc)) (rw is at c.all_parts.ensures.rows) c.finish_row.ensures.flows
 
-pub made-invoke-requires : goal.made-invoke-requires
-made-invoke-requires g t c =
+pub finish_row-invoke-requires : goal.finish_row-invoke-requires
+finish_row-invoke-requires g t c =
     let form : out-Expr c.args.e.now ≡ Expr-F.Call c.in-Call.f c.in-Call.field-1 = rw c.in-Call.is (call_form c.in-Call.f c.in-Call.field-1) in
-    let safe : IsSafe (call_of c.args.here.now.code.now c.args.here.now.fun c.in-Call.f c.args.values (joined c.args.state.now (g.S.Services.stands c.args.svc.now))).asks = (call_gave c.args.here.now.code.now c.args.here.now.fun c.args.e.now (spot c.args.here.now c.args.e.now).env c.args.values (joined c.args.state.now (g.S.Services.stands c.args.svc.now)) c.in-Call.f c.in-Call.field-1 form).safe c.requires.safe in
+    let safe : IsSafe (call_of c.args.here.now.code.now c.args.here.now.fun c.in-Call.f c.args.values (joined_state c.args.state.now (g.S.Services.stands c.args.svc.now))).asks = (call_gave c.args.here.now.code.now c.args.here.now.fun c.args.e.now (spot c.args.here.now c.args.e.now).env c.args.values (joined_state c.args.state.now (g.S.Services.stands c.args.svc.now)) c.in-Call.f c.in-Call.field-1 form).safe c.requires.safe in
     search rules
 
-pub made-returns-in-Call-clause-flows : goal.made-returns-in-Call-clause-flows
-made-returns-in-Call-clause-flows g t c =
+pub finish_row-returns-in-Call-clause-flows : goal.finish_row-returns-in-Call-clause-flows
+finish_row-returns-in-Call-clause-flows g t c =
     let form : out-Expr c.args.e.now ≡ Expr-F.Call c.in-Call.f c.in-Call.field-1 = rw c.in-Call.is (call_form c.in-Call.f c.in-Call.field-1) in
-    flows_from c.invoke.new.codes c.args.here.now.code.now c.args.here.now.fun (spot c.args.here.now c.args.e.now) _ _ c.invoke.result (joined c.invoke.new.state (g.S.Services.stands c.invoke.new.svc))
-    (call_gave c.args.here.now.code.now c.args.here.now.fun c.args.e.now (spot c.args.here.now c.args.e.now).env c.args.values (joined c.args.state.now (g.S.Services.stands c.args.svc.now)) c.in-Call.f c.in-Call.field-1 form) c.invoke.ensures.flows
+    flows_from c.invoke.new.codes c.args.here.now.code.now c.args.here.now.fun (spot c.args.here.now c.args.e.now) _ _ c.invoke.result (joined_state c.invoke.new.state (g.S.Services.stands c.invoke.new.svc))
+    (call_gave c.args.here.now.code.now c.args.here.now.fun c.args.e.now (spot c.args.here.now c.args.e.now).env c.args.values (joined_state c.args.state.now (g.S.Services.stands c.args.svc.now)) c.in-Call.f c.in-Call.field-1 form) c.invoke.ensures.flows
 
-pub made-returns-in-ChunkOf-clause-flows : goal.made-returns-in-ChunkOf-clause-flows
-made-returns-in-ChunkOf-clause-flows g t c =
+pub finish_row-returns-in-ChunkOf-clause-flows : goal.finish_row-returns-in-ChunkOf-clause-flows
+finish_row-returns-in-ChunkOf-clause-flows g t c =
     let form : out-Expr c.args.e.now ≡ Expr-F.ChunkOf c.in-ChunkOf.f c.in-ChunkOf.field-1 = rw c.in-ChunkOf.is (chunk_form c.in-ChunkOf.f c.in-ChunkOf.field-1) in
-    flows_from c.args.codes.now c.args.here.now.code.now c.args.here.now.fun (spot c.args.here.now c.args.e.now) _ _ c.packed.result (joined c.packed.new.state (g.S.Services.stands c.args.svc.now))
-    (chunk_gave c.args.here.now.code.now c.args.here.now.fun c.args.e.now (spot c.args.here.now c.args.e.now).env c.args.values (joined c.args.state.now (g.S.Services.stands c.args.svc.now)) c.in-ChunkOf.f c.in-ChunkOf.field-1 form)
-    (c.packed.ensures.flows c.args.codes.now c.args.here.now.fun (spot c.args.here.now c.args.e.now) (g.S.Services.stands c.args.svc.now))
+    flows_from c.args.codes.now c.args.here.now.code.now c.args.here.now.fun (spot c.args.here.now c.args.e.now) _ _ c.pack_chunk.result (joined_state c.pack_chunk.new.state (g.S.Services.stands c.args.svc.now))
+    (chunk_gave c.args.here.now.code.now c.args.here.now.fun c.args.e.now (spot c.args.here.now c.args.e.now).env c.args.values (joined_state c.args.state.now (g.S.Services.stands c.args.svc.now)) c.in-ChunkOf.f c.in-ChunkOf.field-1 form)
+    (c.pack_chunk.ensures.flows c.args.codes.now c.args.here.now.fun (spot c.args.here.now c.args.e.now) (g.S.Services.stands c.args.svc.now))
 
-pub made-returns-in-Tuple-clause-flows : goal.made-returns-in-Tuple-clause-flows
-made-returns-in-Tuple-clause-flows g t c =
+pub finish_row-returns-in-Tuple-clause-flows : goal.finish_row-returns-in-Tuple-clause-flows
+finish_row-returns-in-Tuple-clause-flows g t c =
     let form : out-Expr c.args.e.now ≡ Expr-F.Tuple c.in-Tuple.field-0 = rw c.in-Tuple.is (tuple_form c.in-Tuple.field-0) in
-    flows_from c.args.codes.now c.args.here.now.code.now c.args.here.now.fun (spot c.args.here.now c.args.e.now) _ _ c.ended.result (joined c.ended.new.state (g.S.Services.stands c.args.svc.now))
-    (tuple_gave c.args.here.now.code.now c.args.here.now.fun c.args.e.now (spot c.args.here.now c.args.e.now).env c.args.values (joined c.args.state.now (g.S.Services.stands c.args.svc.now)) c.in-Tuple.field-0 form)
-    (c.ended.ensures.flows c.args.codes.now c.args.here.now.code.now c.args.here.now.fun (spot c.args.here.now c.args.e.now) (g.S.Services.stands c.args.svc.now))
+    flows_from c.args.codes.now c.args.here.now.code.now c.args.here.now.fun (spot c.args.here.now c.args.e.now) _ _ c.ended_by_value.result (joined_state c.ended_by_value.new.state (g.S.Services.stands c.args.svc.now))
+    (tuple_gave c.args.here.now.code.now c.args.here.now.fun c.args.e.now (spot c.args.here.now c.args.e.now).env c.args.values (joined_state c.args.state.now (g.S.Services.stands c.args.svc.now)) c.in-Tuple.field-0 form)
+    (c.ended_by_value.ensures.flows c.args.codes.now c.args.here.now.code.now c.args.here.now.fun (spot c.args.here.now c.args.e.now) (g.S.Services.stands c.args.svc.now))
 
 pub evaluate-row-requires : goal.evaluate-row-requires
 evaluate-row-requires g t c =
     let form : out-Expr c.args.e.now ≡ Expr-F.Tuple c.in-Tuple.es = rw c.in-Tuple.is (tuple_form c.in-Tuple.es) in
     let is_row : IsRow (out-Expr c.args.e.now) = rw form tt in
     let parts : parts_of (out-Expr c.args.e.now) ≡ c.in-Tuple.es = rw form refl in
-    let leads = begun_here c.args.here.now.code.now c.args.here.now.fun (spot c.args.here.now c.args.e.now).env c.args.e.now (joined c.args.state.now (g.S.Services.stands c.args.svc.now)) (joined c.pays.new.self (g.S.Services.stands c.args.svc.now))
+    let leads = begun_here c.args.here.now.code.now c.args.here.now.fun (spot c.args.here.now c.args.e.now).env c.args.e.now (joined_state c.args.state.now (g.S.Services.stands c.args.svc.now)) (joined_state c.pays.new.self (g.S.Services.stands c.args.svc.now))
     (c.if-not-pays.ensures.paid refl (g.S.Services.stands c.args.svc.now)) in
-    let safe : IsSafe (begins c.args.here.now.code.now c.args.here.now.fun (spot c.args.here.now c.args.e.now) (joined c.pays.new.self (g.S.Services.stands c.args.svc.now))).asks = leads.safe c.requires.safe in
+    let safe : IsSafe (begins c.args.here.now.code.now c.args.here.now.fun (spot c.args.here.now c.args.e.now) (joined_state c.pays.new.self (g.S.Services.stands c.args.svc.now))).asks = leads.safe c.requires.safe in
     search rules
 
 pub evaluate-returns-in-Tuple-clause-flows : goal.evaluate-returns-in-Tuple-clause-flows
 evaluate-returns-in-Tuple-clause-flows g t c =
-    let leads = begun_here c.args.here.now.code.now c.args.here.now.fun (spot c.args.here.now c.args.e.now).env c.args.e.now (joined c.args.state.now (g.S.Services.stands c.args.svc.now)) (joined c.pays.new.self (g.S.Services.stands c.args.svc.now))
+    let leads = begun_here c.args.here.now.code.now c.args.here.now.fun (spot c.args.here.now c.args.e.now).env c.args.e.now (joined_state c.args.state.now (g.S.Services.stands c.args.svc.now)) (joined_state c.pays.new.self (g.S.Services.stands c.args.svc.now))
     (c.if-not-pays.ensures.paid refl (g.S.Services.stands c.args.svc.now)) in
-    flows_from c.row.new.codes c.args.here.now.code.now c.args.here.now.fun (spot c.args.here.now c.args.e.now) _ _ c.row.result (joined c.row.new.state (g.S.Services.stands c.row.new.svc)) leads c.row.ensures.flows
+    flows_from c.row.new.codes c.args.here.now.code.now c.args.here.now.fun (spot c.args.here.now c.args.e.now) _ _ c.row.result (joined_state c.row.new.state (g.S.Services.stands c.row.new.svc)) leads c.row.ensures.flows
 
 pub evaluate-row-requires-in-Call : goal.evaluate-row-requires-in-Call
 evaluate-row-requires-in-Call g t c =
     let form : out-Expr c.args.e.now ≡ Expr-F.Call c.in-Call.field-0 c.in-Call.es = rw c.in-Call.is (call_form c.in-Call.field-0 c.in-Call.es) in
     let is_row : IsRow (out-Expr c.args.e.now) = rw form tt in
     let parts : parts_of (out-Expr c.args.e.now) ≡ c.in-Call.es = rw form refl in
-    let leads = begun_here c.args.here.now.code.now c.args.here.now.fun (spot c.args.here.now c.args.e.now).env c.args.e.now (joined c.args.state.now (g.S.Services.stands c.args.svc.now)) (joined c.pays.new.self (g.S.Services.stands c.args.svc.now))
+    let leads = begun_here c.args.here.now.code.now c.args.here.now.fun (spot c.args.here.now c.args.e.now).env c.args.e.now (joined_state c.args.state.now (g.S.Services.stands c.args.svc.now)) (joined_state c.pays.new.self (g.S.Services.stands c.args.svc.now))
     (c.if-not-pays.ensures.paid refl (g.S.Services.stands c.args.svc.now)) in
-    let safe : IsSafe (begins c.args.here.now.code.now c.args.here.now.fun (spot c.args.here.now c.args.e.now) (joined c.pays.new.self (g.S.Services.stands c.args.svc.now))).asks = leads.safe c.requires.safe in
+    let safe : IsSafe (begins c.args.here.now.code.now c.args.here.now.fun (spot c.args.here.now c.args.e.now) (joined_state c.pays.new.self (g.S.Services.stands c.args.svc.now))).asks = leads.safe c.requires.safe in
     search rules
 
 pub evaluate-returns-in-Call-clause-flows : goal.evaluate-returns-in-Call-clause-flows
 evaluate-returns-in-Call-clause-flows g t c =
-    let leads = begun_here c.args.here.now.code.now c.args.here.now.fun (spot c.args.here.now c.args.e.now).env c.args.e.now (joined c.args.state.now (g.S.Services.stands c.args.svc.now)) (joined c.pays.new.self (g.S.Services.stands c.args.svc.now))
+    let leads = begun_here c.args.here.now.code.now c.args.here.now.fun (spot c.args.here.now c.args.e.now).env c.args.e.now (joined_state c.args.state.now (g.S.Services.stands c.args.svc.now)) (joined_state c.pays.new.self (g.S.Services.stands c.args.svc.now))
     (c.if-not-pays.ensures.paid refl (g.S.Services.stands c.args.svc.now)) in
-    flows_from c.row-in-Call.new.codes c.args.here.now.code.now c.args.here.now.fun (spot c.args.here.now c.args.e.now) _ _ c.row-in-Call.result (joined c.row-in-Call.new.state (g.S.Services.stands c.row-in-Call.new.svc)) leads c.row-in-Call.ensures.flows
+    flows_from c.row-in-Call.new.codes c.args.here.now.code.now c.args.here.now.fun (spot c.args.here.now c.args.e.now) _ _ c.row-in-Call.result (joined_state c.row-in-Call.new.state (g.S.Services.stands c.row-in-Call.new.svc)) leads c.row-in-Call.ensures.flows
 
 pub evaluate-row-requires-in-ChunkOf : goal.evaluate-row-requires-in-ChunkOf
 evaluate-row-requires-in-ChunkOf g t c =
     let form : out-Expr c.args.e.now ≡ Expr-F.ChunkOf c.in-ChunkOf.field-0 c.in-ChunkOf.es = rw c.in-ChunkOf.is (chunk_form c.in-ChunkOf.field-0 c.in-ChunkOf.es) in
     let is_row : IsRow (out-Expr c.args.e.now) = rw form tt in
     let parts : parts_of (out-Expr c.args.e.now) ≡ c.in-ChunkOf.es = rw form refl in
-    let leads = begun_here c.args.here.now.code.now c.args.here.now.fun (spot c.args.here.now c.args.e.now).env c.args.e.now (joined c.args.state.now (g.S.Services.stands c.args.svc.now)) (joined c.pays.new.self (g.S.Services.stands c.args.svc.now))
+    let leads = begun_here c.args.here.now.code.now c.args.here.now.fun (spot c.args.here.now c.args.e.now).env c.args.e.now (joined_state c.args.state.now (g.S.Services.stands c.args.svc.now)) (joined_state c.pays.new.self (g.S.Services.stands c.args.svc.now))
     (c.if-not-pays.ensures.paid refl (g.S.Services.stands c.args.svc.now)) in
-    let safe : IsSafe (begins c.args.here.now.code.now c.args.here.now.fun (spot c.args.here.now c.args.e.now) (joined c.pays.new.self (g.S.Services.stands c.args.svc.now))).asks = leads.safe c.requires.safe in
+    let safe : IsSafe (begins c.args.here.now.code.now c.args.here.now.fun (spot c.args.here.now c.args.e.now) (joined_state c.pays.new.self (g.S.Services.stands c.args.svc.now))).asks = leads.safe c.requires.safe in
     search rules
 
 pub evaluate-returns-in-ChunkOf-clause-flows : goal.evaluate-returns-in-ChunkOf-clause-flows
 evaluate-returns-in-ChunkOf-clause-flows g t c =
-    let leads = begun_here c.args.here.now.code.now c.args.here.now.fun (spot c.args.here.now c.args.e.now).env c.args.e.now (joined c.args.state.now (g.S.Services.stands c.args.svc.now)) (joined c.pays.new.self (g.S.Services.stands c.args.svc.now))
+    let leads = begun_here c.args.here.now.code.now c.args.here.now.fun (spot c.args.here.now c.args.e.now).env c.args.e.now (joined_state c.args.state.now (g.S.Services.stands c.args.svc.now)) (joined_state c.pays.new.self (g.S.Services.stands c.args.svc.now))
     (c.if-not-pays.ensures.paid refl (g.S.Services.stands c.args.svc.now)) in
-    flows_from c.row-in-ChunkOf.new.codes c.args.here.now.code.now c.args.here.now.fun (spot c.args.here.now c.args.e.now) _ _ c.row-in-ChunkOf.result (joined c.row-in-ChunkOf.new.state (g.S.Services.stands c.row-in-ChunkOf.new.svc)) leads c.row-in-ChunkOf.ensures.flows
+    flows_from c.row-in-ChunkOf.new.codes c.args.here.now.code.now c.args.here.now.fun (spot c.args.here.now c.args.e.now) _ _ c.row-in-ChunkOf.result (joined_state c.row-in-ChunkOf.new.state (g.S.Services.stands c.row-in-ChunkOf.new.svc)) leads c.row-in-ChunkOf.ensures.flows
 
 pub evaluate-binding-requires : goal.evaluate-binding-requires
 evaluate-binding-requires g t c =
     let form : out-Expr c.args.e.now ≡ Expr-F.Let c.in-Let.x c.in-Let.field-1 c.get-a-in-Let.result.now c.get-b-in-Let.result.now =
     rw (c.in-Let.is, c.get-a-in-Let.ensures, c.get-b-in-Let.ensures) (let_form c.in-Let.x c.in-Let.field-1 c.in-Let.a c.in-Let.b) in
-    let leads = begun_here c.args.here.now.code.now c.args.here.now.fun (spot c.args.here.now c.args.e.now).env c.args.e.now (joined c.args.state.now (g.S.Services.stands c.args.svc.now)) (joined c.pays.new.self (g.S.Services.stands c.args.svc.now))
+    let leads = begun_here c.args.here.now.code.now c.args.here.now.fun (spot c.args.here.now c.args.e.now).env c.args.e.now (joined_state c.args.state.now (g.S.Services.stands c.args.svc.now)) (joined_state c.pays.new.self (g.S.Services.stands c.args.svc.now))
     (c.if-not-pays.ensures.paid refl (g.S.Services.stands c.args.svc.now)) in
-    let safe : IsSafe (begins c.args.here.now.code.now c.args.here.now.fun (spot c.args.here.now c.args.e.now) (joined c.pays.new.self (g.S.Services.stands c.args.svc.now))).asks = leads.safe c.requires.safe in
+    let safe : IsSafe (begins c.args.here.now.code.now c.args.here.now.fun (spot c.args.here.now c.args.e.now) (joined_state c.pays.new.self (g.S.Services.stands c.args.svc.now))).asks = leads.safe c.requires.safe in
     search rules
 
 pub evaluate-returns-in-Let-clause-flows : goal.evaluate-returns-in-Let-clause-flows
 evaluate-returns-in-Let-clause-flows g t c =
-    let leads = begun_here c.args.here.now.code.now c.args.here.now.fun (spot c.args.here.now c.args.e.now).env c.args.e.now (joined c.args.state.now (g.S.Services.stands c.args.svc.now)) (joined c.pays.new.self (g.S.Services.stands c.args.svc.now))
+    let leads = begun_here c.args.here.now.code.now c.args.here.now.fun (spot c.args.here.now c.args.e.now).env c.args.e.now (joined_state c.args.state.now (g.S.Services.stands c.args.svc.now)) (joined_state c.pays.new.self (g.S.Services.stands c.args.svc.now))
     (c.if-not-pays.ensures.paid refl (g.S.Services.stands c.args.svc.now)) in
-    flows_from c.binding.new.codes c.args.here.now.code.now c.args.here.now.fun (spot c.args.here.now c.args.e.now) _ _ c.binding.result (joined c.binding.new.state (g.S.Services.stands c.binding.new.svc)) leads c.binding.ensures.flows
+    flows_from c.binding.new.codes c.args.here.now.code.now c.args.here.now.fun (spot c.args.here.now c.args.e.now) _ _ c.binding.result (joined_state c.binding.new.state (g.S.Services.stands c.binding.new.svc)) leads c.binding.ensures.flows
 
 -- ---- names
 
 pub binding-evaluate-requires : goal.binding-evaluate-requires
 binding-evaluate-requires g t c =
-    let safe : IsSafe (meaning c.args.here.now.code.now c.args.here.now.fun (spot c.args.here.now c.args.e.now).env c.args.a.now (joined c.args.state.now (g.S.Services.stands c.args.svc.now))).asks = first_safe c.args.here.now.code.now c.args.here.now.fun (spot c.args.here.now c.args.e.now) c.args.a.now (joined c.args.state.now (g.S.Services.stands c.args.svc.now)) (let_parts c.args.here.now.code.now c.args.here.now.fun c.args.e.now c.args.x.now c.requires.form.0 c.args.a.now c.args.b.now (spot c.args.here.now c.args.e.now).env c.requires.form.1) (let_first c.args.here.now.code.now c.args.here.now.fun c.args.e.now c.args.x.now c.requires.form.0 c.args.a.now c.args.b.now (spot c.args.here.now c.args.e.now).env c.requires.form.1) c.requires.safe in
+    let safe : IsSafe (meaning c.args.here.now.code.now c.args.here.now.fun (spot c.args.here.now c.args.e.now).env c.args.a.now (joined_state c.args.state.now (g.S.Services.stands c.args.svc.now))).asks = first_safe c.args.here.now.code.now c.args.here.now.fun (spot c.args.here.now c.args.e.now) c.args.a.now (joined_state c.args.state.now (g.S.Services.stands c.args.svc.now)) (let_parts c.args.here.now.code.now c.args.here.now.fun c.args.e.now c.args.x.now c.requires.form.0 c.args.a.now c.args.b.now (spot c.args.here.now c.args.e.now).env c.requires.form.1) (let_first c.args.here.now.code.now c.args.here.now.fun c.args.e.now c.args.x.now c.requires.form.0 c.args.a.now c.args.b.now (spot c.args.here.now c.args.e.now).env c.requires.form.1) c.requires.safe in
     search rules
 
 pub binding-under_name-flow-requires : goal.binding-under_name-flow-requires
 binding-under_name-flow-requires g t c =
     let is : c.evaluate.result ≡ Ok (flow.Done c.in-Ok-Done.v) = cc in
-    let leads = let_leads c.args.here.now.code.now c.args.here.now.fun c.args.e.now c.args.x.now c.requires.form.0 c.args.a.now c.args.b.now (spot c.args.here.now c.args.e.now).env c.requires.form.1 (joined c.args.state.now (g.S.Services.stands c.args.svc.now)) (joined c.evaluate.new.state (g.S.Services.stands c.evaluate.new.svc)) c.in-Ok-Done.v (rw is at c.evaluate.ensures.flows) in
+    let leads = let_leads c.args.here.now.code.now c.args.here.now.fun c.args.e.now c.args.x.now c.requires.form.0 c.args.a.now c.args.b.now (spot c.args.here.now c.args.e.now).env c.requires.form.1 (joined_state c.args.state.now (g.S.Services.stands c.args.svc.now)) (joined_state c.evaluate.new.state (g.S.Services.stands c.evaluate.new.svc)) c.in-Ok-Done.v (rw is at c.evaluate.ensures.flows) in
     let here = here_grown _ _ _ c.evaluate.ensures.grown c.requires.here in
-    let safe : IsSafe (meaning c.args.here.now.code.now c.args.here.now.fun (named_spot c.args.here.now c.args.x.now c.in-Ok-Done.v c.args.b.now).env c.args.b.now (joined c.evaluate.new.state (g.S.Services.stands c.evaluate.new.svc))).asks = resume_asks c.args.here.now.code.now c.args.here.now.fun (spot c.args.here.now c.args.e.now) (frame.Bound c.in-Ok-Done.v) _ (leads.safe c.requires.safe) in
+    let safe : IsSafe (meaning c.args.here.now.code.now c.args.here.now.fun (named_spot c.args.here.now c.args.x.now c.in-Ok-Done.v c.args.b.now).env c.args.b.now (joined_state c.evaluate.new.state (g.S.Services.stands c.evaluate.new.svc))).asks = resume_asks c.args.here.now.code.now c.args.here.now.fun (spot c.args.here.now c.args.e.now) (frame.Bound c.in-Ok-Done.v) _ (leads.safe c.requires.safe) in
     search rules
 
 pub binding-returns-in-Ok-Done-clause-flows : goal.binding-returns-in-Ok-Done-clause-flows
 binding-returns-in-Ok-Done-clause-flows g t c =
     let is : c.evaluate.result ≡ Ok (flow.Done c.in-Ok-Done.v) = cc in
-    let leads = let_leads c.args.here.now.code.now c.args.here.now.fun c.args.e.now c.args.x.now c.requires.form.0 c.args.a.now c.args.b.now (spot c.args.here.now c.args.e.now).env c.requires.form.1 (joined c.args.state.now (g.S.Services.stands c.args.svc.now)) (joined c.evaluate.new.state (g.S.Services.stands c.evaluate.new.svc)) c.in-Ok-Done.v (rw is at c.evaluate.ensures.flows) in
-    flows_from c.under_name-flow.new.codes c.args.here.now.code.now c.args.here.now.fun (spot c.args.here.now c.args.e.now) _ _ c.bound_back.result (joined c.bound_back.new.state (g.S.Services.stands c.under_name-flow.new.svc)) leads
+    let leads = let_leads c.args.here.now.code.now c.args.here.now.fun c.args.e.now c.args.x.now c.requires.form.0 c.args.a.now c.args.b.now (spot c.args.here.now c.args.e.now).env c.requires.form.1 (joined_state c.args.state.now (g.S.Services.stands c.args.svc.now)) (joined_state c.evaluate.new.state (g.S.Services.stands c.evaluate.new.svc)) c.in-Ok-Done.v (rw is at c.evaluate.ensures.flows) in
+    flows_from c.under_name-flow.new.codes c.args.here.now.code.now c.args.here.now.fun (spot c.args.here.now c.args.e.now) _ _ c.bound_back.result (joined_state c.bound_back.new.state (g.S.Services.stands c.under_name-flow.new.svc)) leads
     (c.bound_back.ensures.flows c.under_name-flow.new.codes c.args.here.now.code.now c.args.here.now.fun (spot c.args.here.now c.args.e.now) _ _ (g.S.Services.stands c.under_name-flow.new.svc) (let_body c.args.here.now.code.now c.args.here.now.fun c.args.e.now c.args.x.now c.requires.form.0 c.args.a.now c.args.b.now (spot c.args.here.now c.args.e.now).env c.requires.form.1 c.in-Ok-Done.v) c.under_name-flow.ensures.flows)
 
 pub binding-returns-in_ok-inside-in-Ok-Wait-clause-flows : goal.binding-returns-in_ok-inside-in-Ok-Wait-clause-flows
 binding-returns-in_ok-inside-in-Ok-Wait-clause-flows g t c =
     let is : c.evaluate.result ≡ Ok (flow.Wait c.in-Ok-Wait.rest) = cc in
     rw (c.in_ok-inside-in-Ok-Wait.ensures, c.new.ensures)
-    (waits_inside c.evaluate.new.codes c.args.here.now.code.now c.args.here.now.fun (spot c.args.here.now c.args.e.now) (frame.Part 0 []) _ (let_first c.args.here.now.code.now c.args.here.now.fun c.args.e.now c.args.x.now c.requires.form.0 c.args.a.now c.args.b.now (spot c.args.here.now c.args.e.now).env c.requires.form.1) c.in-Ok-Wait.rest (joined c.evaluate.new.state (g.S.Services.stands c.evaluate.new.svc)) _ _ (first_leads c.args.here.now.code.now c.args.here.now.fun (spot c.args.here.now c.args.e.now) c.args.a.now (joined c.args.state.now (g.S.Services.stands c.args.svc.now)) (let_parts c.args.here.now.code.now c.args.here.now.fun c.args.e.now c.args.x.now c.requires.form.0 c.args.a.now c.args.b.now (spot c.args.here.now c.args.e.now).env c.requires.form.1) (let_first c.args.here.now.code.now c.args.here.now.fun c.args.e.now c.args.x.now c.requires.form.0 c.args.a.now c.args.b.now (spot c.args.here.now c.args.e.now).env c.requires.form.1)) (rw is at c.evaluate.ensures.flows))
+    (waits_inside c.evaluate.new.codes c.args.here.now.code.now c.args.here.now.fun (spot c.args.here.now c.args.e.now) (frame.Part 0 []) _ (let_first c.args.here.now.code.now c.args.here.now.fun c.args.e.now c.args.x.now c.requires.form.0 c.args.a.now c.args.b.now (spot c.args.here.now c.args.e.now).env c.requires.form.1) c.in-Ok-Wait.rest (joined_state c.evaluate.new.state (g.S.Services.stands c.evaluate.new.svc)) _ _ (first_leads c.args.here.now.code.now c.args.here.now.fun (spot c.args.here.now c.args.e.now) c.args.a.now (joined_state c.args.state.now (g.S.Services.stands c.args.svc.now)) (let_parts c.args.here.now.code.now c.args.here.now.fun c.args.e.now c.args.x.now c.requires.form.0 c.args.a.now c.args.b.now (spot c.args.here.now c.args.e.now).env c.requires.form.1) (let_first c.args.here.now.code.now c.args.here.now.fun c.args.e.now c.args.x.now c.requires.form.0 c.args.a.now c.args.b.now (spot c.args.here.now c.args.e.now).env c.requires.form.1)) (rw is at c.evaluate.ensures.flows))
 
 pub binding-returns-in-Err-clause-flows : goal.binding-returns-in-Err-clause-flows
 binding-returns-in-Err-clause-flows g t c = λ other.
     let is : c.evaluate.result ≡ Err c.in-Err.stop = cc in
     let ends = (rw is at c.evaluate.ensures.flows) other in
-    (first_leads c.args.here.now.code.now c.args.here.now.fun (spot c.args.here.now c.args.e.now) c.args.a.now (joined c.args.state.now (g.S.Services.stands c.args.svc.now)) (let_parts c.args.here.now.code.now c.args.here.now.fun c.args.e.now c.args.x.now c.requires.form.0 c.args.a.now c.args.b.now (spot c.args.here.now c.args.e.now).env c.requires.form.1) (let_first c.args.here.now.code.now c.args.here.now.fun c.args.e.now c.args.x.now c.requires.form.0 c.args.a.now c.args.b.now (spot c.args.here.now c.args.e.now).env c.requires.form.1)).same ∙ part_stops_so c.args.here.now.code.now c.args.here.now.fun (spot c.args.here.now c.args.e.now) 0 [] _ c.in-Err.stop _ (let_no_try c.args.here.now.code.now c.args.here.now.fun c.args.e.now c.args.x.now c.requires.form.0 c.args.a.now c.args.b.now (spot c.args.here.now c.args.e.now).env c.requires.form.1) ends
+    (first_leads c.args.here.now.code.now c.args.here.now.fun (spot c.args.here.now c.args.e.now) c.args.a.now (joined_state c.args.state.now (g.S.Services.stands c.args.svc.now)) (let_parts c.args.here.now.code.now c.args.here.now.fun c.args.e.now c.args.x.now c.requires.form.0 c.args.a.now c.args.b.now (spot c.args.here.now c.args.e.now).env c.requires.form.1) (let_first c.args.here.now.code.now c.args.here.now.fun c.args.e.now c.args.x.now c.requires.form.0 c.args.a.now c.args.b.now (spot c.args.here.now c.args.e.now).env c.requires.form.1)).same ∙ part_stops_so c.args.here.now.code.now c.args.here.now.fun (spot c.args.here.now c.args.e.now) 0 [] _ c.in-Err.stop _ (let_no_try c.args.here.now.code.now c.args.here.now.fun c.args.e.now c.args.x.now c.requires.form.0 c.args.a.now c.args.b.now (spot c.args.here.now c.args.e.now).env c.requires.form.1) ends
 
 pub under_name-evaluate-requires : goal.under_name-evaluate-requires
 under_name-evaluate-requires g t c =
     let is : env_of c.args.here.now.function.now c.args.here.now.args.now c.args.here.now.frames.now ++ bound_here c.as_slice.result.now ≡ (named_spot c.args.here.now c.args.x.now c.args.v.now c.args.b.now).env =
     one_name (env_of c.args.here.now.function.now c.args.here.now.args.now c.args.here.now.frames.now) c.args.here.now.bindings.now _ c.as_slice.result.now _ (c.as_slice.ensures ∙ c.in_ok-add.ensures.ok) c.in_ok-bindings.ensures in
     let here = c.requires.here in
-    let safe : IsSafe (meaning c.args.here.now.code.now c.args.here.now.fun (env_of c.args.here.now.function.now c.args.here.now.args.now c.args.here.now.frames.now ++ bound_here c.as_slice.result.now) c.args.b.now (joined c.args.state.now (g.S.Services.stands c.args.svc.now))).asks = rw is c.requires.safe in
+    let safe : IsSafe (meaning c.args.here.now.code.now c.args.here.now.fun (env_of c.args.here.now.function.now c.args.here.now.args.now c.args.here.now.frames.now ++ bound_here c.as_slice.result.now) c.args.b.now (joined_state c.args.state.now (g.S.Services.stands c.args.svc.now))).asks = rw is c.requires.safe in
     search rules
 
 pub under_name-returns-clause-flows : goal.under_name-returns-clause-flows
@@ -545,29 +545,29 @@ under_name-returns-clause-flows g t c =
 
 pub invoke-enter-flow-requires : goal.invoke-enter-flow-requires
 invoke-enter-flow-requires g t c =
-    let is : c.called.result ≡ Ok (next.Call c.in-Ok-Call.fun c.in-Ok-Call.passed) = cc in
-    let leads = rw is at (c.called.ensures.decides (spot c.args.here.now c.args.e.now)) in
+    let is : c.begin_call.result ≡ Ok (next.Call c.in-Ok-Call.fun c.in-Ok-Call.passed) = cc in
+    let leads = rw is at (c.begin_call.ensures.decides (spot c.args.here.now c.args.e.now)) in
     let program = c.requires.here.program in
-    let safe : IsSafe (entered meaning c.args.here.now.code.now c.in-Ok-Call.fun c.in-Ok-Call.passed (joined c.called.new.state (g.S.Services.stands c.called.new.svc))).asks =
+    let safe : IsSafe (entered_function meaning c.args.here.now.code.now c.in-Ok-Call.fun c.in-Ok-Call.passed (joined_state c.begin_call.new.state (g.S.Services.stands c.begin_call.new.svc))).asks =
     resume_asks c.args.here.now.code.now c.args.here.now.fun (spot c.args.here.now c.args.e.now) frame.Body _ (leads.safe c.requires.safe) in
     search rules
 
 pub invoke-returns-in-Ok-Give-clause-flows : goal.invoke-returns-in-Ok-Give-clause-flows
 invoke-returns-in-Ok-Give-clause-flows g t c =
-    let is : c.called.result ≡ Ok (next.Give c.in-Ok-Give.v) = cc in
-    flows_from c.args.codes.now c.args.here.now.code.now c.args.here.now.fun (spot c.args.here.now c.args.e.now) _ _ c.ended.result (joined c.ended.new.state (g.S.Services.stands c.called.new.svc))
-    (rw is at (c.called.ensures.decides (spot c.args.here.now c.args.e.now))) (c.ended.ensures.flows c.args.codes.now c.args.here.now.code.now c.args.here.now.fun (spot c.args.here.now c.args.e.now) (g.S.Services.stands c.called.new.svc))
+    let is : c.begin_call.result ≡ Ok (next.Give c.in-Ok-Give.v) = cc in
+    flows_from c.args.codes.now c.args.here.now.code.now c.args.here.now.fun (spot c.args.here.now c.args.e.now) _ _ c.ended_by_value.result (joined_state c.ended_by_value.new.state (g.S.Services.stands c.begin_call.new.svc))
+    (rw is at (c.begin_call.ensures.decides (spot c.args.here.now c.args.e.now))) (c.ended_by_value.ensures.flows c.args.codes.now c.args.here.now.code.now c.args.here.now.fun (spot c.args.here.now c.args.e.now) (g.S.Services.stands c.begin_call.new.svc))
 
 pub invoke-returns-in-Ok-Call-clause-flows : goal.invoke-returns-in-Ok-Call-clause-flows
 invoke-returns-in-Ok-Call-clause-flows g t c =
-    let is : c.called.result ≡ Ok (next.Call c.in-Ok-Call.fun c.in-Ok-Call.passed) = cc in
-    flows_from c.enter-flow.new.codes c.args.here.now.code.now c.args.here.now.fun (spot c.args.here.now c.args.e.now) _ _ c.body_back.result (joined c.body_back.new.state (g.S.Services.stands c.enter-flow.new.svc))
-    (rw is at (c.called.ensures.decides (spot c.args.here.now c.args.e.now))) (c.body_back.ensures.flows c.enter-flow.new.codes c.args.here.now.code.now c.args.here.now.fun (spot c.args.here.now c.args.e.now) _ (g.S.Services.stands c.enter-flow.new.svc) c.enter-flow.ensures.enters)
+    let is : c.begin_call.result ≡ Ok (next.Call c.in-Ok-Call.fun c.in-Ok-Call.passed) = cc in
+    flows_from c.enter-flow.new.codes c.args.here.now.code.now c.args.here.now.fun (spot c.args.here.now c.args.e.now) _ _ c.body_back.result (joined_state c.body_back.new.state (g.S.Services.stands c.enter-flow.new.svc))
+    (rw is at (c.begin_call.ensures.decides (spot c.args.here.now c.args.e.now))) (c.body_back.ensures.flows c.enter-flow.new.codes c.args.here.now.code.now c.args.here.now.fun (spot c.args.here.now c.args.e.now) _ (g.S.Services.stands c.enter-flow.new.svc) c.enter-flow.ensures.enters)
 
 pub invoke-returns-in-Err-clause-flows : goal.invoke-returns-in-Err-clause-flows
 invoke-returns-in-Err-clause-flows g t c = λ other.
-    let is : c.called.result ≡ Err c.in-Err.stop = cc in
-    (rw is at (c.called.ensures.decides (spot c.args.here.now c.args.e.now))) other
+    let is : c.begin_call.result ≡ Err c.in-Err.stop = cc in
+    (rw is at (c.begin_call.ensures.decides (spot c.args.here.now c.args.e.now))) other
 
 -- ---- evals
 
@@ -579,54 +579,54 @@ eval-eval_packing-requires g t c =
 
 pub eval_packing-returns-then-not-pays-clause-flows : goal.eval_packing-returns-then-not-pays-clause-flows
 eval_packing-returns-then-not-pays-clause-flows g t c = λ other.
-    let ends = begun_spent c.args.here.now.code.now c.args.here.now.fun (spot c.args.here.now c.args.e.now).env c.args.a.now WorkSpent (joined c.args.state.now (g.S.Services.stands c.args.svc.now)) _ (c.if-not-pays.ensures.unpaid refl (g.S.Services.stands c.args.svc.now)) in
-    (first_leads c.args.here.now.code.now c.args.here.now.fun (spot c.args.here.now c.args.e.now) c.args.a.now (joined c.args.state.now (g.S.Services.stands c.args.svc.now)) (eval_parts c.args.here.now.code.now c.args.here.now.fun c.args.e.now c.args.a.now (spot c.args.here.now c.args.e.now).env c.requires.form) (eval_part c.args.here.now.code.now c.args.here.now.fun c.args.e.now c.args.a.now (spot c.args.here.now c.args.e.now).env c.requires.form)).same
+    let ends = begun_spent c.args.here.now.code.now c.args.here.now.fun (spot c.args.here.now c.args.e.now).env c.args.a.now WorkSpent (joined_state c.args.state.now (g.S.Services.stands c.args.svc.now)) _ (c.if-not-pays.ensures.unpaid refl (g.S.Services.stands c.args.svc.now)) in
+    (first_leads c.args.here.now.code.now c.args.here.now.fun (spot c.args.here.now c.args.e.now) c.args.a.now (joined_state c.args.state.now (g.S.Services.stands c.args.svc.now)) (eval_parts c.args.here.now.code.now c.args.here.now.fun c.args.e.now c.args.a.now (spot c.args.here.now c.args.e.now).env c.requires.form) (eval_part c.args.here.now.code.now c.args.here.now.fun c.args.e.now c.args.a.now (spot c.args.here.now c.args.e.now).env c.requires.form)).same
     ∙ part_stops_so c.args.here.now.code.now c.args.here.now.fun (spot c.args.here.now c.args.e.now) 0 [] _ WorkSpent _ (eval_no_try c.args.here.now.code.now c.args.here.now.fun c.args.e.now c.args.a.now (spot c.args.here.now c.args.e.now).env c.requires.form) ends
 
 pub eval_packing-all_parts-requires : goal.eval_packing-all_parts-requires
 eval_packing-all_parts-requires g t c =
     let row : IsRow (out-Expr c.args.a.now) = rw c.requires.packs tt in
     let parts : parts_of (out-Expr c.args.a.now) ≡ c.as_slice.result.now = rw (c.requires.packs, c.as_slice.ensures) refl in
-    let part_is_safe = first_safe c.args.here.now.code.now c.args.here.now.fun (spot c.args.here.now c.args.e.now) c.args.a.now (joined c.args.state.now (g.S.Services.stands c.args.svc.now)) (eval_parts c.args.here.now.code.now c.args.here.now.fun c.args.e.now c.args.a.now (spot c.args.here.now c.args.e.now).env c.requires.form) (eval_part c.args.here.now.code.now c.args.here.now.fun c.args.e.now c.args.a.now (spot c.args.here.now c.args.e.now).env c.requires.form) c.requires.safe in
-    let safe : IsSafe (begins c.args.here.now.code.now c.args.here.now.fun (spot c.args.here.now c.args.a.now) (joined c.pays.new.self (g.S.Services.stands c.args.svc.now))).asks = (begun_here c.args.here.now.code.now c.args.here.now.fun (spot c.args.here.now c.args.e.now).env c.args.a.now (joined c.args.state.now (g.S.Services.stands c.args.svc.now)) (joined c.pays.new.self (g.S.Services.stands c.args.svc.now)) (c.if-not-pays.ensures.paid refl (g.S.Services.stands c.args.svc.now))).safe part_is_safe in
+    let part_is_safe = first_safe c.args.here.now.code.now c.args.here.now.fun (spot c.args.here.now c.args.e.now) c.args.a.now (joined_state c.args.state.now (g.S.Services.stands c.args.svc.now)) (eval_parts c.args.here.now.code.now c.args.here.now.fun c.args.e.now c.args.a.now (spot c.args.here.now c.args.e.now).env c.requires.form) (eval_part c.args.here.now.code.now c.args.here.now.fun c.args.e.now c.args.a.now (spot c.args.here.now c.args.e.now).env c.requires.form) c.requires.safe in
+    let safe : IsSafe (begins c.args.here.now.code.now c.args.here.now.fun (spot c.args.here.now c.args.a.now) (joined_state c.pays.new.self (g.S.Services.stands c.args.svc.now))).asks = (begun_here c.args.here.now.code.now c.args.here.now.fun (spot c.args.here.now c.args.e.now).env c.args.a.now (joined_state c.args.state.now (g.S.Services.stands c.args.svc.now)) (joined_state c.pays.new.self (g.S.Services.stands c.args.svc.now)) (c.if-not-pays.ensures.paid refl (g.S.Services.stands c.args.svc.now))).safe part_is_safe in
     search rules
 
 pub eval_packing-eval_packed-requires : goal.eval_packing-eval_packed-requires
 eval_packing-eval_packed-requires g t c =
     let is : c.all_parts.result ≡ Ok (row.All c.in-Ok-All.args) = cc in
-    let rows : Leads (begins c.args.here.now.code.now c.args.here.now.fun (spot c.args.here.now c.args.a.now) (joined c.pays.new.self (g.S.Services.stands c.args.svc.now))) (row_gave c.args.here.now.code.now c.args.here.now.fun (spot c.args.here.now c.args.a.now) c.in-Ok-All.args (joined c.all_parts.new.state (g.S.Services.stands c.all_parts.new.svc))) = rw is at c.all_parts.ensures.rows in
-    let whole = packing_leads c.args.here.now.code.now c.args.here.now.fun c.args.e.now c.args.a.now (spot c.args.here.now c.args.e.now).env c.requires.form (weighed (value.Chunk (record { code = c.args.here.now.code.now; entry = c.args.f.now; args = c.in-Ok-All.args })) (joined c.all_parts.new.state (g.S.Services.stands c.all_parts.new.svc))) (joined c.args.state.now (g.S.Services.stands c.args.svc.now))
-    (onward _ _ _ (begun_here c.args.here.now.code.now c.args.here.now.fun (spot c.args.here.now c.args.e.now).env c.args.a.now (joined c.args.state.now (g.S.Services.stands c.args.svc.now)) (joined c.pays.new.self (g.S.Services.stands c.args.svc.now)) (c.if-not-pays.ensures.paid refl (g.S.Services.stands c.args.svc.now))) (onward _ _ _ rows (chunk_gave c.args.here.now.code.now c.args.here.now.fun c.args.a.now (spot c.args.here.now c.args.e.now).env c.in-Ok-All.args (joined c.all_parts.new.state (g.S.Services.stands c.all_parts.new.svc)) c.args.f.now c.args.es.now c.requires.packs))) in
+    let rows : Leads (begins c.args.here.now.code.now c.args.here.now.fun (spot c.args.here.now c.args.a.now) (joined_state c.pays.new.self (g.S.Services.stands c.args.svc.now))) (row_gave c.args.here.now.code.now c.args.here.now.fun (spot c.args.here.now c.args.a.now) c.in-Ok-All.args (joined_state c.all_parts.new.state (g.S.Services.stands c.all_parts.new.svc))) = rw is at c.all_parts.ensures.rows in
+    let whole = packing_leads c.args.here.now.code.now c.args.here.now.fun c.args.e.now c.args.a.now (spot c.args.here.now c.args.e.now).env c.requires.form (weighed_value (value.Chunk (record { code = c.args.here.now.code.now; entry = c.args.f.now; args = c.in-Ok-All.args })) (joined_state c.all_parts.new.state (g.S.Services.stands c.all_parts.new.svc))) (joined_state c.args.state.now (g.S.Services.stands c.args.svc.now))
+    (onward _ _ _ (begun_here c.args.here.now.code.now c.args.here.now.fun (spot c.args.here.now c.args.e.now).env c.args.a.now (joined_state c.args.state.now (g.S.Services.stands c.args.svc.now)) (joined_state c.pays.new.self (g.S.Services.stands c.args.svc.now)) (c.if-not-pays.ensures.paid refl (g.S.Services.stands c.args.svc.now))) (onward _ _ _ rows (chunk_gave c.args.here.now.code.now c.args.here.now.fun c.args.a.now (spot c.args.here.now c.args.e.now).env c.in-Ok-All.args (joined_state c.all_parts.new.state (g.S.Services.stands c.all_parts.new.svc)) c.args.f.now c.args.es.now c.requires.packs))) in
     let here = here_grown _ _ _ c.all_parts.ensures.grown c.requires.here in
-    let safe : IsSafe (resume c.args.here.now.code.now c.args.here.now.fun (spot c.args.here.now c.args.e.now) (frame.Part 0 []) (weighed (value.Chunk (record { code = c.args.here.now.code.now; entry = c.args.f.now; args = c.in-Ok-All.args })) (joined c.all_parts.new.state (g.S.Services.stands c.all_parts.new.svc)))).asks = whole.safe c.requires.safe in
+    let safe : IsSafe (resume c.args.here.now.code.now c.args.here.now.fun (spot c.args.here.now c.args.e.now) (frame.Part 0 []) (weighed_value (value.Chunk (record { code = c.args.here.now.code.now; entry = c.args.f.now; args = c.in-Ok-All.args })) (joined_state c.all_parts.new.state (g.S.Services.stands c.all_parts.new.svc)))).asks = whole.safe c.requires.safe in
     search rules
 
 pub eval_packing-returns-in-Ok-All-clause-flows : goal.eval_packing-returns-in-Ok-All-clause-flows
 eval_packing-returns-in-Ok-All-clause-flows g t c =
     let is : c.all_parts.result ≡ Ok (row.All c.in-Ok-All.args) = cc in
-    let rows : Leads (begins c.args.here.now.code.now c.args.here.now.fun (spot c.args.here.now c.args.a.now) (joined c.pays.new.self (g.S.Services.stands c.args.svc.now))) (row_gave c.args.here.now.code.now c.args.here.now.fun (spot c.args.here.now c.args.a.now) c.in-Ok-All.args (joined c.all_parts.new.state (g.S.Services.stands c.all_parts.new.svc))) = rw is at c.all_parts.ensures.rows in
-    let whole = packing_leads c.args.here.now.code.now c.args.here.now.fun c.args.e.now c.args.a.now (spot c.args.here.now c.args.e.now).env c.requires.form (weighed (value.Chunk (record { code = c.args.here.now.code.now; entry = c.args.f.now; args = c.in-Ok-All.args })) (joined c.all_parts.new.state (g.S.Services.stands c.all_parts.new.svc))) (joined c.args.state.now (g.S.Services.stands c.args.svc.now))
-    (onward _ _ _ (begun_here c.args.here.now.code.now c.args.here.now.fun (spot c.args.here.now c.args.e.now).env c.args.a.now (joined c.args.state.now (g.S.Services.stands c.args.svc.now)) (joined c.pays.new.self (g.S.Services.stands c.args.svc.now)) (c.if-not-pays.ensures.paid refl (g.S.Services.stands c.args.svc.now))) (onward _ _ _ rows (chunk_gave c.args.here.now.code.now c.args.here.now.fun c.args.a.now (spot c.args.here.now c.args.e.now).env c.in-Ok-All.args (joined c.all_parts.new.state (g.S.Services.stands c.all_parts.new.svc)) c.args.f.now c.args.es.now c.requires.packs))) in
-    flows_from c.eval_packed.new.codes c.args.here.now.code.now c.args.here.now.fun (spot c.args.here.now c.args.e.now) _ _ c.eval_packed.result (joined c.eval_packed.new.state (g.S.Services.stands c.eval_packed.new.svc)) whole c.eval_packed.ensures.flows
+    let rows : Leads (begins c.args.here.now.code.now c.args.here.now.fun (spot c.args.here.now c.args.a.now) (joined_state c.pays.new.self (g.S.Services.stands c.args.svc.now))) (row_gave c.args.here.now.code.now c.args.here.now.fun (spot c.args.here.now c.args.a.now) c.in-Ok-All.args (joined_state c.all_parts.new.state (g.S.Services.stands c.all_parts.new.svc))) = rw is at c.all_parts.ensures.rows in
+    let whole = packing_leads c.args.here.now.code.now c.args.here.now.fun c.args.e.now c.args.a.now (spot c.args.here.now c.args.e.now).env c.requires.form (weighed_value (value.Chunk (record { code = c.args.here.now.code.now; entry = c.args.f.now; args = c.in-Ok-All.args })) (joined_state c.all_parts.new.state (g.S.Services.stands c.all_parts.new.svc))) (joined_state c.args.state.now (g.S.Services.stands c.args.svc.now))
+    (onward _ _ _ (begun_here c.args.here.now.code.now c.args.here.now.fun (spot c.args.here.now c.args.e.now).env c.args.a.now (joined_state c.args.state.now (g.S.Services.stands c.args.svc.now)) (joined_state c.pays.new.self (g.S.Services.stands c.args.svc.now)) (c.if-not-pays.ensures.paid refl (g.S.Services.stands c.args.svc.now))) (onward _ _ _ rows (chunk_gave c.args.here.now.code.now c.args.here.now.fun c.args.a.now (spot c.args.here.now c.args.e.now).env c.in-Ok-All.args (joined_state c.all_parts.new.state (g.S.Services.stands c.all_parts.new.svc)) c.args.f.now c.args.es.now c.requires.packs))) in
+    flows_from c.eval_packed.new.codes c.args.here.now.code.now c.args.here.now.fun (spot c.args.here.now c.args.e.now) _ _ c.eval_packed.result (joined_state c.eval_packed.new.state (g.S.Services.stands c.eval_packed.new.svc)) whole c.eval_packed.ensures.flows
 
 pub eval_packing-returns-in_ok-inside-in-Ok-Wait-clause-flows : goal.eval_packing-returns-in_ok-inside-in-Ok-Wait-clause-flows
 eval_packing-returns-in_ok-inside-in-Ok-Wait-clause-flows g t c =
     let is : c.all_parts.result ≡ Ok (row.Wait c.in-Ok-Wait.rest) = cc in
-    let rows : Waits c.all_parts.new.codes c.args.here.now.code.now c.args.here.now.fun (spot c.args.here.now c.args.a.now) (begins c.args.here.now.code.now c.args.here.now.fun (spot c.args.here.now c.args.a.now) (joined c.pays.new.self (g.S.Services.stands c.args.svc.now))) c.in-Ok-Wait.rest (joined c.all_parts.new.state (g.S.Services.stands c.all_parts.new.svc)) = rw is at c.all_parts.ensures.rows in
+    let rows : Waits c.all_parts.new.codes c.args.here.now.code.now c.args.here.now.fun (spot c.args.here.now c.args.a.now) (begins c.args.here.now.code.now c.args.here.now.fun (spot c.args.here.now c.args.a.now) (joined_state c.pays.new.self (g.S.Services.stands c.args.svc.now))) c.in-Ok-Wait.rest (joined_state c.all_parts.new.state (g.S.Services.stands c.all_parts.new.svc)) = rw is at c.all_parts.ensures.rows in
     rw (c.in_ok-inside-in-Ok-Wait.ensures, c.new.ensures)
-    (waits_inside c.all_parts.new.codes c.args.here.now.code.now c.args.here.now.fun (spot c.args.here.now c.args.e.now) (frame.Part 0 []) _ (eval_part c.args.here.now.code.now c.args.here.now.fun c.args.e.now c.args.a.now (spot c.args.here.now c.args.e.now).env c.requires.form) c.in-Ok-Wait.rest (joined c.all_parts.new.state (g.S.Services.stands c.all_parts.new.svc)) _ _ (packing_leads c.args.here.now.code.now c.args.here.now.fun c.args.e.now c.args.a.now (spot c.args.here.now c.args.e.now).env c.requires.form _ (joined c.args.state.now (g.S.Services.stands c.args.svc.now)) (begun_here c.args.here.now.code.now c.args.here.now.fun (spot c.args.here.now c.args.e.now).env c.args.a.now (joined c.args.state.now (g.S.Services.stands c.args.svc.now)) (joined c.pays.new.self (g.S.Services.stands c.args.svc.now)) (c.if-not-pays.ensures.paid refl (g.S.Services.stands c.args.svc.now)))) rows)
+    (waits_inside c.all_parts.new.codes c.args.here.now.code.now c.args.here.now.fun (spot c.args.here.now c.args.e.now) (frame.Part 0 []) _ (eval_part c.args.here.now.code.now c.args.here.now.fun c.args.e.now c.args.a.now (spot c.args.here.now c.args.e.now).env c.requires.form) c.in-Ok-Wait.rest (joined_state c.all_parts.new.state (g.S.Services.stands c.all_parts.new.svc)) _ _ (packing_leads c.args.here.now.code.now c.args.here.now.fun c.args.e.now c.args.a.now (spot c.args.here.now c.args.e.now).env c.requires.form _ (joined_state c.args.state.now (g.S.Services.stands c.args.svc.now)) (begun_here c.args.here.now.code.now c.args.here.now.fun (spot c.args.here.now c.args.e.now).env c.args.a.now (joined_state c.args.state.now (g.S.Services.stands c.args.svc.now)) (joined_state c.pays.new.self (g.S.Services.stands c.args.svc.now)) (c.if-not-pays.ensures.paid refl (g.S.Services.stands c.args.svc.now)))) rows)
 
 pub eval_packing-returns-in-Err-clause-flows : goal.eval_packing-returns-in-Err-clause-flows
 eval_packing-returns-in-Err-clause-flows g t c = λ other.
     let is : c.all_parts.result ≡ Err c.in-Err.stop = cc in
     let ends = (rw is at c.all_parts.ensures.rows) other in
-    (packing_leads c.args.here.now.code.now c.args.here.now.fun c.args.e.now c.args.a.now (spot c.args.here.now c.args.e.now).env c.requires.form _ (joined c.args.state.now (g.S.Services.stands c.args.svc.now)) (begun_here c.args.here.now.code.now c.args.here.now.fun (spot c.args.here.now c.args.e.now).env c.args.a.now (joined c.args.state.now (g.S.Services.stands c.args.svc.now)) (joined c.pays.new.self (g.S.Services.stands c.args.svc.now)) (c.if-not-pays.ensures.paid refl (g.S.Services.stands c.args.svc.now)))).same ∙ part_stops_so c.args.here.now.code.now c.args.here.now.fun (spot c.args.here.now c.args.e.now) 0 [] _ c.in-Err.stop _ (eval_no_try c.args.here.now.code.now c.args.here.now.fun c.args.e.now c.args.a.now (spot c.args.here.now c.args.e.now).env c.requires.form) ends
+    (packing_leads c.args.here.now.code.now c.args.here.now.fun c.args.e.now c.args.a.now (spot c.args.here.now c.args.e.now).env c.requires.form _ (joined_state c.args.state.now (g.S.Services.stands c.args.svc.now)) (begun_here c.args.here.now.code.now c.args.here.now.fun (spot c.args.here.now c.args.e.now).env c.args.a.now (joined_state c.args.state.now (g.S.Services.stands c.args.svc.now)) (joined_state c.pays.new.self (g.S.Services.stands c.args.svc.now)) (c.if-not-pays.ensures.paid refl (g.S.Services.stands c.args.svc.now)))).same ∙ part_stops_so c.args.here.now.code.now c.args.here.now.fun (spot c.args.here.now c.args.e.now) 0 [] _ c.in-Err.stop _ (eval_no_try c.args.here.now.code.now c.args.here.now.fun c.args.e.now c.args.a.now (spot c.args.here.now c.args.e.now).env c.requires.form) ends
 
 pub eval_packed-visit_here-requires : goal.eval_packed-visit_here-requires
 eval_packed-visit_here-requires g t c =
     let form = c.requires.form in
     let leads = rw c.as_slice.ensures at (c.in-Ok.ensures.pays c.args.here.now.fun c.args.e.now form.0 (spot c.args.here.now c.args.e.now).env (g.S.Services.stands c.args.svc.now) form.1) in
-    let safe : IsSafe (next_step c.args.here.now.code.now c.args.here.now.fun (spot c.args.here.now c.args.e.now) (next.Visit (record { code = c.args.here.now.code.now; entry = c.args.f.now; args = c.args.args })) (joined c.pay_packed.new.state (g.S.Services.stands c.args.svc.now))).asks = leads.safe c.requires.safe in
+    let safe : IsSafe (next_step c.args.here.now.code.now c.args.here.now.fun (spot c.args.here.now c.args.e.now) (next.Visit (record { code = c.args.here.now.code.now; entry = c.args.f.now; args = c.args.args })) (joined_state c.pay_packed.new.state (g.S.Services.stands c.args.svc.now))).asks = leads.safe c.requires.safe in
     let here = c.requires.here in
     search rules
 
@@ -634,7 +634,7 @@ pub eval_packed-returns-in-Ok-clause-flows : goal.eval_packed-returns-in-Ok-clau
 eval_packed-returns-in-Ok-clause-flows g t c =
     let form = c.requires.form in
     let leads = rw c.as_slice.ensures at (c.in-Ok.ensures.pays c.args.here.now.fun c.args.e.now form.0 (spot c.args.here.now c.args.e.now).env (g.S.Services.stands c.args.svc.now) form.1) in
-    flows_from c.visit_here.new.codes c.args.here.now.code.now c.args.here.now.fun (spot c.args.here.now c.args.e.now) _ _ c.visit_here.result (joined c.visit_here.new.state (g.S.Services.stands c.visit_here.new.svc)) leads c.visit_here.ensures.flows
+    flows_from c.visit_here.new.codes c.args.here.now.code.now c.args.here.now.fun (spot c.args.here.now c.args.e.now) _ _ c.visit_here.result (joined_state c.visit_here.new.state (g.S.Services.stands c.visit_here.new.svc)) leads c.visit_here.ensures.flows
 
 pub eval_packed-returns-in-Err-clause-flows : goal.eval_packed-returns-in-Err-clause-flows
 eval_packed-returns-in-Err-clause-flows g t c = λ other.
@@ -645,13 +645,13 @@ eval_packed-returns-in-Err-clause-flows g t c = λ other.
 pub visit_here-returns-in_default-clause-flows : goal.visit_here-returns-in_default-clause-flows
 visit_here-returns-in_default-clause-flows g t c = λ other.
     let none : place_of c.args.f.now c.args.here.now.code.now.funs ≡ None = cc in
-    resume_final c.args.here.now.code.now c.args.here.now.fun Wrong _ tt (spot c.args.here.now c.args.e.now) frame.Chunk (visited meaning (record { code = c.args.here.now.code.now; entry = c.args.f.now; args = c.args.args }) (joined c.args.state.now (g.S.Services.stands c.args.svc.now))) (visited_nowhere (record { code = c.args.here.now.code.now; entry = c.args.f.now; args = c.args.args }) (joined c.args.state.now (g.S.Services.stands c.args.svc.now)) none)
+    resume_final c.args.here.now.code.now c.args.here.now.fun Wrong _ tt (spot c.args.here.now c.args.e.now) frame.Chunk (visited_chunk meaning (record { code = c.args.here.now.code.now; entry = c.args.f.now; args = c.args.args }) (joined_state c.args.state.now (g.S.Services.stands c.args.svc.now))) (visited_nowhere (record { code = c.args.here.now.code.now; entry = c.args.f.now; args = c.args.args }) (joined_state c.args.state.now (g.S.Services.stands c.args.svc.now)) none)
 
 pub visit_here-enter-flow-requires : goal.visit_here-enter-flow-requires
 visit_here-enter-flow-requires g t c =
     let place : place_of c.args.f.now c.args.here.now.code.now.funs ≡ Some c.in-Some.fun = cc in
     let inside = resume_asks c.args.here.now.code.now c.args.here.now.fun (spot c.args.here.now c.args.e.now) frame.Chunk _ c.requires.safe in
-    let safe : IsSafe (entered meaning c.args.here.now.code.now c.in-Some.fun c.args.args (joined c.args.state.now (g.S.Services.stands c.args.svc.now))).asks = (visited_on (record { code = c.args.here.now.code.now; entry = c.args.f.now; args = c.args.args }) c.in-Some.fun (joined c.args.state.now (g.S.Services.stands c.args.svc.now)) place).safe inside in
+    let safe : IsSafe (entered_function meaning c.args.here.now.code.now c.in-Some.fun c.args.args (joined_state c.args.state.now (g.S.Services.stands c.args.svc.now))).asks = (visited_on (record { code = c.args.here.now.code.now; entry = c.args.f.now; args = c.args.args }) c.in-Some.fun (joined_state c.args.state.now (g.S.Services.stands c.args.svc.now)) place).safe inside in
     let program = c.requires.here.program in
     search rules
 
@@ -659,4 +659,4 @@ pub visit_here-returns-clause-flows : goal.visit_here-returns-clause-flows
 visit_here-returns-clause-flows g t c =
     let place : place_of c.args.f.now c.args.here.now.code.now.funs ≡ Some c.in-Some.fun = cc in
     c.chunk_back.ensures.flows c.enter-flow.new.codes c.args.here.now.code.now c.args.here.now.fun (spot c.args.here.now c.args.e.now) _ (g.S.Services.stands c.enter-flow.new.svc)
-    (enters_from c.enter-flow.new.codes _ _ c.enter-flow.result _ (visited_on (record { code = c.args.here.now.code.now; entry = c.args.f.now; args = c.args.args }) c.in-Some.fun (joined c.args.state.now (g.S.Services.stands c.args.svc.now)) place) c.enter-flow.ensures.enters)
+    (enters_from c.enter-flow.new.codes _ _ c.enter-flow.result _ (visited_on (record { code = c.args.here.now.code.now; entry = c.args.f.now; args = c.args.args }) c.in-Some.fun (joined_state c.args.state.now (g.S.Services.stands c.args.svc.now)) place) c.enter-flow.ensures.enters)

@@ -1,5 +1,5 @@
 use Rattle.std.proofs.Common.{◌≡◌, ◌+◌, ◌*◌, ◌≤◌, drop, length}
-use Rattle.plan_meaning.specs.State.{joined}
+use Rattle.plan_meaning.specs.State.{joined_state}
 use Rattle.plan_eval.specs.Direct.{spot, IsHere, Grows, pending}
 use Rattle.eval_steps.specs.Leads.{Leads}
 use Rattle.eval_steps.specs.Nexts.{begins, next_step}
@@ -17,8 +17,8 @@ decreases-enter g l = 9 * l.state.now.work + 2
 abbrev pub decreases-visit : goal.decreases-visit
 decreases-visit g l = 9 * l.state.now.work + 3
 
-abbrev pub decreases-opened : goal.decreases-opened
-decreases-opened g l = 9 * l.state.now.work + 3
+abbrev pub decreases-evaluate_part : goal.decreases-evaluate_part
+decreases-evaluate_part g l = 9 * l.state.now.work + 3
 
 abbrev pub decreases-advance : goal.decreases-advance
 decreases-advance g l = 9 * l.state.now.work + 4
@@ -29,7 +29,7 @@ decreases-proceed g l = 9 * l.state.now.work + 5
 abbrev pub invariant-proceed-loop-more : goal.invariant-proceed-loop-more
 invariant-proceed-loop-more g l = record {
   here : IsHere l.codes l.here;
-  leads : Leads (next_step l.here.code.now l.here.fun (spot l.here l.e) l.fn.first (joined l.fn.state (g.S.Services.stands l.fn.svc))) (next_step l.here.code.now l.here.fun (spot l.here l.e) l.next (joined l.state (g.S.Services.stands l.svc)));
+  leads : Leads (next_step l.here.code.now l.here.fun (spot l.here l.e) l.fn.first (joined_state l.fn.state (g.S.Services.stands l.fn.svc))) (next_step l.here.code.now l.here.fun (spot l.here l.e) l.next (joined_state l.state (g.S.Services.stands l.svc)));
   falls : l.state.work ≤ l.fn.state.work;
   grown : Grows l.fn.codes l.codes;
   offer : (g.S.Services.stands l.svc).offer ≡ (g.S.Services.stands l.fn.svc).offer;
@@ -57,7 +57,7 @@ decreases-operation g l = 9 * l.state.now.work + 1
 abbrev pub invariant-all_parts-loop-x : goal.invariant-all_parts-loop-x
 invariant-all_parts-loop-x g l = record {
   here : IsHere l.codes l.here;
-  leads : Leads (begins l.here.code.now l.here.fun (spot l.here l.e) (joined l.fn.state (g.S.Services.stands l.fn.svc))) (pending l.here.code.now l.here.fun (spot l.here l.e) l.held (drop (length l.held) l.fn.es) (joined l.state (g.S.Services.stands l.svc)));
+  leads : Leads (begins l.here.code.now l.here.fun (spot l.here l.e) (joined_state l.fn.state (g.S.Services.stands l.fn.svc))) (pending l.here.code.now l.here.fun (spot l.here l.e) l.held (drop (length l.held) l.fn.es) (joined_state l.state (g.S.Services.stands l.svc)));
   falls : l.state.work ≤ l.fn.state.work;
   grown : Grows l.fn.codes l.codes;
   offer : (g.S.Services.stands l.svc).offer ≡ (g.S.Services.stands l.fn.svc).offer;
@@ -82,8 +82,8 @@ decreases-eval_packing g l = 9 * l.state.now.work + 5
 abbrev pub decreases-eval : goal.decreases-eval
 decreases-eval g l = 9 * l.state.now.work + 7
 
-abbrev pub decreases-made : goal.decreases-made
-decreases-made g l = 9 * l.state.now.work + 7
+abbrev pub decreases-finish_row : goal.decreases-finish_row
+decreases-finish_row g l = 9 * l.state.now.work + 7
 
 abbrev pub decreases-binding : goal.decreases-binding
 decreases-binding g l = 9 * l.state.now.work + 2

@@ -1,4 +1,4 @@
-use Rattle.plan_meaning.specs.State.{joined}
+use Rattle.plan_meaning.specs.State.{joined_state}
 use Rattle.plan_eval.proofs.Entering.{linked_top}
 use Rattle.plan_eval.proofs.Taking.{safe_run}
 use Rattle.plan_eval.proofs.Diving.{turn_begins}
@@ -9,11 +9,11 @@ run_top-flow-requires-clause-linked g c = linked_top c.args.codes.now c.args.out
 
 pub run_top-flow-requires-clause-safe : goal.run_top-flow-requires-clause-safe
 run_top-flow-requires-clause-safe g c =
-    safe_run c.args.codes.now c.args.outer.now c.args.top (joined c.args.state.now (g.S.Services.stands c.args.svc.now)) c.requires.linked c.requires.safe
+    safe_run c.args.codes.now c.args.outer.now c.args.top (joined_state c.args.state.now (g.S.Services.stands c.args.svc.now)) c.requires.linked c.requires.safe
 
 pub returns-clause-turned : goal.returns-clause-turned
 returns-clause-turned g c =
     turn_begins c.args.codes.now c.run_top-flow.new.codes c.args.outer.now c.args.top c.run_top-flow.ensures.grown
-    c.landed.result c.landed.new.outer (joined c.run_top-flow.new.state (g.S.Services.stands c.run_top-flow.new.svc))
-    (joined c.args.state.now (g.S.Services.stands c.args.svc.now)) c.requires.linked
-    (λ code at is there stands. c.landed.ensures.turned c.run_top-flow.new.codes code at _ _ stands (c.run_top-flow.ensures.flows code at is there))
+    c.land_flow.result c.land_flow.new.outer (joined_state c.run_top-flow.new.state (g.S.Services.stands c.run_top-flow.new.svc))
+    (joined_state c.args.state.now (g.S.Services.stands c.args.svc.now)) c.requires.linked
+    (λ code at is there stands. c.land_flow.ensures.turned c.run_top-flow.new.codes code at _ _ stands (c.run_top-flow.ensures.flows code at is there))

@@ -1,6 +1,6 @@
 use Rattle.std.proofs.Common.{◌≡◌, Some, slice_get, sym, ◌∙◌, ap}
 use Rattle.plan_base.specs.declared.tree.Program.{Program}
-use Rattle.plan_meaning.specs.State.{joined}
+use Rattle.plan_meaning.specs.State.{joined_state}
 use Rattle.eval_steps.specs.Stack.{Spot, expr_from}
 use Rattle.plan_eval.specs.Direct.{Flows, task_step}
 use Rattle.plan_eval.specs.Turns.{IsAt}
@@ -39,5 +39,5 @@ returns-clause-flows g c =
     let expression : expr_from (Some c.in-Some-get.function.now.body) c.args.top.now.frames ≡ Some c.in-Some-expr_from.expr.now = rw c.as_slice.ensures at (sym reached) in
     let here : IsAt c.args.codes.now c.args.top.now c.in_ok-code.code c.in-Some-get.function.now c.in-Some-expr_from.expr.now = record { program = program; function = function; expression = expression } in
     here_only c.args.codes.now c.args.top.now c.in_ok-code.code c.in-Some-get.function.now c.in-Some-expr_from.expr.now here c.requires.linked c.as_slice-2.result.now c.as_slice-3.result.now c.as_slice-4.result.now c.as_slice-2.ensures c.as_slice-3.ensures (c.as_slice-4.ensures ∙ c.new-none.ensures)
-    (λ (x : Program) (y : Spot). Flows c.perform.new.codes x c.args.top.now.fun y (task_step x c.args.top.now.fun y c.args.task (joined c.args.state.now (g.S.Services.stands c.args.svc.now))) c.perform.result (joined c.perform.new.state (g.S.Services.stands c.perform.new.svc)))
+    (λ (x : Program) (y : Spot). Flows c.perform.new.codes x c.args.top.now.fun y (task_step x c.args.top.now.fun y c.args.task (joined_state c.args.state.now (g.S.Services.stands c.args.svc.now))) c.perform.result (joined_state c.perform.new.state (g.S.Services.stands c.perform.new.svc)))
     c.perform.ensures.flows

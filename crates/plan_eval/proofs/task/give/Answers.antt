@@ -1,5 +1,5 @@
 use Rattle.std.proofs.Common.{◌≡◌, Ok, Err}
-use Rattle.plan_meaning.specs.State.{joined}
+use Rattle.plan_meaning.specs.State.{joined_state}
 use Rattle.plan_eval.specs.Direct.{spot}
 use Rattle.plan_eval.proofs.Backs.{flows_from}
 use Rattle.plan_eval.proofs.task.give.Goals as goal
@@ -12,7 +12,7 @@ proceed-requires-clause-safe g c =
 pub returns-in-Ok-clause-flows : goal.returns-in-Ok-clause-flows
 returns-in-Ok-clause-flows g c =
     let is : c.frame_given.result ≡ Ok c.in-Ok.next = cc in
-    flows_from c.proceed.new.codes c.args.here.now.code.now c.args.here.now.fun (spot c.args.here.now c.args.e.now) _ _ c.proceed.result (joined c.proceed.new.state (g.S.Services.stands c.proceed.new.svc))
+    flows_from c.proceed.new.codes c.args.here.now.code.now c.args.here.now.fun (spot c.args.here.now c.args.e.now) _ _ c.proceed.result (joined_state c.proceed.new.state (g.S.Services.stands c.proceed.new.svc))
     (rw is at (c.frame_given.ensures.decides (spot c.args.here.now c.args.e.now).env)) c.proceed.ensures.flows
 
 pub returns-in-Err-clause-flows : goal.returns-in-Err-clause-flows

@@ -3,4 +3,4 @@ use Rattle.value_rules.specs.Rules as rules
 use Rattle.visit_state.proofs.operate.cons.Goals as goal
 
 pub returns : goal.returns
-returns c = c.unweighed.ensures (rules.put_first c.args.x (out-Value c.args.xs)) c.cons.ensures
+returns c = c.unweighed_end.ensures (rules.put_first c.args.x (out-Value c.args.xs)) c.cons.ensures

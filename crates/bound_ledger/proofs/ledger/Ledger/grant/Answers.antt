@@ -14,5 +14,5 @@ returns-in-Some-clause-ok c =
 pub returns-in_ok-push-in-None-clause-ok : goal.returns-in_ok-push-in-None-clause-ok
 returns-in_ok-push-in-None-clause-ok c =
     c.in_ok-push-in-None.ensures.ok
-    ∙ ap (λ row. c.args.self.now ++ (c.args.f, row) ∷ []) (c.with_grant-in-None.ensures.row ∙ ap (more c.args.n) c.begun.ensures.row)
+    ∙ ap (λ row. c.args.self.now ++ (c.args.f, row) ∷ []) (c.with_grant-in-None.ensures.row ∙ ap (more c.args.n) c.without_counts.ensures.row)
     ∙ sym (grant_none c.args.f c.args.n c.args.self.now (sym c.in-None.ensures.row))

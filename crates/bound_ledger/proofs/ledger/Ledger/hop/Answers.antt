@@ -1,5 +1,5 @@
 use Rattle.std.proofs.Common.{ap, ◌∙◌, arith}
-use Rattle.bound_ledger.specs.Counts.{hopped}
+use Rattle.bound_ledger.specs.Counts.{hop_paid}
 use Rattle.bound_ledger.specs.Rows.{changed_rows}
 use Rattle.bound_ledger.proofs.KeyLaws.{row_moved, none_moved, counts_at, row_balanced, kept_set}
 use Rattle.bound_ledger.proofs.ledger.Ledger.hop.Goals as goal
@@ -14,8 +14,8 @@ with_hop-requires-clause-live c =
 
 pub returns-in_default : goal.returns-in_default
 returns-in_default c =
-    none_moved hopped c.args.f c.of.result c.self.inside.rows.entries c.get_mut.follows.lender-at-none.entries c.of.ensures c.in_default.ensures.value (ap (λ m. m.entries) c.get_mut.follows.holds-at-none)
-    ∙ ap (changed_rows hopped c.args.f) c.self.view_is
+    none_moved hop_paid c.args.f c.of.result c.self.inside.rows.entries c.get_mut.follows.lender-at-none.entries c.of.ensures c.in_default.ensures.value (ap (λ m. m.entries) c.get_mut.follows.holds-at-none)
+    ∙ ap (changed_rows hop_paid c.args.f) c.self.view_is
 
 pub invariant_of-self-2 : goal.invariant_of-self-2
 invariant_of-self-2 c =
@@ -23,5 +23,5 @@ invariant_of-self-2 c =
 
 pub returns : goal.returns
 returns c =
-    row_moved hopped c.args.f c.of.result c.in-Some.place.now c.with_hop.result c.self.inside.rows.entries (c.get_mut.follows.lender c.with_hop.result).entries c.of.ensures c.get_mut.ensures.unique c.in-Some.ensures.value c.with_hop.ensures.row (c.get_mut.follows.holds c.with_hop.result).0
-    ∙ ap (changed_rows hopped c.args.f) c.self.view_is
+    row_moved hop_paid c.args.f c.of.result c.in-Some.place.now c.with_hop.result c.self.inside.rows.entries (c.get_mut.follows.lender c.with_hop.result).entries c.of.ensures c.get_mut.ensures.unique c.in-Some.ensures.value c.with_hop.ensures.row (c.get_mut.follows.holds c.with_hop.result).0
+    ∙ ap (changed_rows hop_paid c.args.f) c.self.view_is

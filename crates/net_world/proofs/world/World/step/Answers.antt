@@ -3,7 +3,7 @@ use Rattle.network_laws.proofs.Balance.{event_balances}
 use Rattle.network_laws.proofs.Fitting.{event_sound}
 use Rattle.network_laws.proofs.Visits.{event_ends}
 use Rattle.world_routes.proofs.Reaching.{event_keeps_routes}
-use Rattle.world_model.specs.World.{acted}
+use Rattle.world_model.specs.World.{acted_event}
 use Rattle.net_world.specs.Stands.{WorldStands}
 use Rattle.net_world.proofs.StandLaws.{fits_there, typed_fits, typed_there}
 use Rattle.net_world.proofs.world.World.step.Goals as goal
@@ -18,7 +18,7 @@ returns-clause-ok g c = λ w h.
     record {
       list = done.list;
       world = record {
-        is = c.count.ensures.stands (acted w c.args.event.now).world done.network;
+        is = c.count.ensures.stands (acted_event w c.args.event.now).world done.network;
         sound = event_sound w c.args.event.now (fits_there w c.args.event.now c.args.self.now (sym h.is.version) (typed_fits c.args.self.now.version c.args.event.now c.keep_types.ensures c.requires.fits)) h.sound;
       };
     }

@@ -18,7 +18,7 @@ pub returns : goal.returns
 returns g c = λ l.
     let e = Frame (dev_of 0) (stamped_bytes c.in-Some.frame) in
     goes_as g.S.Services.stands c.args.cfg.now (make e) (come_back c.args.frame) c.args.self.now c.step.new.self _ _ c.step.result
-    (λ seen r st. back_makes c.args.frame c.in-Some.frame r c.in-Some.is) (c.step.ensures l e c.arrived.ensures.event (λ node. refl))
+    (λ seen r st. back_makes c.args.frame c.in-Some.frame r c.in-Some.is) (c.step.ensures l e c.event_of_frame.ensures.event (λ node. refl))
 
 pub step-requires-clause-event : goal.step-requires-clause-event
-step-requires-clause-event g c = c.arrived.ensures.keeps c.args.cfg.now.node.version
+step-requires-clause-event g c = c.event_of_frame.ensures.keeps c.args.cfg.now.node.version

@@ -9,4 +9,4 @@ pub returns : goal.returns
 returns g c =
     let inner = expr_to c.args.self.now.room in
     rw (operand_is inner c.args.self.now.room c.args.ahead.now)
-    (subst (λ s. Gives (start_at inner c.args.self.now.room s c.args.ahead.now) c.started.result c.started.new.ahead) c.next_start-start.ensures c.started.ensures)
+    (subst (λ s. Gives (start_at inner c.args.self.now.room s c.args.ahead.now) c.start_operand.result c.start_operand.new.ahead) c.next_start-start.ensures c.start_operand.ensures)

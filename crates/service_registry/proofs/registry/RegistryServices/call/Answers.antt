@@ -14,8 +14,8 @@ invariant_of-self c =
     let good = subst (λ (vs : List Value). AreGoodValues c.args.svc.now.params vs) (sym c.as_slice.ensures) c.requires.good in (
       c.self.invariant.0,
       record {
-        base = c.served-answer.ensures.over;
-        good = meets_good (present_of c.self.inside.there) c.args.svc.now c.as_slice.result.now c.args.ctx.now (rows_over t c.in-Some.changes) (rows_over t c.served-answer.new.changes) c.served-answer.result c.served-answer.ensures.meets was.good good c.requires.near;
+        base = c.answer_call-answer.ensures.over;
+        good = meets_good (present_of c.self.inside.there) c.args.svc.now c.as_slice.result.now c.args.ctx.now (rows_over t c.in-Some.changes) (rows_over t c.answer_call-answer.new.changes) c.answer_call-answer.result c.answer_call-answer.ensures.meets was.good good c.requires.near;
         room = λ e. absurd cc;
       },
     )

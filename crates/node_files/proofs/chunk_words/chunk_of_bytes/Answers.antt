@@ -1,6 +1,6 @@
 use Rattle.std.proofs.Common.{arith}
 use Rattle.node_files.proofs.ChunkLaws.{all_from, left_from, none_from}
-use Rattle.node_files.proofs.chunk_words.spelled.Goals as goal
+use Rattle.node_files.proofs.chunk_words.chunk_of_bytes.Goals as goal
 
 pub returns-then-bytes-at-clause-value : goal.returns-then-bytes-at-clause-value
 returns-then-bytes-at-clause-value c =

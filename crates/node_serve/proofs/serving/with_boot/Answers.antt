@@ -1,6 +1,6 @@
 use Rattle.std.proofs.Common.{◌∙◌}
 use Rattle.node_serve.proofs.Moments.{booted_so}
-use Rattle.node_serve.proofs.serving.booted.Goals as goal
+use Rattle.node_serve.proofs.serving.with_boot.Goals as goal
 
 pub returns-clause-keeps : goal.returns-clause-keeps
 returns-clause-keeps c = booted_so c.args.cfg.now c.args.boot c.in_ok-node.node _ _ _ _ c.in_ok-node.ensures (c.in_ok-from_slice.ensures ∙ c.as_slice.ensures) c.in_ok-copy.ensures (c.in_ok-from_slice-2.ensures ∙ c.as_slice-2.ensures)

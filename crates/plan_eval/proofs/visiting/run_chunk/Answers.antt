@@ -1,10 +1,10 @@
 use Rattle.std.proofs.Common.{◌≡◌, Some, None, refl, ◌∙◌}
 use Rattle.typing_rules.specs.TypingNames.{place_of}
-use Rattle.plan_meaning.specs.State.{joined}
+use Rattle.plan_meaning.specs.State.{joined_state}
 use Rattle.eval_steps.proofs.Delivering.{visited_on}
 use Rattle.plan_eval.proofs.Turning.{visited_nowhere}
 use Rattle.plan_eval.proofs.Starting.{starts, starts_linked, meets_from}
-use Rattle.plan_eval.proofs.visiting.visited.Goals as goal
+use Rattle.plan_eval.proofs.visiting.run_chunk.Goals as goal
 
 pub returns-in_default-clause-meets : goal.returns-in_default-clause-meets
 returns-in_default-clause-meets g c = λ other.
@@ -24,10 +24,10 @@ pub run-requires-clause-safe : goal.run-requires-clause-safe
 run-requires-clause-safe g c =
     let place : place_of c.args.chunk.now.entry c.args.chunk.now.code.funs ≡ Some c.in-Some.fun = cc in
     rw (c.in_ok-codes.ensures, c.in_ok-activations.ensures)
-    ((starts c.args.chunk.now c.in-Some.fun (joined c.args.state.now (g.S.Services.stands c.args.svc.now)) place (c.if-not-enters.ensures.yes refl)).safe c.requires.safe)
+    ((starts c.args.chunk.now c.in-Some.fun (joined_state c.args.state.now (g.S.Services.stands c.args.svc.now)) place (c.if-not-enters.ensures.yes refl)).safe c.requires.safe)
 
 pub returns-clause-meets : goal.returns-clause-meets
 returns-clause-meets g c =
     let place : place_of c.args.chunk.now.entry c.args.chunk.now.code.funs ≡ Some c.in-Some.fun = cc in
-    meets_from _ _ c.run.result _ (starts c.args.chunk.now c.in-Some.fun (joined c.args.state.now (g.S.Services.stands c.args.svc.now)) place (c.if-not-enters.ensures.yes refl))
+    meets_from _ _ c.run.result _ (starts c.args.chunk.now c.in-Some.fun (joined_state c.args.state.now (g.S.Services.stands c.args.svc.now)) place (c.if-not-enters.ensures.yes refl))
     (rw (c.in_ok-codes.ensures, c.in_ok-activations.ensures) at c.run.ensures.meets)

@@ -5,18 +5,18 @@ use Rattle.service_registry.specs.RegistryState.{rows_over}
 use Rattle.service_registry.specs.Packages.{present_of}
 use Rattle.service_registry.proofs.ArgumentReads.{meets_as}
 use Rattle.service_registry.proofs.Kept.{served_none, served_some}
-use Rattle.service_registry.proofs.serving.served.Goals as goal
+use Rattle.service_registry.proofs.serving.answer_call.Goals as goal
 
 pub returns-in_default-clause-meets : goal.returns-in_default-clause-meets
 returns-in_default-clause-meets c =
     let rows = rows_over c.args.base.now c.args.changes.now in
-    meets_as _ (refused_call rows) rows rows c.refused.result
-    (served_none (present_of c.args.there) c.args.svc.now c.args.args.now c.args.ctx.now rows (sym c.in_default.is ∙ c.offered.ensures))
-    (c.refused.ensures rows)
+    meets_as _ (refused_call rows) rows rows c.no_such_service.result
+    (served_none (present_of c.args.there) c.args.svc.now c.args.args.now c.args.ctx.now rows (sym c.in_default.is ∙ c.installed_service.ensures))
+    (c.no_such_service.ensures rows)
 
 pub returns-clause-meets : goal.returns-clause-meets
 returns-clause-meets c =
     let rows = rows_over c.args.base.now c.args.changes.now in
     meets_as _ (serve_at c.in_ok-found.found c.in-Some.service c.args.args.now c.args.ctx.now rows) rows (rows_over c.args.base.now c.served_at.new.changes) c.served_at.result
-    (served_some (present_of c.args.there) c.args.svc.now c.args.args.now c.args.ctx.now rows c.in-Some.service c.in_ok-found.found (sym c.in-Some.is ∙ c.offered.ensures) c.in_ok-found.ensures)
+    (served_some (present_of c.args.there) c.args.svc.now c.args.args.now c.args.ctx.now rows c.in-Some.service c.in_ok-found.found (sym c.in-Some.is ∙ c.installed_service.ensures) c.in_ok-found.ensures)
     c.served_at.ensures.meets

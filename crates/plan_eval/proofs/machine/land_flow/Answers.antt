@@ -4,7 +4,7 @@ use Rattle.plan_eval.specs.declared.rest.Flow.TheVariants as flow
 use Rattle.plan_eval.proofs.Turning.{gives_on, turn_left, turn_raised, turn_stopped}
 use Rattle.plan_eval.proofs.Waiting.{turn_waits}
 use Rattle.plan_eval.proofs.Backs.{load_waits, load_rests}
-use Rattle.plan_eval.proofs.machine.landed.Goals as goal
+use Rattle.plan_eval.proofs.machine.land_flow.Goals as goal
 
 pub returns-then-is_empty-clause-turned : goal.returns-then-is_empty-clause-turned
 returns-then-is_empty-clause-turned c codes code at want s here h =
@@ -16,15 +16,15 @@ returns-in_ok-add-in-Ok-Done-clause-turned c codes code at want s here h =
     let is : c.args.flow ≡ Ok (flow.Done c.in-Ok-Done.v) = cc in
     rw c.in_ok-add-in-Ok-Done.ensures.ok (gives_on codes c.args.outer.now code c.args.top at want here c.in-Ok-Done.v s (rw is at h))
 
-pub returns-in_ok-stacked-in-Ok-Wait-clause-turned : goal.returns-in_ok-stacked-in-Ok-Wait-clause-turned
-returns-in_ok-stacked-in-Ok-Wait-clause-turned c codes code at want s here h =
+pub returns-in_ok-stack_rest-in-Ok-Wait-clause-turned : goal.returns-in_ok-stack_rest-in-Ok-Wait-clause-turned
+returns-in_ok-stack_rest-in-Ok-Wait-clause-turned c codes code at want s here h =
     let is : c.args.flow ≡ Ok (flow.Wait c.in-Ok-Wait.rest) = cc in
-    rw c.in_ok-stacked-in-Ok-Wait.ensures (turn_waits codes c.args.outer.now code c.args.top at want here c.in-Ok-Wait.rest s (rw is at h))
+    rw c.in_ok-stack_rest-in-Ok-Wait.ensures (turn_waits codes c.args.outer.now code c.args.top at want here c.in-Ok-Wait.rest s (rw is at h))
 
-pub returns-in_ok-stacked-in-Ok-Wait-clause-shrinks : goal.returns-in_ok-stacked-in-Ok-Wait-clause-shrinks
-returns-in_ok-stacked-in-Ok-Wait-clause-shrinks c depth old new some h =
+pub returns-in_ok-stack_rest-in-Ok-Wait-clause-shrinks : goal.returns-in_ok-stack_rest-in-Ok-Wait-clause-shrinks
+returns-in_ok-stack_rest-in-Ok-Wait-clause-shrinks c depth old new some h =
     let is : c.args.flow ≡ Ok (flow.Wait c.in-Ok-Wait.rest) = cc in
-    rw c.in_ok-stacked-in-Ok-Wait.ensures (load_waits c.args.outer.now c.args.top c.in-Ok-Wait.rest depth old new some (rw is at h))
+    rw c.in_ok-stack_rest-in-Ok-Wait.ensures (load_waits c.args.outer.now c.args.top c.in-Ok-Wait.rest depth old new some (rw is at h))
 
 pub returns-in_ok-add-in-Err-Raised-clause-turned : goal.returns-in_ok-add-in-Err-Raised-clause-turned
 returns-in_ok-add-in-Err-Raised-clause-turned c codes code at want s here h =
@@ -41,7 +41,7 @@ returns-in-Err-Wrong-clause-turned c codes code at want s here h =
     let is : c.args.flow ≡ Err Wrong = cc in
     turn_stopped codes c.args.outer.now code c.args.top at want here Wrong s tt (rw is at h)
 
-pub returns-in_ok-stacked-in-Ok-Wait-clause-bounded : goal.returns-in_ok-stacked-in-Ok-Wait-clause-bounded
-returns-in_ok-stacked-in-Ok-Wait-clause-bounded c old new h =
+pub returns-in_ok-stack_rest-in-Ok-Wait-clause-bounded : goal.returns-in_ok-stack_rest-in-Ok-Wait-clause-bounded
+returns-in_ok-stack_rest-in-Ok-Wait-clause-bounded c old new h =
     let is : c.args.flow ≡ Ok (flow.Wait c.in-Ok-Wait.rest) = cc in
-    rw c.in_ok-stacked-in-Ok-Wait.ensures (load_rests c.args.outer.now c.args.top c.in-Ok-Wait.rest old new (rw is at h))
+    rw c.in_ok-stack_rest-in-Ok-Wait.ensures (load_rests c.args.outer.now c.args.top c.in-Ok-Wait.rest old new (rw is at h))

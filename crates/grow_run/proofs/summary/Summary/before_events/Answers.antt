@@ -1,5 +1,5 @@
 use Rattle.grow_run.proofs.Summing.{summary_none}
-use Rattle.grow_run.proofs.summary.Summary.begun.Goals as goal
+use Rattle.grow_run.proofs.summary.Summary.before_events.Goals as goal
 
 pub returns : goal.returns
 returns c = summary_none

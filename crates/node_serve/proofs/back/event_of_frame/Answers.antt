@@ -3,7 +3,7 @@ use Rattle.wire_bytes.specs.Fields.{IsBytes}
 use Rattle.network_plan.specs.Hosts.{dev_of}
 use Rattle.network_plan.specs.declared.event.Event.TheVariants.{Frame}
 use Rattle.node_serve.proofs.FrameSizes.{frame_arrives}
-use Rattle.node_serve.proofs.back.arrived.Goals as goal
+use Rattle.node_serve.proofs.back.event_of_frame.Goals as goal
 
 pub returns-clause-event : goal.returns-clause-event
 returns-clause-event c = ap (Frame (dev_of 0)) c.into_bytes-bytes.ensures.is
