@@ -78,7 +78,7 @@ module _ (seen : List Seen) (at : Dev) (s : Stamp) (old : Seen) (is : slice_get 
       by (elsewhere e) = ap (λ o. is_fresh (took_by o t)) e ∙ h
 
   taken_there : is_fresh (took_by (slice_get (slice_set seen at.0 (seen_with old s)) at.0) s) ≡ false
-  taken_there = ap (λ o. is_fresh (took_by o s)) (there_now seen at.0 old (seen_with old s) is) ∙ (ap (λ q. is_fresh (took (seen_by q old s) s)) (sym fresh) ∙ stale.taken old s)
+  taken_there = ap (λ o. is_fresh (took_by o s)) (there_now seen at.0 old (seen_with old s) is) ∙ (ap (λ q. is_fresh (took (seen_by q old s) s)) (sym fresh) ∙ stale.stale_once_seen old s)
 
 at_later : (seen : List Seen) (d : Dev) (s : Stamp) (o : Option Seen) → slice_get seen d.0 ≡ o → took_by o s ≡ Fresh → SeenLater seen (seen_at seen d s o)
 at_later seen d s None e f = same_later seen seen refl
