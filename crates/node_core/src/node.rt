@@ -1,5 +1,5 @@
 ghost use Rattle.std.specs.Prelude.{◌≡◌, ◌≤◌, ◌<◌, length, ◌++◌, IfOk, OnErr, [], ◌∷◌, slice_get, None};
-ghost use Rattle.node_model.specs.State.{NodeState, new_node, neighbour_on, leads_to};
+ghost use Rattle.node_model.specs.State.{NodeState, new_node, neighbour_on, leads_to, routing_of};
 ghost use Rattle.node_model.specs.Visits.{around};
 ghost use Rattle.node_model.specs.declared.acts.Act.TheVariants as act;
 ghost use Rattle.node_model.specs.Node as spec;
@@ -13,6 +13,8 @@ ghost use Rattle.node_model.specs.Counts.{came, stale, StepBalances};
 ghost use Rattle.node_model.specs.Fits.{ConfigFits, NodeFits, IsMarked, comes_fit, comes_within};
 ghost use Rattle.node_core.specs.Queued.{queued_at};
 ghost use Rattle.packet_frame.specs.Typed.{plain_of};
+ghost use Rattle.dv_routing.specs.Routing.{all_routes};
+ghost use Rattle.service_api.specs.Routes.{hop};
 ghost use Rattle.node_core.specs.Turns.{IsResting};
 ghost use Rattle.node_core.specs.Stands.{NodeStands, IsStep, MayGoOn, version_of, mark_on, with_stamp, own_family, own_packet, asks_within};
 
@@ -395,6 +397,15 @@ impl<S: Services> Node<S> {
         self.only_acts(alloc, Act::Arrived(dev), dropped)
     }
 
+    /// Where a packet for another host goes next.
+    fn hop(&self, alloc: Global, packet: &CheckedPacket) -> Result<Hop, NoMemory>
+        ensures { (s : NodeState) → NodeStands S.stands self.now s → IfOk result (λ to. to ≡ hop (all_routes (routing_of s)) packet.now.route s.here packet.now.dest) }
+    {
+        let dest = packet.dest();
+        let router = self.routes.router_to(alloc, dest)?;
+        Ok(router.next(packet.route(), self.here, dest))
+    }
+
     /// A packet for another host. Condition: under version 1 it has no handler.
     #[tactic(auto, unfolding(node_model::specs::Node::forward_step))]
     fn forward(&mut self, alloc: Global, dev: Dev, packet: &CheckedPacket) -> Result<Acts, NoMemory>
@@ -407,8 +418,7 @@ impl<S: Services> Node<S> {
             let dropped = Act::Dropped(Reason::NoBound, packet.family(), 0);
             return self.only_acts(alloc, Act::Arrived(dev), dropped);
         }
-        let router = self.routes.router(alloc)?;
-        let hop = router.next(packet.route(), self.here, packet.dest());
+        let hop = self.hop(alloc, packet)?;
         self.forward_by(alloc, dev, packet, hop)
     }
 
