@@ -1,5 +1,5 @@
 -- Steps of the recursion on the native stack.
-use Rattle.std.proofs.Common.{◌≡◌, ℕ, false, List, [], ◌∷◌, ◌++◌, length, slice_get, Option, Some, IsSome, Result, Ok, Err, refl, sym, ◌∙◌, ap, subst, append-nil}
+use Rattle.std.proofs.Common.{◌≡◌, ℕ, min, false, List, [], ◌∷◌, ◌++◌, length, slice_get, Option, Some, IsSome, Result, Ok, Err, refl, sym, ◌∙◌, ap, subst, append-nil}
 use Rattle.std.proofs.lemmas.List.{append_assoc}
 use Rattle.std.proofs.lemmas.Bool.{false≢true}
 use Rattle.plan_items.proofs.Options.{some-same}
@@ -8,6 +8,7 @@ use Rattle.plan_base.specs.declared.tree.Fun.{Fun}
 use Rattle.plan_base.specs.declared.tree.Param.{Param}
 use Rattle.plan_base.specs.declared.tree.Program.{Program}
 use Rattle.plan_base.specs.declared.tree.Value.{Value}
+use Rattle.plan_base.specs.Sizes.{code_size}
 use Rattle.plan_meaning.specs.declared.stop.EvalStop.{EvalStop}
 use Rattle.plan_meaning.specs.declared.stop.EvalStop.TheVariants.{Raised}
 use Rattle.plan_base.specs.declared.tree.Exn.{Exn}
@@ -22,6 +23,7 @@ use Rattle.eval_steps.specs.declared.stack_frame.Mode.{Mode}
 use Rattle.eval_steps.specs.declared.stack_frame.Mode.TheVariants as mode
 use Rattle.plan_eval.specs.declared.here.Here.{Here}
 use Rattle.plan_eval.specs.declared.here.Binding.{Binding}
+use Rattle.plan_eval.specs.declared.measure.ProgramSize.{ProgramSize}
 use Rattle.plan_eval.specs.Turns.{IsAt, IsPlaced, Stands, Turned, under}
 use Rattle.eval_steps.specs.declared.next.Next.TheVariants as next
 use Rattle.plan_eval.specs.declared.rest.Flow.{Flow}
@@ -29,7 +31,7 @@ use Rattle.plan_eval.specs.declared.rest.Flow.TheVariants as flow
 use Rattle.eval_steps.specs.Stack.{Spot, spot_of, env_at, deeper, part_or_self, part_number, resume, spot_in, ended, all_ended, AreLinked, stands_for}
 use Rattle.eval_steps.specs.Nexts.{next_step}
 use Rattle.eval_steps.specs.Leads.{Leads}
-use Rattle.plan_eval.specs.Direct.{bound_here, env_of, IsHere, is_let, Flows, Bodies, Grows}
+use Rattle.plan_eval.specs.Direct.{bound_here, env_of, IsHere, IsProgramSize, is_let, Flows, Bodies, Grows}
 use Rattle.eval_steps.proofs.Leading.{itself}
 use Rattle.plan_eval.proofs.Applying.{grown, program_of, spot_in_grown, ended_grown, all_ended_grown}
 use Rattle.plan_eval.proofs.Beginning.{runs_on}
@@ -47,7 +49,7 @@ pub grown_get : (old new : List Program) (i : ℕ) (code : Program) → Grows ol
 grown_get old new i code g is = rw g.grown (grown old g.more i code is)
 
 pub here_grown : (old new : List Program) (here : Here) → Grows old new → IsHere old here → IsHere new here
-here_grown old new here g h = record { program = grown_get old new here.number here.code.now g h.program; function = h.function; binds = h.binds }
+here_grown old new here g h = record { program = grown_get old new here.number here.code.now g h.program; size = h.size; function = h.function; binds = h.binds }
 
 pub grows_on : (a b c : List Program) → Grows a b → Grows b c → Grows a c
 grows_on a b c g h = record { more = g.more ++ h.more; grown = h.grown ∙ ap (λ (x : List Program). x ++ h.more) g.grown ∙ append_assoc a g.more h.more }
@@ -129,6 +131,18 @@ module _ (codes : List Program) (a : Activation) (code : Program) (f : Fun) (e :
   here_only P p c at is there =
       subst (λ (x : Program). P x at) (same_some (slice_get codes a.code) code c h.program is)
       (subst (λ (y : Spot). P code y) (same_some (spot_in codes a) (record { expr = e; env = env_of f vs fs ++ bound_here bs }) at here_spot there) p)
+
+-- ---- sizes of open programs
+
+pub size_same : (codes : List Program) (code : Program) (last : ProgramSize) (number : ℕ) → IsProgramSize codes last → slice_get codes number ≡ Some code → last.number ≡ number
+    → last.size ≡ min (code_size code) 18446744073709551615
+size_same codes code last number h there same =
+    let found : slice_get codes number ≡ Some h.program = rw same at h.there in
+    rw (same_some (slice_get codes number) code h.program there found) h.is
+
+pub size_grown : (old new : List Program) (code : Program) (size : ProgramSize) (number : ℕ) → Grows old new → slice_get old number ≡ Some code → size.number ≡ number
+    → size.size ≡ min (code_size code) 18446744073709551615 → IsProgramSize new size
+size_grown old new code size number grows there same is = record { program = code; there = rw same (grown_get old new number code grows there); is = is }
 
 -- ---- the innermost expression of the machine's stack
 

@@ -1,5 +1,5 @@
 -- An evaluation on the native stack: how far it came, and what waits where it stopped.
-use Rattle.std.specs.Prelude.{◌≡◌, ◌≢◌, ◌+◌, ◌*◌, ◌≤◌, ◌<◌, if◌then◌else◌, length, map, reverse, ℕ, ℤ, Bool, true, false, List, [], ◌∷◌, ◌++◌, Option, Some, None, IsSome, Result, Ok, Err, slice_get}
+use Rattle.std.specs.Prelude.{◌≡◌, ◌≢◌, ◌+◌, ◌*◌, ◌≤◌, ◌<◌, if◌then◌else◌, length, map, min, reverse, ℕ, ℤ, Bool, true, false, List, [], ◌∷◌, ◌++◌, Option, Some, None, IsSome, Result, Ok, Err, slice_get}
 use Rattle.plan_base.specs.declared.tree.Expr.{Expr, Expr-F, out-Expr}
 use Rattle.plan_base.specs.declared.tree.Fun.{Fun}
 use Rattle.plan_base.specs.declared.tree.Program.{Program}
@@ -16,6 +16,7 @@ use Rattle.eval_steps.specs.declared.stack_frame.Activation.{Activation}
 use Rattle.eval_steps.specs.declared.stack_frame.Mode.TheVariants as mode
 use Rattle.plan_eval.specs.declared.here.Here.{Here}
 use Rattle.plan_eval.specs.declared.here.Binding.{Binding}
+use Rattle.plan_eval.specs.declared.measure.ProgramSize.{ProgramSize}
 use Rattle.plan_base.specs.declared.name.Name.{Name}
 use Rattle.std.specs.Str.{bytes_eq}
 use Rattle.plan_eval.specs.declared.rest.Rest.{Rest}
@@ -29,6 +30,7 @@ use Rattle.plan_eval.specs.declared.turn.Turn.{Turn}
 use Rattle.plan_eval.specs.declared.turn.Turn.TheVariants as turn
 use Rattle.eval_steps.specs.Stack.{Spot, env_from, spot_from, resume, through, AreLinked, stands_for}
 use Rattle.plan_base.specs.Trees.{ExprLayer}
+use Rattle.plan_base.specs.Sizes.{code_size}
 use Rattle.eval_steps.specs.Nexts.{run_at, begins, next_step}
 use Rattle.eval_steps.specs.Leads.{Leads}
 use Rattle.plan_eval.specs.Turns.{frames_in}
@@ -62,11 +64,18 @@ abbrev pub bound_value : Name → Option Value → List Binding → Option Value
 bound_value x before [] = before
 bound_value x before (b ∷ bs) = bound_value x (if bytes_eq b.name.now x then Some b.value.now else before) bs
 
--- its program has its number, and the function takes so many arguments
+-- its program has its number and its size, and the function takes so many arguments
 pub record IsHere (codes : List Program) (here : Here) : Type 0 where
   pub program : slice_get codes here.number ≡ Some here.code.now
+  pub size : here.size ≡ min (code_size here.code.now) 18446744073709551615
   pub function : slice_get here.code.now.funs here.fun ≡ Some here.function.now
   pub binds : IsSome (bound here.function.now.params here.args.now)
+
+-- an open program has this number and this size
+pub record IsProgramSize (codes : List Program) (size : ProgramSize) : Type 0 where
+  pub program : Program
+  pub there : slice_get codes size.number ≡ Some program
+  pub is : size.size ≡ min (code_size program) 18446744073709551615
 
 -- ---- what waits
 

@@ -1,7 +1,8 @@
 //! Evaluation by recursion on the native stack, down to a depth; what is left there waits.
-ghost use Rattle.std.specs.Prelude.{◌≡◌, [], length, IsSome, Some, slice_get};
+ghost use Rattle.std.specs.Prelude.{◌≡◌, [], length, min, IsSome, Some, slice_get};
 ghost use Rattle.plan_base.specs.declared.tree.Expr.{Expr, Expr-F, out-Expr};
 ghost use Rattle.plan_base.specs.declared.tree.Ty.{Ty};
+ghost use Rattle.plan_base.specs.Sizes.{code_size};
 ghost use Rattle.eval_steps.specs.declared.stack_frame.StackFrame.TheVariants as frame;
 ghost use Rattle.plan_base.specs.declared.tree.Value as value;
 ghost use Rattle.plan_meaning.specs.Run.{weighed};
@@ -30,6 +31,7 @@ use eval_steps::{Codes, Next, StackFrame, called, part_at, part_or_self};
 use plan_base::{Chunk, Expr, Exprs, Fun, Name, NoMemory, Op, Program, Value, Values};
 use plan_items::{Items, Shared};
 use plan_meaning::EvalStop;
+use plan_sizes::code_size;
 use service_api::Services;
 use std::alloc::Global;
 use typing_rules::place_of;
@@ -353,11 +355,13 @@ fn invoke<S: Services>(
     ensures offer { (S.stands svc.new).offer ≡ (S.stands svc.old).offer }
     ensures begun { (S.stands svc.new).begun ≡ (S.stands svc.old).begun }
 {
-    let (code, number) = (here.code, here.number);
+    let (code, number, size) = (here.code, here.number, here.size);
     match called(alloc, code, here.fun, f, args, state, svc) {
         Ok(Next::Give(v)) => ended(alloc, v, state),
         Ok(Next::Call(fun, passed)) => {
-            let flow = enter(alloc, codes, code, number, fun, passed, depth, state, svc);
+            let flow = enter(
+                alloc, codes, code, number, size, fun, passed, depth, state, svc,
+            );
             body_back(alloc, flow, state)
         }
         Ok(next) => proceed(alloc, codes, here, e, next, depth, state, svc),
@@ -459,7 +463,7 @@ fn eval_packed<S: Services>(
     ensures offer { (S.stands svc.new).offer ≡ (S.stands svc.old).offer }
     ensures begun { (S.stands svc.new).begun ≡ (S.stands svc.old).begun }
 {
-    match pay_packed(alloc, here.code, f, args.as_slice(), state) {
+    match pay_packed(alloc, here, f, args.as_slice(), state) {
         Ok(()) => visit_here(alloc, codes, here, e, f, args, depth, state, svc),
         Err(stop) => Err(stop),
     }
@@ -492,8 +496,10 @@ fn visit_here<S: Services>(
     let Some(fun) = place_of(f, here.code.get().funs.as_slice()) else {
         return Err(EvalStop::Wrong);
     };
-    let (code, number) = (here.code, here.number);
-    let flow = enter(alloc, codes, code, number, fun, args, depth, state, svc);
+    let (code, number, size) = (here.code, here.number, here.size);
+    let flow = enter(
+        alloc, codes, code, number, size, fun, args, depth, state, svc,
+    );
     chunk_back(alloc, flow, state)
 }
 
@@ -623,16 +629,20 @@ fn advance<S: Services>(
     ensures offer { (S.stands svc.new).offer ≡ (S.stands svc.old).offer }
     ensures begun { (S.stands svc.new).begun ≡ (S.stands svc.old).begun }
 {
-    let (code, number) = (here.code, here.number);
+    let (code, number, size) = (here.code, here.number, here.size);
     match now {
         Next::Give(v) => give(alloc, v, state),
         Next::Open(frame) => opened(alloc, codes, here, e, frame, depth, state, svc),
         Next::Call(fun, args) => {
-            let flow = enter(alloc, codes, code, number, fun, args, depth, state, svc);
+            let flow = enter(
+                alloc, codes, code, number, size, fun, args, depth, state, svc,
+            );
             called_back(alloc, flow)
         }
         Next::Step(fun, args, left) => {
-            let flow = enter(alloc, codes, code, number, fun, args, depth, state, svc);
+            let flow = enter(
+                alloc, codes, code, number, size, fun, args, depth, state, svc,
+            );
             stepped_back(alloc, here, e, left, flow)
         }
         Next::Visit(chunk) => {
@@ -682,6 +692,7 @@ fn enter<S: Services>(
     codes: &mut Codes,
     code: &Shared<Program>,
     number: usize,
+    size: u64,
     fun: usize,
     args: Values,
     depth: u64,
@@ -690,6 +701,7 @@ fn enter<S: Services>(
 ) -> Result<Flow, EvalStop>
     requires open { IsSome (S.stands svc.old).begun }
     requires program { slice_get codes.old number ≡ Some code.now }
+    requires size { size ≡ min (code_size code.now) 18446744073709551615 }
     requires safe { IsSafe (entered meaning code.now fun args (joined state.old (S.stands svc.old))).asks }
     ensures enters { Enters codes.new (entered meaning code.now fun args (joined state.old (S.stands svc.old))) result (joined state.new (S.stands svc.new)) }
     ensures spends { Goes state.old.work result state.new.work }
@@ -704,7 +716,7 @@ fn enter<S: Services>(
         return Err(EvalStop::Wrong);
     }
     let flow = body_flow(
-        alloc, codes, code, number, fun, function, &args, depth, state, svc,
+        alloc, codes, code, number, size, fun, function, &args, depth, state, svc,
     );
     args_back(alloc, number, fun, args, flow)
 }
@@ -716,6 +728,7 @@ fn body_flow<S: Services>(
     codes: &mut Codes,
     code: &Shared<Program>,
     number: usize,
+    size: u64,
     fun: usize,
     function: &Fun,
     args: &Values,
@@ -725,6 +738,7 @@ fn body_flow<S: Services>(
 ) -> Result<Flow, EvalStop>
     requires open { IsSome (S.stands svc.old).begun }
     requires program { slice_get codes.old number ≡ Some code.now }
+    requires size { size ≡ min (code_size code.now) 18446744073709551615 }
     requires function { slice_get code.now.funs fun ≡ Some function.now }
     requires many { length function.now.params ≡ length args.now }
     requires safe { IsSafe (entered meaning code.now fun args.now (joined state.old (S.stands svc.old))).asks }
@@ -739,6 +753,7 @@ fn body_flow<S: Services>(
     let here = Here {
         code,
         number,
+        size,
         fun,
         function,
         args: args.as_slice(),
@@ -772,5 +787,8 @@ fn visit<S: Services>(
         return Err(EvalStop::Wrong);
     };
     let number = open_code(codes, &code)?;
-    enter(alloc, codes, &code, number, fun, args, depth, state, svc)
+    let size = code_size(code.get());
+    enter(
+        alloc, codes, &code, number, size, fun, args, depth, state, svc,
+    )
 }

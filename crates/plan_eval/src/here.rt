@@ -23,6 +23,8 @@ pub struct Here<'a> {
     pub code: &'a Shared<Program>,
     /// Its number among those that are open.
     pub number: usize,
+    /// The bytes of its marshalled form, or 2^64 - 1 where there are more.
+    pub size: u64,
     /// The place of the function in it.
     pub fun: usize,
     /// The function.

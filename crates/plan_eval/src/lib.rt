@@ -6,6 +6,7 @@ mod begin;
 mod direct;
 mod here;
 mod machine;
+mod measure;
 mod numbers;
 mod operators;
 mod packed;

@@ -8,11 +8,12 @@ ghost use Rattle.plan_base.specs.declared.tree.Program.{Program as Code};
 ghost use Rattle.plan_base.specs.declared.tree.Value.{Value as AValue};
 ghost use Rattle.plan_meaning.specs.State.{VisitState};
 ghost use Rattle.plan_meaning.specs.Run.{RunStep};
-ghost use Rattle.plan_eval.specs.Direct.{Flows, Grows, Lasts, Performs, Spends, task_step};
+ghost use Rattle.plan_eval.specs.Direct.{Flows, Grows, IsProgramSize, Lasts, Performs, Spends, task_step};
 ghost use Rattle.eval_steps.specs.Stack.{Spot, spot_in, ended, all_ended, AreLinked, stands_for};
 ghost use Rattle.plan_eval.specs.Turns.{Stands, Turned, load};
 
 use crate::here::Here;
+use crate::measure::{ProgramSize, size_of};
 use crate::rest::{Flow, stacked};
 use crate::task::{Task, perform};
 use eval_steps::{Activation, Activations, Codes, Mode, expr_from};
@@ -63,12 +64,14 @@ fn landed(
 fn run_top<S: Services>(
     alloc: Global,
     codes: &mut Codes,
+    last: &mut ProgramSize,
     top: &Activation,
     task: Task,
     state: &mut State,
     svc: &mut S,
 ) -> Result<Flow, EvalStop>
     requires open { IsSome (S.stands svc.old).begun }
+    requires sized { IsProgramSize codes.old last.old }
     requires linked { IsSome (spot_in codes.old top.now) }
     requires safe { (code : Code) (at : Spot) → slice_get codes.old top.now.code ≡ Some code → spot_in codes.old top.now ≡ Some at
         → IsSafe (task_step code top.now.fun at task (joined state.old (S.stands svc.old))).asks }
@@ -76,6 +79,7 @@ fn run_top<S: Services>(
         → Flows codes.new code top.now.fun at (task_step code top.now.fun at task (joined state.old (S.stands svc.old))) result (joined state.new (S.stands svc.new)) }
     ensures performs { Performs task state.old.work result state.new.work }
     ensures grown { Grows codes.old codes.new }
+    ensures sized { IsProgramSize codes.new last.new }
     ensures offer { (S.stands svc.new).offer ≡ (S.stands svc.old).offer }
     ensures begun { (S.stands svc.new).begun ≡ (S.stands svc.old).begun }
 {
@@ -90,9 +94,11 @@ fn run_top<S: Services>(
         return Err(EvalStop::Wrong);
     };
     let none = Items::new(alloc);
+    *last = size_of(&code, top.code, *last);
     let here = Here {
         code: &code,
         number: top.code,
+        size: last.size,
         fun: top.fun,
         function,
         args: top.args.as_slice(),
@@ -106,20 +112,23 @@ fn run_top<S: Services>(
 fn begin<S: Services>(
     alloc: Global,
     codes: &mut Codes,
+    last: &mut ProgramSize,
     outer: &mut Activations,
     top: Activation,
     state: &mut State,
     svc: &mut S,
 ) -> Result<Mode, EvalStop>
     requires open { IsSome (S.stands svc.old).begun }
+    requires sized { IsProgramSize codes.old last.old }
     requires linked { AreLinked codes.old (outer.old ++ top ∷ []) }
     requires safe { IsSafe (stands_for codes.old (outer.old ++ top ∷ []) mode.Run (joined state.old (S.stands svc.old))).asks }
     ensures turned { Turned (stands_for codes.old (outer.old ++ top ∷ []) mode.Run (joined state.old (S.stands svc.old))) result codes.new outer.new (joined state.new (S.stands svc.new)) }
     ensures shrinks { IfOk result (λ how. load how outer.new state.new.work < load mode.Run (outer.old ++ top ∷ []) state.old.work) }
+    ensures sized { IsProgramSize codes.new last.new }
     ensures offer { (S.stands svc.new).offer ≡ (S.stands svc.old).offer }
     ensures begun { (S.stands svc.new).begun ≡ (S.stands svc.old).begun }
 {
-    let flow = run_top(alloc, codes, &top, Task::Begin, state, svc);
+    let flow = run_top(alloc, codes, last, &top, Task::Begin, state, svc);
     landed(outer, top, flow)
 }
 
@@ -127,6 +136,7 @@ fn begin<S: Services>(
 fn give<S: Services>(
     alloc: Global,
     codes: &mut Codes,
+    last: &mut ProgramSize,
     outer: &mut Activations,
     top: Activation,
     v: Value,
@@ -134,10 +144,12 @@ fn give<S: Services>(
     svc: &mut S,
 ) -> Result<Mode, EvalStop>
     requires open { IsSome (S.stands svc.old).begun }
+    requires sized { IsProgramSize codes.old last.old }
     requires linked { AreLinked codes.old (outer.old ++ top ∷ []) }
     requires safe { IsSafe (stands_for codes.old (outer.old ++ top ∷ []) (mode.Give v) (joined state.old (S.stands svc.old))).asks }
     ensures turned { Turned (stands_for codes.old (outer.old ++ top ∷ []) (mode.Give v) (joined state.old (S.stands svc.old))) result codes.new outer.new (joined state.new (S.stands svc.new)) }
     ensures shrinks { IfOk result (λ how. load how outer.new state.new.work < load (mode.Give v) (outer.old ++ top ∷ []) state.old.work) }
+    ensures sized { IsProgramSize codes.new last.new }
     ensures offer { (S.stands svc.new).offer ≡ (S.stands svc.old).offer }
     ensures begun { (S.stands svc.new).begun ≡ (S.stands svc.old).begun }
 {
@@ -145,7 +157,8 @@ fn give<S: Services>(
     let Some(frame) = below.frames.pop() else {
         return Ok(Mode::Give(v));
     };
-    let flow = run_top(alloc, codes, &below, Task::Give(frame, v), state, svc);
+    let task = Task::Give(frame, v);
+    let flow = run_top(alloc, codes, last, &below, task, state, svc);
     landed(outer, below, flow)
 }
 
@@ -153,6 +166,7 @@ fn give<S: Services>(
 fn raise<S: Services>(
     alloc: Global,
     codes: &mut Codes,
+    last: &mut ProgramSize,
     outer: &mut Activations,
     top: Activation,
     x: Exn,
@@ -160,10 +174,12 @@ fn raise<S: Services>(
     svc: &mut S,
 ) -> Result<Mode, EvalStop>
     requires open { IsSome (S.stands svc.old).begun }
+    requires sized { IsProgramSize codes.old last.old }
     requires linked { AreLinked codes.old (outer.old ++ top ∷ []) }
     requires safe { IsSafe (stands_for codes.old (outer.old ++ top ∷ []) (mode.Raise x) (joined state.old (S.stands svc.old))).asks }
     ensures turned { Turned (stands_for codes.old (outer.old ++ top ∷ []) (mode.Raise x) (joined state.old (S.stands svc.old))) result codes.new outer.new (joined state.new (S.stands svc.new)) }
     ensures shrinks { IfOk result (λ how. load how outer.new state.new.work < load (mode.Raise x) (outer.old ++ top ∷ []) state.old.work) }
+    ensures sized { IsProgramSize codes.new last.new }
     ensures offer { (S.stands svc.new).offer ≡ (S.stands svc.old).offer }
     ensures begun { (S.stands svc.new).begun ≡ (S.stands svc.old).begun }
 {
@@ -171,7 +187,8 @@ fn raise<S: Services>(
     let Some(frame) = below.frames.pop() else {
         return Ok(Mode::Raise(x));
     };
-    let flow = run_top(alloc, codes, &below, Task::Raise(frame, x), state, svc);
+    let task = Task::Raise(frame, x);
+    let flow = run_top(alloc, codes, last, &below, task, state, svc);
     landed(outer, below, flow)
 }
 
@@ -179,6 +196,7 @@ fn raise<S: Services>(
 fn turn<S: Services>(
     alloc: Global,
     codes: &mut Codes,
+    last: &mut ProgramSize,
     outer: &mut Activations,
     top: Activation,
     how: Mode,
@@ -186,17 +204,19 @@ fn turn<S: Services>(
     svc: &mut S,
 ) -> Result<Mode, EvalStop>
     requires open { IsSome (S.stands svc.old).begun }
+    requires sized { IsProgramSize codes.old last.old }
     requires linked { AreLinked codes.old (outer.old ++ top ∷ []) }
     requires safe { IsSafe (stands_for codes.old (outer.old ++ top ∷ []) how (joined state.old (S.stands svc.old))).asks }
     ensures turned { Turned (stands_for codes.old (outer.old ++ top ∷ []) how (joined state.old (S.stands svc.old))) result codes.new outer.new (joined state.new (S.stands svc.new)) }
     ensures shrinks { IfOk result (λ next. load next outer.new state.new.work < load how (outer.old ++ top ∷ []) state.old.work) }
+    ensures sized { IsProgramSize codes.new last.new }
     ensures offer { (S.stands svc.new).offer ≡ (S.stands svc.old).offer }
     ensures begun { (S.stands svc.new).begun ≡ (S.stands svc.old).begun }
 {
     match how {
-        Mode::Run => begin(alloc, codes, outer, top, state, svc),
-        Mode::Give(v) => give(alloc, codes, outer, top, v, state, svc),
-        Mode::Raise(x) => raise(alloc, codes, outer, top, x, state, svc),
+        Mode::Run => begin(alloc, codes, last, outer, top, state, svc),
+        Mode::Give(v) => give(alloc, codes, last, outer, top, v, state, svc),
+        Mode::Raise(x) => raise(alloc, codes, last, outer, top, x, state, svc),
     }
 }
 
@@ -204,11 +224,13 @@ fn turn<S: Services>(
 pub fn run<S: Services>(
     alloc: Global,
     codes: Codes,
+    first: ProgramSize,
     activations: Activations,
     state: &mut State,
     svc: &mut S,
 ) -> Result<Value, EvalStop>
     requires open { IsSome (S.stands svc.old).begun }
+    requires sized { IsProgramSize codes first }
     requires linked { AreLinked codes activations }
     requires safe { IsSafe (stands_for codes activations mode.Run (joined state.old (S.stands svc.old))).asks }
     ensures meets { Meets (stands_for codes activations mode.Run (joined state.old (S.stands svc.old))) result (joined state.new (S.stands svc.new)) }
@@ -216,10 +238,20 @@ pub fn run<S: Services>(
     ensures begun { (S.stands svc.new).begun ≡ (S.stands svc.old).begun }
 {
     let mut programs = codes;
+    let mut last = first;
     let mut stack = activations;
     let mut how = Mode::Run;
     while let Some(top) = stack.pop() {
-        match turn(alloc, &mut programs, &mut stack, top, how, state, svc) {
+        match turn(
+            alloc,
+            &mut programs,
+            &mut last,
+            &mut stack,
+            top,
+            how,
+            state,
+            svc,
+        ) {
             Ok(next) => how = next,
             Err(stop) => return Err(stop),
         }

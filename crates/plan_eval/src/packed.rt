@@ -1,6 +1,6 @@
 //! Chunks of the program that evaluates them, which are not made.
 ghost use Rattle.std.specs.Prelude.{◌≡◌, ◌≤◌, ℕ, [], min};
-ghost use Rattle.plan_base.specs.Sizes.{weight, nesting};
+ghost use Rattle.plan_base.specs.Sizes.{code_size, weight, nesting};
 ghost use Rattle.plan_base.specs.declared.tree.Expr.{Expr, Expr-F, out-Expr};
 ghost use Rattle.plan_base.specs.declared.tree.Value as value;
 ghost use Rattle.service_api.specs.Services.{ServiceState};
@@ -13,20 +13,23 @@ ghost use Rattle.eval_steps.specs.Stack.{resume};
 ghost use Rattle.eval_steps.specs.Nexts.{next_step};
 ghost use Rattle.eval_steps.specs.Leads.{Carries};
 
-use plan_base::{Name, Program, Value};
-use plan_items::Shared;
+use crate::here::Here;
+use plan_base::{Name, Value};
 use plan_meaning::EvalStop;
-use plan_sizes::{code_size, values_nesting, values_weight};
+use plan_sizes::{values_nesting, values_weight};
 use std::alloc::Global;
 use visit_state::{State, Weighing, too_large};
 
 /// What a chunk weighs as a value.
 #[tactic(auto, using(plan_base::proofs::SizeLaws::weight_out, plan_base::proofs::SizeLaws::chunk_weight_is, plan_base::specs::Trees::trees))]
-fn packed_weight(code: &Program, entry: &Name, args: &[Value]) -> u64
-    ensures { result ≡ min (weight (value.Chunk (record { code = code.now; entry = entry.now; args = args.now }))) 18446744073709551615 }
+fn packed_weight(here: &Here<'_>, entry: &Name, args: &[Value]) -> u64
+    requires size { here.now.size ≡ min (code_size here.now.code.now) 18446744073709551615 }
+    ensures { result ≡ min (weight (value.Chunk
+        (record { code = here.now.code.now; entry = entry.now; args = args.now })))
+        18446744073709551615 }
 {
     let name = entry.as_slice().len() as u64;
-    code_size(code)
+    here.size
         .saturating_add(name)
         .saturating_add(values_weight(args))
         .saturating_add(3)
@@ -34,29 +37,37 @@ fn packed_weight(code: &Program, entry: &Name, args: &[Value]) -> u64
 
 /// How many chunks stand inside each other in a chunk, itself counted.
 #[tactic(auto, using(plan_base::proofs::SizeLaws::nesting_out, plan_base::proofs::SizeLaws::chunk_nesting_is, plan_base::specs::Trees::trees))]
-fn packed_nesting(code: &Program, entry: &Name, args: &[Value]) -> u32
-    ensures { result ≡ min (nesting (value.Chunk (record { code = code.now; entry = entry.now; args = args.now }))) 4294967295 }
+fn packed_nesting(here: &Here<'_>, entry: &Name, args: &[Value]) -> u32
+    ensures { result ≡ min (nesting (value.Chunk
+        (record { code = here.now.code.now; entry = entry.now; args = args.now })))
+        4294967295 }
 {
     values_nesting(args).saturating_add(1)
 }
 
-/// Weighs a chunk, and pays for its eval.
+/// Weighs a chunk of the program here, and pays for its eval.
 pub fn pay_packed(
     alloc: Global,
-    code: &Shared<Program>,
+    here: &Here<'_>,
     entry: &Name,
     args: &[Value],
     state: &mut State,
 ) -> Result<(), EvalStop>
-    ensures pays { (seen : ℕ) (e a : Expr) (env : Env) (n : ServiceState) → out-Expr e ≡ Expr-F.Eval a
-        → Carries (resume code.now seen (record { expr = e; env = env }) (frame.Part 0 [])
-        (weighed (value.Chunk (record { code = code.now; entry = entry.now; args = args.now })) (joined state.old n)))
-        (λ _. next_step code.now seen (record { expr = e; env = env }) (next.Visit (record { code = code.now; entry = entry.now; args = args.now })) (joined state.new n))
+    requires size { here.now.size ≡ min (code_size here.now.code.now) 18446744073709551615 }
+    ensures pays { (seen : ℕ) (e a : Expr) (env : Env) (n : ServiceState)
+        → out-Expr e ≡ Expr-F.Eval a
+        → Carries (resume here.now.code.now seen (record { expr = e; env = env }) (frame.Part 0 [])
+        (weighed (value.Chunk
+        (record { code = here.now.code.now; entry = entry.now; args = args.now }))
+        (joined state.old n)))
+        (λ _. next_step here.now.code.now seen (record { expr = e; env = env }) (next.Visit
+        (record { code = here.now.code.now; entry = entry.now; args = args.now }))
+        (joined state.new n))
         result (joined state.new n) }
     ensures falls { state.new.work ≤ state.old.work }
 {
-    let size = packed_weight(code.get(), entry, args);
-    let deep = packed_nesting(code.get(), entry, args);
+    let size = packed_weight(here, entry, args);
+    let deep = packed_nesting(here, entry, args);
     match state.weighs_as(size, deep) {
         Weighing::Paid => state.pay_eval(alloc),
         Weighing::Spent => Err(EvalStop::WorkSpent),

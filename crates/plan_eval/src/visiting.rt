@@ -13,6 +13,7 @@ ghost use Rattle.visit_state.specs.Meets.{Meets};
 ghost use Rattle.plan_eval.specs.Turns.{entry};
 
 use crate::machine::run;
+use crate::measure::measure;
 use crate::place::enters;
 use chunk_types::CheckedPacket;
 use eval_steps::{Activation, Activations, Codes};
@@ -83,7 +84,8 @@ fn visited<S: Services>(
     }
     let codes = first_codes(alloc, chunk)?;
     let activations = first_activation(alloc, chunk, fun)?;
-    run(alloc, codes, activations, state, svc)
+    let first = measure(&chunk.code, 0);
+    run(alloc, codes, first, activations, state, svc)
 }
 
 /// What the visit of a chunk ends with.

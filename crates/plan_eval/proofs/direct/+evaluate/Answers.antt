@@ -1,7 +1,8 @@
-use Rattle.std.proofs.Common.{◌≡◌, ◌++◌, rules, Ok, Err, true, false, ◌∷◌, [], length, slice_get, Some, None, IsSome, refl, sym, ◌∙◌, arith, ◌<◌}
+use Rattle.std.proofs.Common.{◌≡◌, ◌++◌, rules, Ok, Err, true, false, ◌∷◌, [], length, slice_get, Some, None, IsSome, min, refl, sym, ◌∙◌, arith, ◌<◌}
 use Rattle.plan_base.specs.declared.tree.Expr.{Expr-F, out-Expr}
 use Rattle.plan_base.specs.declared.tree.Expr as expr
 use Rattle.plan_base.specs.declared.tree.Value as value
+use Rattle.plan_base.specs.Sizes.{code_size}
 use Rattle.plan_eval.specs.declared.row.Row.TheVariants as row
 use Rattle.typing_rules.specs.TypingNames.{place_of}
 use Rattle.plan_meaning.specs.declared.stop.EvalStop.TheVariants.{WorkSpent, Wrong}
@@ -302,6 +303,7 @@ visit-enter-requires g t c =
     let safe : IsSafe (entered meaning c.args.chunk.code c.in-Some.fun c.args.chunk.args (joined c.args.state.now (g.S.Services.stands c.args.svc.now))).asks =
     (visited_on c.args.chunk c.in-Some.fun (joined c.args.state.now (g.S.Services.stands c.args.svc.now)) place).safe c.requires.safe in
     let program : slice_get c.open_code.new.codes c.in_ok-number.number ≡ Some c.args.chunk.code = c.in_ok-number.ensures.placed.there in
+    let size : c.code_size-size.result ≡ min (code_size c.args.chunk.code) 18446744073709551615 = rw c.get-2.ensures at c.code_size-size.ensures in
     search rules
 
 pub visit-returns-clause-enters : goal.visit-returns-clause-enters
@@ -548,6 +550,7 @@ invoke-enter-flow-requires g t c =
     let is : c.called.result ≡ Ok (next.Call c.in-Ok-Call.fun c.in-Ok-Call.passed) = cc in
     let leads = rw is at (c.called.ensures.decides (spot c.args.here.now c.args.e.now)) in
     let program = c.requires.here.program in
+    let size = c.requires.here.size in
     let safe : IsSafe (entered meaning c.args.here.now.code.now c.in-Ok-Call.fun c.in-Ok-Call.passed (joined c.called.new.state (g.S.Services.stands c.called.new.svc))).asks =
     resume_asks c.args.here.now.code.now c.args.here.now.fun (spot c.args.here.now c.args.e.now) frame.Body _ (leads.safe c.requires.safe) in
     search rules
@@ -653,6 +656,7 @@ visit_here-enter-flow-requires g t c =
     let inside = resume_asks c.args.here.now.code.now c.args.here.now.fun (spot c.args.here.now c.args.e.now) frame.Chunk _ c.requires.safe in
     let safe : IsSafe (entered meaning c.args.here.now.code.now c.in-Some.fun c.args.args (joined c.args.state.now (g.S.Services.stands c.args.svc.now))).asks = (visited_on (record { code = c.args.here.now.code.now; entry = c.args.f.now; args = c.args.args }) c.in-Some.fun (joined c.args.state.now (g.S.Services.stands c.args.svc.now)) place).safe inside in
     let program = c.requires.here.program in
+    let size = c.requires.here.size in
     search rules
 
 pub visit_here-returns-clause-flows : goal.visit_here-returns-clause-flows

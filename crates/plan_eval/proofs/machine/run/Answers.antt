@@ -4,7 +4,7 @@ use Rattle.plan_eval.proofs.Starting.{ended_give, ended_raise, ended_run}
 use Rattle.plan_eval.proofs.machine.run.Goals as goal
 
 pub loop-top-init : goal.loop-top-init
-loop-top-init g c = record { linked = c.requires.linked; leads = itself _; offer = refl; begun = refl }
+loop-top-init g c = record { sized = c.requires.sized; linked = c.requires.linked; leads = itself _; offer = refl; begun = refl }
 
 pub turn-requires-clause-open : goal.turn-requires-clause-open
 turn-requires-clause-open g c = rw c.loop-top.invariant.begun c.requires.open
@@ -17,6 +17,7 @@ turn-requires-clause-safe g c = (rw c.in-Some.ensures at c.loop-top.invariant.le
 
 pub loop-top-preserved : goal.loop-top-preserved
 loop-top-preserved g c = record {
+  sized = c.turn.ensures.sized;
   linked = c.in-Ok.ensures.turned.1;
   leads = onward _ _ _ (rw c.in-Some.ensures at c.loop-top.invariant.leads) c.in-Ok.ensures.turned.0;
   offer = c.turn.ensures.offer ∙ c.loop-top.invariant.offer;

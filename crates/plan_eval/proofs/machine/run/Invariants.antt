@@ -4,10 +4,12 @@ use Rattle.eval_steps.specs.declared.stack_frame.Mode.TheVariants as mode
 use Rattle.eval_steps.specs.Leads.{Leads}
 use Rattle.eval_steps.specs.Stack.{AreLinked, stands_for}
 use Rattle.plan_eval.specs.Turns.{load}
+use Rattle.plan_eval.specs.Direct.{IsProgramSize}
 use Rattle.plan_eval.proofs.machine.run.Given as goal
 
 abbrev pub invariant-loop-top : goal.invariant-loop-top
 invariant-loop-top g l = record {
+  sized : IsProgramSize l.programs l.last;
   linked : AreLinked l.programs l.stack;
   leads : Leads (stands_for l.fn.codes l.fn.activations mode.Run (joined l.fn.state (g.S.Services.stands l.fn.svc))) (stands_for l.programs l.stack l.how (joined l.state (g.S.Services.stands l.svc)));
   offer : (g.S.Services.stands l.svc).offer ≡ (g.S.Services.stands l.fn.svc).offer;

@@ -4,8 +4,20 @@ use Rattle.plan_meaning.specs.State.{joined}
 use Rattle.eval_steps.specs.Stack.{Spot, expr_from}
 use Rattle.plan_eval.specs.Direct.{Flows, task_step}
 use Rattle.plan_eval.specs.Turns.{IsAt}
-use Rattle.plan_eval.proofs.Diving.{here_binds, here_spot, here_only}
+use Rattle.plan_eval.proofs.Diving.{here_binds, here_spot, here_only, size_same, size_grown}
 use Rattle.plan_eval.proofs.machine.run_top.Goals as goal
+
+pub size_of-requires : goal.size_of-requires
+size_of-requires g c = λ (same : c.args.last.now.number ≡ c.args.top.now.code).
+    let found : Some c.in-Some.shared.now ≡ slice_get c.args.codes.now c.args.top.now.code = c.in-Some.ensures.value in
+    let program : slice_get c.args.codes.now c.args.top.now.code ≡ Some c.in_ok-code.code = sym found ∙ ap (λ (x : Program). Some x) (sym c.in_ok-code.ensures) in
+    size_same c.args.codes.now c.in_ok-code.code c.args.last.now c.args.top.now.code c.requires.sized program same
+
+pub returns-clause-sized : goal.returns-clause-sized
+returns-clause-sized g c =
+    let found : Some c.in-Some.shared.now ≡ slice_get c.args.codes.now c.args.top.now.code = c.in-Some.ensures.value in
+    let program : slice_get c.args.codes.now c.args.top.now.code ≡ Some c.in_ok-code.code = sym found ∙ ap (λ (x : Program). Some x) (sym c.in_ok-code.ensures) in
+    size_grown c.args.codes.now c.perform.new.codes c.in_ok-code.code c.size_of.result c.args.top.now.code c.perform.ensures.grown program c.size_of.ensures.number c.size_of.ensures.size
 
 pub perform-requires-clause-here : goal.perform-requires-clause-here
 perform-requires-clause-here g c =
@@ -16,7 +28,7 @@ perform-requires-clause-here g c =
     let reached : Some c.in-Some-expr_from.expr.now ≡ expr_from (Some c.in-Some-get.function.now.body) c.as_slice.result.now = c.in-Some-expr_from.ensures in
     let expression : expr_from (Some c.in-Some-get.function.now.body) c.args.top.now.frames ≡ Some c.in-Some-expr_from.expr.now = rw c.as_slice.ensures at (sym reached) in
     let here : IsAt c.args.codes.now c.args.top.now c.in_ok-code.code c.in-Some-get.function.now c.in-Some-expr_from.expr.now = record { program = program; function = function; expression = expression } in
-    record { program = program; function = function; binds = here_binds c.args.codes.now c.args.top.now c.in_ok-code.code c.in-Some-get.function.now c.in-Some-expr_from.expr.now here c.requires.linked c.as_slice-2.result.now c.as_slice-3.result.now c.as_slice-4.result.now c.as_slice-2.ensures c.as_slice-3.ensures (c.as_slice-4.ensures ∙ c.new-none.ensures) }
+    record { program = program; size = c.size_of.ensures.size; function = function; binds = here_binds c.args.codes.now c.args.top.now c.in_ok-code.code c.in-Some-get.function.now c.in-Some-expr_from.expr.now here c.requires.linked c.as_slice-2.result.now c.as_slice-3.result.now c.as_slice-4.result.now c.as_slice-2.ensures c.as_slice-3.ensures (c.as_slice-4.ensures ∙ c.new-none.ensures) }
 
 pub perform-requires-clause-safe : goal.perform-requires-clause-safe
 perform-requires-clause-safe g c =

@@ -16,6 +16,10 @@ returns-then-not-enters-clause-meets g c = λ other.
     let place : place_of c.args.chunk.now.entry c.args.chunk.now.code.funs ≡ Some c.in-Some.fun = cc in
     (visited_on c.args.chunk.now c.in-Some.fun _ place).same ∙ c.if-not-enters.ensures.no refl _
 
+pub run-requires-clause-sized : goal.run-requires-clause-sized
+run-requires-clause-sized g c =
+    record { program = c.args.chunk.now.code; there = rw (c.in_ok-codes.ensures, c.measure-first.ensures.number) refl; is = c.measure-first.ensures.size }
+
 pub run-requires-clause-linked : goal.run-requires-clause-linked
 run-requires-clause-linked g c =
     rw (c.in_ok-codes.ensures, c.in_ok-activations.ensures) (starts_linked c.args.chunk.now c.in-Some.fun (c.if-not-enters.ensures.yes refl))
