@@ -9,9 +9,12 @@ use Rattle.plan_eval.proofs.machine.run_top.Goals as goal
 
 pub size_of-requires : goal.size_of-requires
 size_of-requires g c =
-    let found : Some c.in-Some.shared.now ≡ slice_get c.args.codes.now c.args.top.now.code = c.in-Some.ensures.value in
-    let program : slice_get c.args.codes.now c.args.top.now.code ≡ Some c.in_ok-code.code = sym found ∙ ap (λ (x : Program). Some x) (sym c.in_ok-code.ensures) in
-    record { last = λ (same : c.args.last.now.number ≡ c.args.top.now.code). size_same c.args.codes.now c.in_ok-code.code c.args.last.now c.args.top.now.code c.requires.sized program same }
+    record {
+      last = λ (same : c.args.last.now.number ≡ c.args.top.now.code).
+          let found : Some c.in-Some.shared.now ≡ slice_get c.args.codes.now c.args.top.now.code = c.in-Some.ensures.value in
+          let program : slice_get c.args.codes.now c.args.top.now.code ≡ Some c.in_ok-code.code = sym found ∙ ap (λ (x : Program). Some x) (sym c.in_ok-code.ensures) in
+          size_same c.args.codes.now c.in_ok-code.code c.args.last.now c.args.top.now.code c.requires.sized program same;
+    }
 
 pub returns-clause-sized : goal.returns-clause-sized
 returns-clause-sized g c =
