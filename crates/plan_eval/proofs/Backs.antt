@@ -19,6 +19,8 @@ use Rattle.eval_steps.specs.declared.stack_frame.Mode.TheVariants as mode
 use Rattle.plan_eval.specs.declared.rest.Rest.{Rest}
 use Rattle.plan_eval.specs.declared.rest.Flow.{Flow}
 use Rattle.plan_eval.specs.declared.rest.Flow.TheVariants as flow
+use Rattle.plan_eval.specs.declared.row.Row.{Row}
+use Rattle.plan_eval.specs.declared.row.Row.TheVariants as row
 use Rattle.plan_eval.specs.declared.turn.Turn.{Turn}
 use Rattle.plan_eval.specs.declared.turn.Turn.TheVariants as turn
 use Rattle.plan_eval.specs.declared.here.Binding.{Binding}
@@ -26,13 +28,13 @@ use Rattle.eval_steps.specs.Stack.{Spot, deeper, resume, env_from, value_from}
 use Rattle.eval_steps.specs.Nexts.{fold_on}
 use Rattle.eval_steps.specs.Leads.{Leads}
 use Rattle.plan_eval.specs.Turns.{argument_of, frames_in, load}
-use Rattle.plan_eval.specs.Direct.{base_of, bound_here, bound_value, env_of, Above, Flows, Enters, Advances, Lasts, Spends, burden}
+use Rattle.plan_eval.specs.Direct.{base_of, bound_here, bound_value, env_of, Flows, Enters, Advances, Goes, Lasts, Rows, Spends, burden}
 use Rattle.eval_steps.proofs.Leading.{onward}
 use Rattle.eval_steps.proofs.Stacks.{resume_leads}
 use Rattle.eval_steps.proofs.Delivering.{item_given}
 use Rattle.plan_eval.proofs.Naming.{name_at, value_snoc}
 use Rattle.plan_eval.proofs.Turning.{at_once, at_once_raised}
-use Rattle.plan_eval.proofs.Waiting.{some_base, waits_below}
+use Rattle.plan_eval.proofs.Waiting.{some_base}
 
 -- ---- an evaluation that leads to another came as far
 
@@ -45,6 +47,11 @@ pub enters_from : (codes : List Program) (p q : RunStep Value) (r : Result Flow 
 enters_from codes p q (Ok (flow.Done v)) s h f = h.same ∙ f
 enters_from codes p q (Ok (flow.Wait r)) s h f = record { bare = f.bare; first = f.first; more = f.more; are = f.are; leads = onward _ _ _ h f.leads; linked = f.linked }
 enters_from codes p q (Err e) s h f = λ other. h.same ∙ f other
+
+pub rows_from : (codes : List Program) (code : Program) (seen : ℕ) (at : Spot) (p q : RunStep Value) (r : Result Row EvalStop) (s : VisitState) → Leads p q → Rows codes code seen at q r s → Rows codes code seen at p r s
+rows_from codes code seen at p q (Ok (row.All vs)) s h f = onward _ _ _ h f
+rows_from codes code seen at p q (Ok (row.Wait r)) s h f = record { leads = onward _ _ _ h f.leads; stands = f.stands; linked = f.linked }
+rows_from codes code seen at p q (Err e) s h f = λ other. h.same ∙ f other
 
 pub advances_from : (codes : List Program) (code : Program) (seen : ℕ) (at : Spot) (p q : RunStep Value) (r : Result Turn EvalStop) (s : VisitState) → Leads p q → Advances codes code seen at q r s → Advances codes code seen at p r s
 advances_from codes code seen at p q (Ok (turn.More n)) s h f = onward _ _ _ h f
@@ -63,18 +70,18 @@ module _ (code : Program) (seen : ℕ) (at : Spot) (c : RunStep Value) (s : Visi
   pub item_came : (left : List Value) (v : Value) → c.after ≡ gave v s → Leads (resume code seen at (frame.Items left) c) (fold_on code seen at v left s)
   item_came left v h = onward _ _ _ (resume_gave (frame.Items left) v h) (item_given code seen at s left v)
 
-  module _ (codes : List Program) (r : Rest) (a : Above codes c r s) where
-    pub waits_body : Flows codes code seen at (resume code seen at frame.Body c) (Ok (flow.Wait (record { frames = r.frames ++ frame.Body ∷ []; activations = r.activations }))) s
-    unfolding deeper
-    waits_body = waits_below codes code seen at frame.Body r c s refl a
+-- a function or a chunk that is entered sees nothing of the place
+pub deep_body : (at : Spot) → IsSome (deeper at frame.Body)
+unfolding deeper
+deep_body at = refl
 
-    pub waits_chunk : Flows codes code seen at (resume code seen at frame.Chunk c) (Ok (flow.Wait (record { frames = r.frames ++ frame.Chunk ∷ []; activations = r.activations }))) s
-    unfolding deeper
-    waits_chunk = waits_below codes code seen at frame.Chunk r c s refl a
+pub deep_chunk : (at : Spot) → IsSome (deeper at frame.Chunk)
+unfolding deeper
+deep_chunk at = refl
 
-    pub waits_items : (left : List Value) → Flows codes code seen at (resume code seen at (frame.Items left) c) (Ok (flow.Wait (record { frames = r.frames ++ frame.Items left ∷ []; activations = r.activations }))) s
-    unfolding deeper
-    waits_items left = waits_below codes code seen at (frame.Items left) r c s refl a
+pub deep_items : (at : Spot) (left : List Value) → IsSome (deeper at (frame.Items left))
+unfolding deeper
+deep_items at left = refl
 
 -- ---- names
 
@@ -130,6 +137,10 @@ module _ (outer : List Activation) (a : Activation) (r : Rest) where
   pub load_rests : (old new : ℕ) → Lasts 3 old (Ok (flow.Wait r)) new
       → load mode.Run ((outer ++ whole ∷ []) ++ reverse r.activations) new ≤ load mode.Run (outer ++ a ∷ []) old + 3
   load_rests old new h = omega (arith, h, frames_of, length_of, frames_before, length-append outer (a ∷ []))
+
+-- what waits where an expression was to begin
+pub goes_on : (depth old new : ℕ) (r : Rest) → Spends depth old (Ok (flow.Wait r)) new → Goes old (Ok (flow.Wait r)) new
+goes_on depth old new r h = omega (arith, h.0)
 
 -- an expression that went on spent 1 before
 pub spends_one : (depth old mid new : ℕ) (r : Result Flow EvalStop) → mid + 1 ≡ old → Lasts 3 mid r new → Spends depth old r new

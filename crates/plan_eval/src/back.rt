@@ -6,7 +6,7 @@ ghost use Rattle.plan_base.specs.declared.tree.Value.{Value as AValue};
 ghost use Rattle.service_api.specs.Services.{ServiceState};
 ghost use Rattle.plan_meaning.specs.State.{VisitState, joined};
 ghost use Rattle.plan_meaning.specs.Run.{RunStep, gave, stopped, quiet, weighed};
-ghost use Rattle.plan_meaning.specs.Meaning.{Env};
+ghost use Rattle.plan_meaning.specs.Meaning.{Env, as_bool};
 ghost use Rattle.plan_meaning.specs.Safe.{IsSafe};
 ghost use Rattle.eval_steps.specs.Stack.{Spot, deeper, resume};
 ghost use Rattle.eval_steps.specs.declared.stack_frame.StackFrame.TheVariants as frame;
@@ -23,7 +23,7 @@ use plan_base::{Exn, Expr, Value, Values};
 use plan_meaning::EvalStop;
 use service_api::Services;
 use std::alloc::Global;
-use visit_state::{State, Weighing, too_large};
+use visit_state::{State, Weighing, as_bool, too_large};
 
 /// Whether a frame binds a name.
 pub fn is_bound(frame: &StackFrame) -> bool
@@ -35,14 +35,22 @@ pub fn is_bound(frame: &StackFrame) -> bool
     }
 }
 
-/// Ends with a value, which is weighed first.
-pub fn give(alloc: Global, v: Value, state: &mut State) -> Result<Turn, EvalStop>
-    ensures advances { (codes : List Code) (code : Code) (seen : ℕ) (at : Spot) (n : ServiceState)
-        → Advances codes code seen at (weighed v (joined state.old n)) result (joined state.new n) }
-    ensures turns { Turns state.old.work result state.new.work }
+/// The truth value that a value is, which is let go.
+pub fn truth_of(v: Value) -> Option<bool>
+    ensures { result ≡ as_bool v }
 {
-    match state.weighed(alloc, v) {
-        Ok(value) => Ok(Turn::End(Flow::Done(value))),
+    as_bool(&v)
+}
+
+/// Ends so.
+pub fn at_end(flow: Result<Flow, EvalStop>) -> Result<Turn, EvalStop>
+    ensures advances { (codes : List Code) (code : Code) (seen : ℕ) (at : Spot)
+        (c : RunStep AValue) (s : VisitState)
+        → Flows codes code seen at c flow s → Advances codes code seen at c result s }
+    ensures turns { (old new : ℕ) → Lasts 3 old flow new → Turns old result new }
+{
+    match flow {
+        Ok(end) => Ok(Turn::End(end)),
         Err(stop) => Err(stop),
     }
 }
@@ -74,7 +82,7 @@ pub fn last_back(
 {
     match flow {
         Ok(Flow::Done(v)) => ended(alloc, v, state),
-        Ok(Flow::Wait(rest)) => Ok(inside(alloc, rest, StackFrame::Last(n))?),
+        Ok(Flow::Wait(rest)) => inside(alloc, rest, StackFrame::Last(n)),
         Err(stop) => Err(stop),
     }
 }
@@ -93,20 +101,7 @@ pub fn bound_back(
 {
     match flow {
         Ok(Flow::Done(value)) => ended(alloc, value, state),
-        Ok(Flow::Wait(rest)) => Ok(inside(alloc, rest, StackFrame::Bound(v))?),
-        Err(stop) => Err(stop),
-    }
-}
-
-/// A function that was called came so far.
-pub fn called_back(alloc: Global, flow: Result<Flow, EvalStop>) -> Result<Turn, EvalStop>
-    ensures advances { (codes : List Code) (code : Code) (seen : ℕ) (at : Spot) (c : RunStep AValue) (s : VisitState) → Enters codes c flow s
-        → Advances codes code seen at (resume code seen at frame.Body c) result s }
-    ensures turns { (old new : ℕ) → Goes old flow new → Turns old result new }
-{
-    match flow {
-        Ok(Flow::Done(v)) => Ok(Turn::More(Next::Give(v))),
-        Ok(Flow::Wait(rest)) => Ok(Turn::End(inside(alloc, rest, StackFrame::Body)?)),
+        Ok(Flow::Wait(rest)) => inside(alloc, rest, StackFrame::Bound(v)),
         Err(stop) => Err(stop),
     }
 }
@@ -123,12 +118,12 @@ pub fn body_back(
 {
     match flow {
         Ok(Flow::Done(v)) => ended(alloc, v, state),
-        Ok(Flow::Wait(rest)) => Ok(inside(alloc, rest, StackFrame::Body)?),
+        Ok(Flow::Wait(rest)) => inside(alloc, rest, StackFrame::Body),
         Err(stop) => Err(stop),
     }
 }
 
-/// The chunk of an `eval` of this program came so far.
+/// The chunk of an `eval` came so far.
 pub fn chunk_back(
     alloc: Global,
     flow: Result<Flow, EvalStop>,
@@ -140,20 +135,7 @@ pub fn chunk_back(
 {
     match flow {
         Ok(Flow::Done(_given)) => ended(alloc, Value::Unit, state),
-        Ok(Flow::Wait(rest)) => Ok(inside(alloc, rest, StackFrame::Chunk)?),
-        Err(stop) => Err(stop),
-    }
-}
-
-/// The chunk of an `eval` came so far.
-pub fn visited_back(alloc: Global, flow: Result<Flow, EvalStop>) -> Result<Turn, EvalStop>
-    ensures advances { (codes : List Code) (code : Code) (seen : ℕ) (at : Spot) (c : RunStep AValue) (s : VisitState) → Enters codes c flow s
-        → Advances codes code seen at (resume code seen at frame.Chunk c) result s }
-    ensures turns { (old new : ℕ) → Goes old flow new → Turns old result new }
-{
-    match flow {
-        Ok(Flow::Done(_)) => Ok(Turn::More(Next::Give(Value::Unit))),
-        Ok(Flow::Wait(rest)) => Ok(Turn::End(inside(alloc, rest, StackFrame::Chunk)?)),
+        Ok(Flow::Wait(rest)) => inside(alloc, rest, StackFrame::Chunk),
         Err(stop) => Err(stop),
     }
 }
@@ -192,7 +174,7 @@ pub fn stepped_back(
 {
     match flow {
         Ok(Flow::Done(v)) => item_back(alloc, here, e, left, v),
-        Ok(Flow::Wait(rest)) => Ok(Turn::End(inside(alloc, rest, StackFrame::Items(left))?)),
+        Ok(Flow::Wait(rest)) => at_end(inside(alloc, rest, StackFrame::Items(left))),
         Err(stop) => Err(stop),
     }
 }
@@ -278,7 +260,7 @@ pub fn part_back<S: Services>(
 {
     match flow {
         Ok(Flow::Done(v)) => value_back(alloc, here, e, frame, v, state, svc),
-        Ok(Flow::Wait(rest)) => Ok(Turn::End(inside(alloc, rest, frame)?)),
+        Ok(Flow::Wait(rest)) => at_end(inside(alloc, rest, frame)),
         Err(stop) => stop_back(e, &frame, stop),
     }
 }

@@ -16,15 +16,15 @@ ghost use Rattle.eval_steps.specs.Nexts.{begins, call_of, next_step};
 ghost use Rattle.plan_eval.specs.Direct.{spot, IsHere, Flows, Bodies, Enters, Advances, Grows, Goes, Lasts, RowLasts, Rows, Spends, Turns, named_spot, row_gave};
 
 use crate::back::{
-    args_back, body_back, bound_back, called_back, chunk_back, ended, give, is_bound, last_back,
-    part_back, stepped_back, visited_back,
+    args_back, at_end, body_back, bound_back, chunk_back, ended, is_bound, last_back, part_back,
+    stepped_back, truth_of,
 };
 use crate::begin::{begin, leaf_number, number, packed, variable};
 use crate::here::{Binding, Here};
 use crate::operators::{numbers, operands_back};
 use crate::packed::pay_packed;
 use crate::place::open_code;
-use crate::rest::{Flow, inside, pause, pause_in, stopped_in};
+use crate::rest::{Flow, in_first, in_row, pause, pause_in};
 use crate::row::Row;
 use crate::turn::Turn;
 use eval_steps::{Codes, Next, StackFrame, called, part_at, part_or_self};
@@ -35,7 +35,7 @@ use plan_sizes::code_size;
 use service_api::Services;
 use std::alloc::Global;
 use typing_rules::place_of;
-use visit_state::{State, as_bool};
+use visit_state::State;
 
 /// Evaluates an expression, down to a depth.
 #[cycle(evaluate)]
@@ -146,12 +146,12 @@ fn choice<S: Services>(
     ensures begun { (S.stands svc.new).begun ≡ (S.stands svc.old).begun }
 {
     match evaluate(alloc, codes, here, t, depth, state, svc) {
-        Ok(Flow::Done(v)) => match as_bool(&v) {
+        Ok(Flow::Done(v)) => match truth_of(v) {
             Some(true) => last_part(alloc, codes, here, e, 1, a, depth, state, svc),
             Some(false) => last_part(alloc, codes, here, e, 2, b, depth, state, svc),
             None => Err(EvalStop::Wrong),
         },
-        Ok(Flow::Wait(rest)) => Ok(inside(alloc, rest, StackFrame::Part(0, Items::new(alloc)))?),
+        Ok(Flow::Wait(rest)) => in_first(alloc, rest),
         Err(stop) => Err(stop),
     }
 }
@@ -221,7 +221,7 @@ fn operation<S: Services>(
             let flow = evaluate(alloc, codes, here, b, depth, state, svc);
             operands_back(alloc, op, x, flow, state)
         }
-        Ok(Flow::Wait(rest)) => Ok(inside(alloc, rest, StackFrame::Part(0, Items::new(alloc)))?),
+        Ok(Flow::Wait(rest)) => in_first(alloc, rest),
         Err(stop) => Err(stop),
     }
 }
@@ -256,11 +256,7 @@ fn all_parts<S: Services>(
     while let Some(x) = part_at(es, held.len()) {
         match evaluate(alloc, codes, here, x, depth, state, svc) {
             Ok(Flow::Done(v)) => held.add(v)?,
-            Ok(Flow::Wait(rest)) => return Ok(stopped_in(
-                alloc,
-                rest,
-                StackFrame::Part(held.len(), held),
-            )?),
+            Ok(Flow::Wait(rest)) => return in_row(alloc, rest, held),
             Err(stop) => return Err(stop),
         }
     }
@@ -433,7 +429,7 @@ fn eval_packing<S: Services>(
     }
     match all_parts(alloc, codes, here, a, es.as_slice(), depth, state, svc) {
         Ok(Row::All(args)) => eval_packed(alloc, codes, here, e, f, args, depth, state, svc),
-        Ok(Row::Wait(rest)) => Ok(inside(alloc, rest, StackFrame::Part(0, Items::new(alloc)))?),
+        Ok(Row::Wait(rest)) => in_first(alloc, rest),
         Err(stop) => Err(stop),
     }
 }
@@ -534,7 +530,7 @@ fn binding<S: Services>(
             let flow = under_name(alloc, codes, here, x, &v, b, depth, state, svc);
             bound_back(alloc, v, flow, state)
         }
-        Ok(Flow::Wait(rest)) => Ok(inside(alloc, rest, StackFrame::Part(0, Items::new(alloc)))?),
+        Ok(Flow::Wait(rest)) => in_first(alloc, rest),
         Err(stop) => Err(stop),
     }
 }
@@ -631,13 +627,13 @@ fn advance<S: Services>(
 {
     let (code, number, size) = (here.code, here.number, here.size);
     match now {
-        Next::Give(v) => give(alloc, v, state),
+        Next::Give(v) => at_end(ended(alloc, v, state)),
         Next::Open(frame) => opened(alloc, codes, here, e, frame, depth, state, svc),
         Next::Call(fun, args) => {
             let flow = enter(
                 alloc, codes, code, number, size, fun, args, depth, state, svc,
             );
-            called_back(alloc, flow)
+            at_end(body_back(alloc, flow, state))
         }
         Next::Step(fun, args, left) => {
             let flow = enter(
@@ -647,7 +643,7 @@ fn advance<S: Services>(
         }
         Next::Visit(chunk) => {
             let flow = visit(alloc, codes, chunk, depth, state, svc);
-            visited_back(alloc, flow)
+            at_end(chunk_back(alloc, flow, state))
         }
     }
 }

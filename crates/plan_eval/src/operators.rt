@@ -1,5 +1,5 @@
 //! Operators, once their operands gave values.
-ghost use Rattle.std.specs.Prelude.{◌≡◌, ◌≤◌, ◌∷◌, [], ℕ, ℤ, List, Some, IsTrue, IsFalse};
+ghost use Rattle.std.specs.Prelude.{◌≡◌, ◌≤◌, ◌∷◌, [], ℕ, ℤ, List, Ok, Some, IsTrue, IsFalse};
 ghost use Rattle.plan_base.specs.declared.tree.Expr.{Expr, Expr-F, out-Expr};
 ghost use Rattle.plan_base.specs.declared.tree.Program.{Program};
 ghost use Rattle.plan_base.specs.declared.tree.Value.{Value};
@@ -13,11 +13,12 @@ ghost use Rattle.eval_steps.specs.declared.stack_frame.StackFrame.TheVariants as
 ghost use Rattle.eval_steps.specs.Stack.{Spot, deeper, resume};
 ghost use Rattle.eval_steps.specs.Leads.{Carries};
 ghost use Rattle.eval_steps.specs.Nexts.{begins, part_gave};
-ghost use Rattle.plan_eval.specs.Direct.{Flows, IsNumber, Lasts, Spends};
+ghost use Rattle.plan_eval.specs.declared.rest.Flow.TheVariants as flow;
+ghost use Rattle.plan_eval.specs.Direct.{Flows, Goes, IsNumber, Lasts, Spends, Waits};
 
 use crate::back::ended;
 use crate::numbers::{ended_by_number, ended_by_test, number_given, order_given};
-use crate::rest::{Flow, inside};
+use crate::rest::{Flow, Rest, inside};
 use eval_steps::behind_one;
 use plan_base::{Op, Value};
 use plan_meaning::EvalStop;
@@ -106,6 +107,20 @@ pub fn numbers(alloc: Global, op: Op, x: i64, y: i64, state: &mut State) -> Resu
     operate(alloc, op, Value::Int(x), Value::Int(y), state)
 }
 
+/// What is left where the second operand stopped, behind the first.
+#[cold]
+#[inline(never)]
+fn in_second(alloc: Global, rest: Rest, x: Value) -> Result<Flow, EvalStop>
+    ensures flows { (codes : List Program) (code : Program) (seen : ℕ) (at inner : Spot)
+        (c : RunStep Value) (s : VisitState) → deeper at (frame.Part 1 (x ∷ [])) ≡ Some inner
+        → Waits codes code seen inner c rest s
+        → Flows codes code seen at (resume code seen at (frame.Part 1 (x ∷ [])) c) result s }
+    ensures lasts { (old new : ℕ) → Goes old (Ok (flow.Wait rest)) new → Lasts 3 old result new }
+{
+    let frame = behind_one(alloc, 1, x)?;
+    inside(alloc, rest, frame)
+}
+
 /// The second operand came so far.
 pub fn operands_back(
     alloc: Global,
@@ -122,7 +137,7 @@ pub fn operands_back(
 {
     match flow {
         Ok(Flow::Done(y)) => operate(alloc, op, x, y, state),
-        Ok(Flow::Wait(rest)) => Ok(inside(alloc, rest, behind_one(alloc, 1, x)?)?),
+        Ok(Flow::Wait(rest)) => in_second(alloc, rest, x),
         Err(stop) => Err(stop),
     }
 }

@@ -1,12 +1,19 @@
 //! What is left of an evaluation that stopped where the native stack ends.
-ghost use Rattle.std.specs.Prelude.{◌≡◌, ◌∷◌, ◌++◌, [], IfOk, reverse};
+ghost use Rattle.std.specs.Prelude.{◌≡◌, ◌≤◌, ◌∷◌, ◌++◌, [], ℕ, List, IfOk, IsSome, Ok, Some, length, reverse};
+ghost use Rattle.plan_base.specs.declared.tree.Program.{Program as Code};
+ghost use Rattle.plan_base.specs.declared.tree.Value.{Value as AValue};
+ghost use Rattle.plan_meaning.specs.State.{VisitState};
+ghost use Rattle.plan_meaning.specs.Run.{RunStep};
+ghost use Rattle.eval_steps.specs.declared.stack_frame.StackFrame.TheVariants as frame;
+ghost use Rattle.eval_steps.specs.Stack.{Spot, deeper, resume};
 ghost use Rattle.plan_eval.specs.declared.rest.Flow.TheVariants as flow;
-ghost use Rattle.plan_eval.specs.declared.row.Row.TheVariants as row;
+ghost use Rattle.plan_eval.specs.Direct.{Above, Flows, Goes, Lasts, RowLasts, Rows, Spends, Waits};
 
 use crate::row::Row;
 use eval_steps::{Activation, Activations, StackFrame, StackFrames};
 use plan_base::{NoMemory, Value, Values};
 use plan_items::Items;
+use plan_meaning::EvalStop;
 use std::alloc::Global;
 
 /// What waits: the open expressions inside one that stopped, and the activations on top of it, each the innermost first.
@@ -75,31 +82,59 @@ pub fn pause_in(alloc: Global, frame: StackFrame) -> Result<Flow, NoMemory>
 /// The same inside one more open expression.
 #[cold]
 #[inline(never)]
-pub fn inside(alloc: Global, rest: Rest, frame: StackFrame) -> Result<Flow, NoMemory>
-    ensures { IfOk result (λ f. f ≡ flow.Wait (record rest { frames = rest.frames ++ frame ∷ [] })) }
+pub fn inside(alloc: Global, rest: Rest, frame: StackFrame) -> Result<Flow, EvalStop>
+    ensures flows { (codes : List Code) (code : Code) (seen : ℕ) (at inner : Spot)
+        (c : RunStep AValue) (s : VisitState) → deeper at frame ≡ Some inner
+        → Waits codes code seen inner c rest s
+        → Flows codes code seen at (resume code seen at frame c) result s }
+    ensures enters { (codes : List Code) (code : Code) (seen : ℕ) (at : Spot)
+        (c : RunStep AValue) (s : VisitState) → IsSome (deeper at frame)
+        → Above codes c rest s → Flows codes code seen at (resume code seen at frame c) result s }
+    ensures lasts { (old new : ℕ) → Goes old (Ok (flow.Wait rest)) new → Lasts 3 old result new }
 {
     let Rest {
         frames,
         activations,
     } = rest;
+    let whole = framed(alloc, frames, frame)?;
     Ok(Flow::Wait(Rest {
-        frames: framed(alloc, frames, frame)?,
+        frames: whole,
         activations,
     }))
 }
 
-/// The same of the parts of that expression.
+/// The same where the first part of the open expression stopped.
 #[cold]
 #[inline(never)]
-pub fn stopped_in(alloc: Global, rest: Rest, frame: StackFrame) -> Result<Row, NoMemory>
-    ensures { IfOk result (λ r. r ≡ row.Wait (record rest { frames = rest.frames ++ frame ∷ [] })) }
+pub fn in_first(alloc: Global, rest: Rest) -> Result<Flow, EvalStop>
+    ensures flows { (codes : List Code) (code : Code) (seen : ℕ) (at inner : Spot)
+        (c : RunStep AValue) (s : VisitState) → deeper at (frame.Part 0 []) ≡ Some inner
+        → Waits codes code seen inner c rest s
+        → Flows codes code seen at (resume code seen at (frame.Part 0 []) c) result s }
+    ensures lasts { (old new : ℕ) → Goes old (Ok (flow.Wait rest)) new → Lasts 3 old result new }
+{
+    inside(alloc, rest, StackFrame::Part(0, Items::new(alloc)))
+}
+
+/// The same of the parts of that expression, of which these gave values.
+#[cold]
+#[inline(never)]
+pub fn in_row(alloc: Global, rest: Rest, held: Values) -> Result<Row, EvalStop>
+    ensures rows { (codes : List Code) (code : Code) (seen : ℕ) (at inner : Spot)
+        (c : RunStep AValue) (s : VisitState)
+        → deeper at (frame.Part (length held) held) ≡ Some inner
+        → Waits codes code seen inner c rest s
+        → Rows codes code seen at (resume code seen at (frame.Part (length held) held) c) result s }
+    ensures lasts { (depth old mid new : ℕ) → mid ≤ old
+        → Spends depth mid (Ok (flow.Wait rest)) new → RowLasts old result new }
 {
     let Rest {
         frames,
         activations,
     } = rest;
+    let whole = framed(alloc, frames, StackFrame::Part(held.len(), held))?;
     Ok(Row::Wait(Rest {
-        frames: framed(alloc, frames, frame)?,
+        frames: whole,
         activations,
     }))
 }

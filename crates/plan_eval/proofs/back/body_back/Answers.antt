@@ -4,7 +4,7 @@ use Rattle.eval_steps.specs.declared.stack_frame.StackFrame.TheVariants as frame
 use Rattle.plan_eval.specs.declared.rest.Flow.TheVariants as flow
 use Rattle.eval_steps.proofs.Leading.{onward}
 use Rattle.eval_steps.proofs.Delivering.{body_given}
-use Rattle.plan_eval.proofs.Backs.{resume_gave, flows_from, waits_body}
+use Rattle.plan_eval.proofs.Backs.{resume_gave, flows_from, deep_body}
 use Rattle.plan_eval.proofs.back.body_back.Goals as goal
 
 pub returns-in-Ok-Done-clause-flows : goal.returns-in-Ok-Done-clause-flows
@@ -15,7 +15,12 @@ returns-in-Ok-Done-clause-flows c codes code seen at want m h =
     (onward _ _ _ (resume_gave code seen at want now frame.Body c.in-Ok-Done.v (rw is at h)) (body_given code seen at now c.in-Ok-Done.v))
     (c.ended.ensures.flows codes code seen at m)
 
-pub returns-in_ok-inside-in-Ok-Wait-clause-flows : goal.returns-in_ok-inside-in-Ok-Wait-clause-flows
-returns-in_ok-inside-in-Ok-Wait-clause-flows c codes code seen at want m h =
+pub returns-in-Ok-Wait-clause-flows : goal.returns-in-Ok-Wait-clause-flows
+returns-in-Ok-Wait-clause-flows c codes code seen at want m h =
     let is : c.args.flow ≡ Ok (flow.Wait c.in-Ok-Wait.rest) = cc in
-    rw c.in_ok-inside-in-Ok-Wait.ensures (waits_body code seen at want (joined c.args.state.now m) codes c.in-Ok-Wait.rest (rw is at h))
+    c.inside.ensures.enters codes code seen at want (joined c.args.state.now m) (deep_body at) (rw is at h)
+
+pub returns-in-Ok-Wait-clause-lasts : goal.returns-in-Ok-Wait-clause-lasts
+returns-in-Ok-Wait-clause-lasts c old h =
+    let is : c.args.flow ≡ Ok (flow.Wait c.in-Ok-Wait.rest) = cc in
+    c.inside.ensures.lasts old c.args.state.now.work (rw is at h)

@@ -2,10 +2,9 @@ use Rattle.std.proofs.Common.{◌≡◌, Ok}
 use Rattle.plan_meaning.specs.State.{joined}
 use Rattle.eval_steps.specs.declared.stack_frame.StackFrame.TheVariants as frame
 use Rattle.plan_eval.specs.declared.rest.Flow.TheVariants as flow
-use Rattle.eval_steps.proofs.Leading.{itself, onward}
+use Rattle.eval_steps.proofs.Leading.{onward}
 use Rattle.eval_steps.proofs.Delivering.{bound_given}
-use Rattle.plan_eval.proofs.Waiting.{waits_inside}
-use Rattle.plan_eval.proofs.Backs.{resume_gave, flows_from}
+use Rattle.plan_eval.proofs.Backs.{resume_gave, flows_from, goes_on}
 use Rattle.plan_eval.proofs.back.bound_back.Goals as goal
 
 pub returns-in-Ok-Done-clause-flows : goal.returns-in-Ok-Done-clause-flows
@@ -16,8 +15,12 @@ returns-in-Ok-Done-clause-flows c codes code seen at inner want m deep h =
     (onward _ _ _ (resume_gave code seen at want now (frame.Bound c.args.v) c.in-Ok-Done.value (rw is at h)) (bound_given code seen at now c.args.v c.in-Ok-Done.value))
     (c.ended.ensures.flows codes code seen at m)
 
-pub returns-in_ok-inside-in-Ok-Wait-clause-flows : goal.returns-in_ok-inside-in-Ok-Wait-clause-flows
-returns-in_ok-inside-in-Ok-Wait-clause-flows c codes code seen at inner want m deep h =
+pub returns-in-Ok-Wait-clause-flows : goal.returns-in-Ok-Wait-clause-flows
+returns-in-Ok-Wait-clause-flows c codes code seen at inner want m deep h =
     let is : c.args.flow ≡ Ok (flow.Wait c.in-Ok-Wait.rest) = cc in
-    rw c.in_ok-inside-in-Ok-Wait.ensures
-    (waits_inside codes code seen at (frame.Bound c.args.v) inner deep c.in-Ok-Wait.rest (joined c.args.state.now m) _ want (itself _) (rw is at h))
+    c.inside.ensures.flows codes code seen at inner want (joined c.args.state.now m) deep (rw is at h)
+
+pub returns-in-Ok-Wait-clause-lasts : goal.returns-in-Ok-Wait-clause-lasts
+returns-in-Ok-Wait-clause-lasts c depth old h =
+    let is : c.args.flow ≡ Ok (flow.Wait c.in-Ok-Wait.rest) = cc in
+    c.inside.ensures.lasts old c.args.state.now.work (goes_on depth old c.args.state.now.work c.in-Ok-Wait.rest (rw is at h))

@@ -27,8 +27,8 @@ use Rattle.plan_eval.proofs.Hot.{let_form, let_first, let_parts, let_no_try, let
 use Rattle.plan_eval.proofs.Turning.{visited_nowhere}
 use Rattle.plan_eval.proofs.Ending.{resume_final}
 use Rattle.eval_steps.proofs.Delivering.{visited_on}
-use Rattle.plan_eval.proofs.Waiting.{paused, waits_inside}
-use Rattle.plan_eval.proofs.Backs.{flows_from, enters_from}
+use Rattle.plan_eval.proofs.Waiting.{paused}
+use Rattle.plan_eval.proofs.Backs.{flows_from, enters_from, rows_from, goes_on}
 use Rattle.plan_eval.proofs.Diving.{grown_get, here_grown, grows_on, grows_none, deeper_here, opened_paused, opened_safe, part_safe, body_leads, body_binds, bodies_from}
 use Rattle.plan_eval.proofs.direct.+evaluate.Goals as goal
 
@@ -165,9 +165,14 @@ choice-returns-in-Ok-Done-clause-flows g t c = λ other.
 pub choice-returns-in-Ok-Wait-clause-flows : goal.choice-returns-in-Ok-Wait-clause-flows
 choice-returns-in-Ok-Wait-clause-flows g t c =
     let is : c.evaluate.result ≡ Ok (flow.Wait c.in-Ok-Wait.rest) = cc in
-    let none = c.new.ensures in
-    rw (c.in_ok-inside-in-Ok-Wait.ensures, none)
-    (waits_inside c.evaluate.new.codes c.args.here.now.code.now c.args.here.now.fun (spot c.args.here.now c.args.e.now) (frame.Part 0 []) _ (if_test c.args.here.now.code.now c.args.here.now.fun c.args.e.now c.args.t.now c.args.a.now c.args.b.now (spot c.args.here.now c.args.e.now).env c.requires.form) c.in-Ok-Wait.rest (joined c.evaluate.new.state (g.S.Services.stands c.evaluate.new.svc)) _ _ (first_leads c.args.here.now.code.now c.args.here.now.fun (spot c.args.here.now c.args.e.now) c.args.t.now (joined c.args.state.now (g.S.Services.stands c.args.svc.now)) (if_parts c.args.here.now.code.now c.args.here.now.fun c.args.e.now c.args.t.now c.args.a.now c.args.b.now (spot c.args.here.now c.args.e.now).env c.requires.form) (if_test c.args.here.now.code.now c.args.here.now.fun c.args.e.now c.args.t.now c.args.a.now c.args.b.now (spot c.args.here.now c.args.e.now).env c.requires.form)) (rw is at c.evaluate.ensures.flows))
+    flows_from c.evaluate.new.codes c.args.here.now.code.now c.args.here.now.fun (spot c.args.here.now c.args.e.now) _ _ c.in_first.result (joined c.evaluate.new.state (g.S.Services.stands c.evaluate.new.svc))
+    (first_leads c.args.here.now.code.now c.args.here.now.fun (spot c.args.here.now c.args.e.now) c.args.t.now (joined c.args.state.now (g.S.Services.stands c.args.svc.now)) (if_parts c.args.here.now.code.now c.args.here.now.fun c.args.e.now c.args.t.now c.args.a.now c.args.b.now (spot c.args.here.now c.args.e.now).env c.requires.form) (if_test c.args.here.now.code.now c.args.here.now.fun c.args.e.now c.args.t.now c.args.a.now c.args.b.now (spot c.args.here.now c.args.e.now).env c.requires.form))
+    (c.in_first.ensures.flows c.evaluate.new.codes c.args.here.now.code.now c.args.here.now.fun (spot c.args.here.now c.args.e.now) _ _ (joined c.evaluate.new.state (g.S.Services.stands c.evaluate.new.svc)) (if_test c.args.here.now.code.now c.args.here.now.fun c.args.e.now c.args.t.now c.args.a.now c.args.b.now (spot c.args.here.now c.args.e.now).env c.requires.form) (rw is at c.evaluate.ensures.flows))
+
+pub choice-returns-in-Ok-Wait-clause-lasts : goal.choice-returns-in-Ok-Wait-clause-lasts
+choice-returns-in-Ok-Wait-clause-lasts g t c =
+    let is : c.evaluate.result ≡ Ok (flow.Wait c.in-Ok-Wait.rest) = cc in
+    c.in_first.ensures.lasts c.args.state.now.work c.evaluate.new.state.work (goes_on c.args.depth c.args.state.now.work c.evaluate.new.state.work c.in-Ok-Wait.rest (rw is at c.evaluate.ensures.spends))
 
 pub choice-returns-clause-flows : goal.choice-returns-clause-flows
 choice-returns-clause-flows g t c = λ other.
@@ -196,12 +201,17 @@ operation-returns-in-Ok-Done-clause-flows g t c =
     (right_leads c.args.here.now.code.now c.args.here.now.fun c.args.op c.args.e.now c.args.a.now c.args.b.now (spot c.args.here.now c.args.e.now).env c.requires.form (joined c.args.state.now (g.S.Services.stands c.args.svc.now)) (joined c.evaluate.new.state (g.S.Services.stands c.evaluate.new.svc)) c.in-Ok-Done.x came)
     (c.operands_back.ensures.flows c.evaluate-flow.new.codes c.args.here.now.code.now c.args.here.now.fun c.args.e.now c.args.a.now c.args.b.now (spot c.args.here.now c.args.e.now).env _ _ (g.S.Services.stands c.evaluate-flow.new.svc) c.requires.form (right_part c.args.here.now.code.now c.args.here.now.fun c.args.op c.args.e.now c.args.a.now c.args.b.now (spot c.args.here.now c.args.e.now).env c.requires.form c.in-Ok-Done.x) c.evaluate-flow.ensures.flows)
 
-pub operation-returns-in_ok-inside-in-Ok-Wait-clause-flows : goal.operation-returns-in_ok-inside-in-Ok-Wait-clause-flows
-operation-returns-in_ok-inside-in-Ok-Wait-clause-flows g t c =
+pub operation-returns-in-Ok-Wait-clause-flows : goal.operation-returns-in-Ok-Wait-clause-flows
+operation-returns-in-Ok-Wait-clause-flows g t c =
     let is : c.evaluate.result ≡ Ok (flow.Wait c.in-Ok-Wait.rest) = cc in
-    let none = c.new.ensures in
-    rw (c.in_ok-inside-in-Ok-Wait.ensures, none)
-    (waits_inside c.evaluate.new.codes c.args.here.now.code.now c.args.here.now.fun (spot c.args.here.now c.args.e.now) (frame.Part 0 []) _ (left_part c.args.here.now.code.now c.args.here.now.fun c.args.op c.args.e.now c.args.a.now c.args.b.now (spot c.args.here.now c.args.e.now).env c.requires.form) c.in-Ok-Wait.rest (joined c.evaluate.new.state (g.S.Services.stands c.evaluate.new.svc)) _ _ (first_leads c.args.here.now.code.now c.args.here.now.fun (spot c.args.here.now c.args.e.now) c.args.a.now (joined c.args.state.now (g.S.Services.stands c.args.svc.now)) (operator_parts c.args.here.now.code.now c.args.here.now.fun c.args.op c.args.e.now c.args.a.now c.args.b.now (spot c.args.here.now c.args.e.now).env c.requires.form) (left_part c.args.here.now.code.now c.args.here.now.fun c.args.op c.args.e.now c.args.a.now c.args.b.now (spot c.args.here.now c.args.e.now).env c.requires.form)) (rw is at c.evaluate.ensures.flows))
+    flows_from c.evaluate.new.codes c.args.here.now.code.now c.args.here.now.fun (spot c.args.here.now c.args.e.now) _ _ c.in_first.result (joined c.evaluate.new.state (g.S.Services.stands c.evaluate.new.svc))
+    (first_leads c.args.here.now.code.now c.args.here.now.fun (spot c.args.here.now c.args.e.now) c.args.a.now (joined c.args.state.now (g.S.Services.stands c.args.svc.now)) (operator_parts c.args.here.now.code.now c.args.here.now.fun c.args.op c.args.e.now c.args.a.now c.args.b.now (spot c.args.here.now c.args.e.now).env c.requires.form) (left_part c.args.here.now.code.now c.args.here.now.fun c.args.op c.args.e.now c.args.a.now c.args.b.now (spot c.args.here.now c.args.e.now).env c.requires.form))
+    (c.in_first.ensures.flows c.evaluate.new.codes c.args.here.now.code.now c.args.here.now.fun (spot c.args.here.now c.args.e.now) _ _ (joined c.evaluate.new.state (g.S.Services.stands c.evaluate.new.svc)) (left_part c.args.here.now.code.now c.args.here.now.fun c.args.op c.args.e.now c.args.a.now c.args.b.now (spot c.args.here.now c.args.e.now).env c.requires.form) (rw is at c.evaluate.ensures.flows))
+
+pub operation-returns-in-Ok-Wait-clause-lasts : goal.operation-returns-in-Ok-Wait-clause-lasts
+operation-returns-in-Ok-Wait-clause-lasts g t c =
+    let is : c.evaluate.result ≡ Ok (flow.Wait c.in-Ok-Wait.rest) = cc in
+    c.in_first.ensures.lasts c.args.state.now.work c.evaluate.new.state.work (goes_on c.args.depth c.args.state.now.work c.evaluate.new.state.work c.in-Ok-Wait.rest (rw is at c.evaluate.ensures.spends))
 
 pub operation-returns-in-Err-clause-flows : goal.operation-returns-in-Err-clause-flows
 operation-returns-in-Err-clause-flows g t c = λ other.
@@ -357,9 +367,14 @@ all_parts-returns-in-Ok-Wait-clause-rows g t c =
     let is_x : slice_get c.args.es.now (length c.loop-x.held) ≡ Some c.in-Some.x.now = rw c.len.ensures at (sym found) in
     let i = c.loop-x.invariant in
     let is : c.evaluate.result ≡ Ok (flow.Wait c.in-Ok-Wait.rest) = cc in
-    rw (c.in_ok-stopped_in-in-Ok-Wait.ensures, c.len-in-Ok-Wait.ensures)
-    (waits_inside c.evaluate.new.codes c.args.here.now.code.now c.args.here.now.fun (spot c.args.here.now c.args.e.now) (frame.Part (length c.loop-x.held) c.loop-x.held) _ (next_deep c.args.here.now.code.now c.args.here.now.fun c.args.e.now (spot c.args.here.now c.args.e.now).env c.args.es.now c.requires.form c.requires.parts c.loop-x.held c.in-Some.x.now is_x) c.in-Ok-Wait.rest (joined c.evaluate.new.state (g.S.Services.stands c.evaluate.new.svc)) _ _
-    (row_next c.args.here.now.code.now c.args.here.now.fun c.args.e.now (spot c.args.here.now c.args.e.now).env c.args.es.now c.requires.form c.requires.parts c.loop-x.held c.in-Some.x.now (joined c.args.state.now (g.S.Services.stands c.args.svc.now)) (joined c.loop-x.state (g.S.Services.stands c.loop-x.svc)) is_x i.leads) (rw is at c.evaluate.ensures.flows))
+    rows_from c.evaluate.new.codes c.args.here.now.code.now c.args.here.now.fun (spot c.args.here.now c.args.e.now) _ _ c.in_row.result (joined c.evaluate.new.state (g.S.Services.stands c.evaluate.new.svc))
+    (row_next c.args.here.now.code.now c.args.here.now.fun c.args.e.now (spot c.args.here.now c.args.e.now).env c.args.es.now c.requires.form c.requires.parts c.loop-x.held c.in-Some.x.now (joined c.args.state.now (g.S.Services.stands c.args.svc.now)) (joined c.loop-x.state (g.S.Services.stands c.loop-x.svc)) is_x i.leads)
+    (c.in_row.ensures.rows c.evaluate.new.codes c.args.here.now.code.now c.args.here.now.fun (spot c.args.here.now c.args.e.now) _ _ (joined c.evaluate.new.state (g.S.Services.stands c.evaluate.new.svc)) (next_deep c.args.here.now.code.now c.args.here.now.fun c.args.e.now (spot c.args.here.now c.args.e.now).env c.args.es.now c.requires.form c.requires.parts c.loop-x.held c.in-Some.x.now is_x) (rw is at c.evaluate.ensures.flows))
+
+pub all_parts-returns-in-Ok-Wait-clause-lasts : goal.all_parts-returns-in-Ok-Wait-clause-lasts
+all_parts-returns-in-Ok-Wait-clause-lasts g t c =
+    let is : c.evaluate.result ≡ Ok (flow.Wait c.in-Ok-Wait.rest) = cc in
+    c.in_row.ensures.lasts c.args.depth c.args.state.now.work c.loop-x.state.work c.evaluate.new.state.work c.loop-x.invariant.falls (rw is at c.evaluate.ensures.spends)
 
 pub all_parts-returns-in-Err-clause-rows : goal.all_parts-returns-in-Err-clause-rows
 all_parts-returns-in-Err-clause-rows g t c = λ other.
@@ -519,11 +534,17 @@ binding-returns-in-Ok-Done-clause-flows g t c =
     flows_from c.under_name-flow.new.codes c.args.here.now.code.now c.args.here.now.fun (spot c.args.here.now c.args.e.now) _ _ c.bound_back.result (joined c.bound_back.new.state (g.S.Services.stands c.under_name-flow.new.svc)) leads
     (c.bound_back.ensures.flows c.under_name-flow.new.codes c.args.here.now.code.now c.args.here.now.fun (spot c.args.here.now c.args.e.now) _ _ (g.S.Services.stands c.under_name-flow.new.svc) (let_body c.args.here.now.code.now c.args.here.now.fun c.args.e.now c.args.x.now c.requires.form.0 c.args.a.now c.args.b.now (spot c.args.here.now c.args.e.now).env c.requires.form.1 c.in-Ok-Done.v) c.under_name-flow.ensures.flows)
 
-pub binding-returns-in_ok-inside-in-Ok-Wait-clause-flows : goal.binding-returns-in_ok-inside-in-Ok-Wait-clause-flows
-binding-returns-in_ok-inside-in-Ok-Wait-clause-flows g t c =
+pub binding-returns-in-Ok-Wait-clause-flows : goal.binding-returns-in-Ok-Wait-clause-flows
+binding-returns-in-Ok-Wait-clause-flows g t c =
     let is : c.evaluate.result ≡ Ok (flow.Wait c.in-Ok-Wait.rest) = cc in
-    rw (c.in_ok-inside-in-Ok-Wait.ensures, c.new.ensures)
-    (waits_inside c.evaluate.new.codes c.args.here.now.code.now c.args.here.now.fun (spot c.args.here.now c.args.e.now) (frame.Part 0 []) _ (let_first c.args.here.now.code.now c.args.here.now.fun c.args.e.now c.args.x.now c.requires.form.0 c.args.a.now c.args.b.now (spot c.args.here.now c.args.e.now).env c.requires.form.1) c.in-Ok-Wait.rest (joined c.evaluate.new.state (g.S.Services.stands c.evaluate.new.svc)) _ _ (first_leads c.args.here.now.code.now c.args.here.now.fun (spot c.args.here.now c.args.e.now) c.args.a.now (joined c.args.state.now (g.S.Services.stands c.args.svc.now)) (let_parts c.args.here.now.code.now c.args.here.now.fun c.args.e.now c.args.x.now c.requires.form.0 c.args.a.now c.args.b.now (spot c.args.here.now c.args.e.now).env c.requires.form.1) (let_first c.args.here.now.code.now c.args.here.now.fun c.args.e.now c.args.x.now c.requires.form.0 c.args.a.now c.args.b.now (spot c.args.here.now c.args.e.now).env c.requires.form.1)) (rw is at c.evaluate.ensures.flows))
+    flows_from c.evaluate.new.codes c.args.here.now.code.now c.args.here.now.fun (spot c.args.here.now c.args.e.now) _ _ c.in_first.result (joined c.evaluate.new.state (g.S.Services.stands c.evaluate.new.svc))
+    (first_leads c.args.here.now.code.now c.args.here.now.fun (spot c.args.here.now c.args.e.now) c.args.a.now (joined c.args.state.now (g.S.Services.stands c.args.svc.now)) (let_parts c.args.here.now.code.now c.args.here.now.fun c.args.e.now c.args.x.now c.requires.form.0 c.args.a.now c.args.b.now (spot c.args.here.now c.args.e.now).env c.requires.form.1) (let_first c.args.here.now.code.now c.args.here.now.fun c.args.e.now c.args.x.now c.requires.form.0 c.args.a.now c.args.b.now (spot c.args.here.now c.args.e.now).env c.requires.form.1))
+    (c.in_first.ensures.flows c.evaluate.new.codes c.args.here.now.code.now c.args.here.now.fun (spot c.args.here.now c.args.e.now) _ _ (joined c.evaluate.new.state (g.S.Services.stands c.evaluate.new.svc)) (let_first c.args.here.now.code.now c.args.here.now.fun c.args.e.now c.args.x.now c.requires.form.0 c.args.a.now c.args.b.now (spot c.args.here.now c.args.e.now).env c.requires.form.1) (rw is at c.evaluate.ensures.flows))
+
+pub binding-returns-in-Ok-Wait-clause-lasts : goal.binding-returns-in-Ok-Wait-clause-lasts
+binding-returns-in-Ok-Wait-clause-lasts g t c =
+    let is : c.evaluate.result ≡ Ok (flow.Wait c.in-Ok-Wait.rest) = cc in
+    c.in_first.ensures.lasts c.args.state.now.work c.evaluate.new.state.work (goes_on c.args.depth c.args.state.now.work c.evaluate.new.state.work c.in-Ok-Wait.rest (rw is at c.evaluate.ensures.spends))
 
 pub binding-returns-in-Err-clause-flows : goal.binding-returns-in-Err-clause-flows
 binding-returns-in-Err-clause-flows g t c = λ other.
@@ -612,12 +633,13 @@ eval_packing-returns-in-Ok-All-clause-flows g t c =
     (onward _ _ _ (begun_here c.args.here.now.code.now c.args.here.now.fun (spot c.args.here.now c.args.e.now).env c.args.a.now (joined c.args.state.now (g.S.Services.stands c.args.svc.now)) (joined c.pays.new.self (g.S.Services.stands c.args.svc.now)) (c.if-not-pays.ensures.paid refl (g.S.Services.stands c.args.svc.now))) (onward _ _ _ rows (chunk_gave c.args.here.now.code.now c.args.here.now.fun c.args.a.now (spot c.args.here.now c.args.e.now).env c.in-Ok-All.args (joined c.all_parts.new.state (g.S.Services.stands c.all_parts.new.svc)) c.args.f.now c.args.es.now c.requires.packs))) in
     flows_from c.eval_packed.new.codes c.args.here.now.code.now c.args.here.now.fun (spot c.args.here.now c.args.e.now) _ _ c.eval_packed.result (joined c.eval_packed.new.state (g.S.Services.stands c.eval_packed.new.svc)) whole c.eval_packed.ensures.flows
 
-pub eval_packing-returns-in_ok-inside-in-Ok-Wait-clause-flows : goal.eval_packing-returns-in_ok-inside-in-Ok-Wait-clause-flows
-eval_packing-returns-in_ok-inside-in-Ok-Wait-clause-flows g t c =
+pub eval_packing-returns-in-Ok-Wait-clause-flows : goal.eval_packing-returns-in-Ok-Wait-clause-flows
+eval_packing-returns-in-Ok-Wait-clause-flows g t c =
     let is : c.all_parts.result ≡ Ok (row.Wait c.in-Ok-Wait.rest) = cc in
     let rows : Waits c.all_parts.new.codes c.args.here.now.code.now c.args.here.now.fun (spot c.args.here.now c.args.a.now) (begins c.args.here.now.code.now c.args.here.now.fun (spot c.args.here.now c.args.a.now) (joined c.pays.new.self (g.S.Services.stands c.args.svc.now))) c.in-Ok-Wait.rest (joined c.all_parts.new.state (g.S.Services.stands c.all_parts.new.svc)) = rw is at c.all_parts.ensures.rows in
-    rw (c.in_ok-inside-in-Ok-Wait.ensures, c.new.ensures)
-    (waits_inside c.all_parts.new.codes c.args.here.now.code.now c.args.here.now.fun (spot c.args.here.now c.args.e.now) (frame.Part 0 []) _ (eval_part c.args.here.now.code.now c.args.here.now.fun c.args.e.now c.args.a.now (spot c.args.here.now c.args.e.now).env c.requires.form) c.in-Ok-Wait.rest (joined c.all_parts.new.state (g.S.Services.stands c.all_parts.new.svc)) _ _ (packing_leads c.args.here.now.code.now c.args.here.now.fun c.args.e.now c.args.a.now (spot c.args.here.now c.args.e.now).env c.requires.form _ (joined c.args.state.now (g.S.Services.stands c.args.svc.now)) (begun_here c.args.here.now.code.now c.args.here.now.fun (spot c.args.here.now c.args.e.now).env c.args.a.now (joined c.args.state.now (g.S.Services.stands c.args.svc.now)) (joined c.pays.new.self (g.S.Services.stands c.args.svc.now)) (c.if-not-pays.ensures.paid refl (g.S.Services.stands c.args.svc.now)))) rows)
+    flows_from c.all_parts.new.codes c.args.here.now.code.now c.args.here.now.fun (spot c.args.here.now c.args.e.now) _ _ c.in_first.result (joined c.all_parts.new.state (g.S.Services.stands c.all_parts.new.svc))
+    (packing_leads c.args.here.now.code.now c.args.here.now.fun c.args.e.now c.args.a.now (spot c.args.here.now c.args.e.now).env c.requires.form _ (joined c.args.state.now (g.S.Services.stands c.args.svc.now)) (begun_here c.args.here.now.code.now c.args.here.now.fun (spot c.args.here.now c.args.e.now).env c.args.a.now (joined c.args.state.now (g.S.Services.stands c.args.svc.now)) (joined c.pays.new.self (g.S.Services.stands c.args.svc.now)) (c.if-not-pays.ensures.paid refl (g.S.Services.stands c.args.svc.now))))
+    (c.in_first.ensures.flows c.all_parts.new.codes c.args.here.now.code.now c.args.here.now.fun (spot c.args.here.now c.args.e.now) _ _ (joined c.all_parts.new.state (g.S.Services.stands c.all_parts.new.svc)) (eval_part c.args.here.now.code.now c.args.here.now.fun c.args.e.now c.args.a.now (spot c.args.here.now c.args.e.now).env c.requires.form) rows)
 
 pub eval_packing-returns-in-Err-clause-flows : goal.eval_packing-returns-in-Err-clause-flows
 eval_packing-returns-in-Err-clause-flows g t c = λ other.

@@ -1,10 +1,7 @@
 use Rattle.std.proofs.Common.{◌≡◌, ◌∷◌, [], Ok}
 use Rattle.plan_meaning.specs.State.{joined}
-use Rattle.eval_steps.specs.declared.stack_frame.StackFrame.TheVariants as frame
 use Rattle.plan_eval.specs.declared.rest.Flow.TheVariants as flow
-use Rattle.eval_steps.proofs.Leading.{itself}
-use Rattle.plan_eval.proofs.Waiting.{waits_inside}
-use Rattle.plan_eval.proofs.Backs.{flows_from}
+use Rattle.plan_eval.proofs.Backs.{flows_from, goes_on}
 use Rattle.plan_eval.proofs.Hot.{part_came}
 use Rattle.plan_eval.proofs.operators.operands_back.Goals as goal
 
@@ -15,8 +12,12 @@ returns-in-Ok-Done-clause-flows c codes code seen e a b env inner want m form de
     (part_came code seen (record { expr = e; env = env }) 1 (c.args.x ∷ []) want c.in-Ok-Done.y (joined c.args.state.now m) (rw is at h))
     (c.operate.ensures.flows codes code seen e a b env m form)
 
-pub returns-in_ok-inside-in-Ok-Wait-clause-flows : goal.returns-in_ok-inside-in-Ok-Wait-clause-flows
-returns-in_ok-inside-in-Ok-Wait-clause-flows c codes code seen e a b env inner want m form deep h =
+pub returns-in-Ok-Wait-clause-flows : goal.returns-in-Ok-Wait-clause-flows
+returns-in-Ok-Wait-clause-flows c codes code seen e a b env inner want m form deep h =
     let is : c.args.flow ≡ Ok (flow.Wait c.in-Ok-Wait.rest) = cc in
-    rw (c.in_ok-inside-in-Ok-Wait.ensures, c.in_ok-behind_one-in-Ok-Wait.ensures)
-    (waits_inside codes code seen (record { expr = e; env = env }) (frame.Part 1 (c.args.x ∷ [])) inner deep c.in-Ok-Wait.rest (joined c.args.state.now m) _ want (itself _) (rw is at h))
+    c.in_second.ensures.flows codes code seen (record { expr = e; env = env }) inner want (joined c.args.state.now m) deep (rw is at h)
+
+pub returns-in-Ok-Wait-clause-lasts : goal.returns-in-Ok-Wait-clause-lasts
+returns-in-Ok-Wait-clause-lasts c depth old h =
+    let is : c.args.flow ≡ Ok (flow.Wait c.in-Ok-Wait.rest) = cc in
+    c.in_second.ensures.lasts old c.args.state.now.work (goes_on depth old c.args.state.now.work c.in-Ok-Wait.rest (rw is at h))
