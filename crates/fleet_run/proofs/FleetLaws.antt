@@ -1,21 +1,20 @@
 -- The lines of a fleet, its statuses, and its end.
-use Rattle.std.proofs.Common.{◌≡◌, ◌≢◌, ℕ, Bool, true, false, IsTrue, ◌⊎◌, inl, inr, OnOk, Result, Ok, Err, zero, suc, ◌+◌, ◌<◌, ◌≤◌, ◌==◌, if◌then◌else◌, List, [], ◌∷◌, ◌++◌, length, take, drop, get_or, Some, slice_get, refl, sym, ◌∙◌, ap, arith, append-nil, append_assoc}
-use Rattle.std.proofs.lemmas.List.{length_push, length-drop, take_more, drop_more, drop_all, get_or-drop}
+use Rattle.std.proofs.Common.{◌≡◌, ◌≢◌, ℕ, Bool, true, false, IsTrue, ◌⊎◌, inl, inr, Result, Ok, Err, zero, suc, ◌+◌, ◌<◌, ◌≤◌, ◌==◌, if◌then◌else◌, List, [], ◌∷◌, ◌++◌, length, take, drop, get_or, Some, slice_get, refl, sym, ◌∙◌, ap, arith, append-nil, append_assoc}
+use Rattle.std.proofs.lemmas.List.{length_push, length-drop, length-map, take_more, drop_more, drop_all, get_or-drop}
 use Rattle.std.proofs.lemmas.Option.{slice_get_within, get_or_from_slice_get}
-use Rattle.std.proofs.Math.Seq.{take-append-add}
 use Rattle.std.proofs.Math.Dec.{eqb-suc-zero}
 use Rattle.std.proofs.lemmas.Bool.{eq-eqb}
 use Rattle.std.specs.Result.{is_err}
 use Rattle.plan_base.specs.declared.ids.Host.{Host}
 use Rattle.network_plan.specs.declared.fleet.Kid.{Kid}
 use Rattle.node_io.specs.Spawners.{Words, SpawnerState}
-use Rattle.fleet_run.specs.Runs.{StartsPrefix}
+use Rattle.node_io.specs.declared.spawner.Child.{Child}
+use Rattle.fleet_run.specs.Children.{AreStarted}
+use Rattle.fleet_run.specs.Runs.{StartsPrefix, StartsAll}
 use Rattle.fleet_run.proofs.ChildLaws.{starts_next}
 use Rattle.node_io.specs.Sinks.{SinkState, Writes, FailsIn, Puts}
 use Rattle.node_io.proofs.SinkLaws.{writes_none, writes_both, writes_as, fails_more, fails_as}
-use Rattle.fleet_run.specs.Fleets.{kid_line, kid_host, fleet_text, fleet_end}
-use Rattle.fleet_run.specs.declared.fault.FleetFault.{FleetFault}
-use Rattle.fleet_run.specs.declared.fault.FleetFault.TheVariants.{StartFault, WaitFault, WriteFault, NoMemory}
+use Rattle.fleet_run.specs.Fleets.{kid_words, kid_line, kid_host, fleet_starts, fleet_text, fleet_end}
 use Rattle.fleet_run.specs.declared.reports.FleetEnd.{FleetEnd}
 use Rattle.fleet_run.specs.declared.reports.FleetEnd.TheVariants.{Well, Failed}
 
@@ -135,3 +134,13 @@ pub starts_cut : (old mid new : SpawnerState) (all : List Words) (i : ℕ) (w : 
     → (IsTrue old.observable → mid.starts ≡ old.starts ++ take i all) → (new.starts ≡ mid.starts) ⊎ (new.starts ≡ mid.starts ++ w ∷ []) → StartsPrefix all old new
 starts_cut old mid new all i w h is before (inl e) = record { count = i; is = λ t. e ∙ before t }
 starts_cut old mid new all i w h is before (inr e) = record { count = i + 1; is = λ t. starts_next old.starts mid.starts new.starts all i w h is (before t) e }
+
+-- a child was started for each
+pub all_started : {T E : Type 0} (kids : List Kid) (words : List Words) (started : List Child) (old new : SpawnerState) (r : Result T E) (t : Bool) → t ≡ is_err r → t ≡ false → words ≡ fleet_starts kids
+    → StartsAll words started old new r → AreStarted kids new.children started
+all_started kids words started old new (Ok x) t e f same h = record {
+  each = h.did.0 ∙ ap length same ∙ length-map kids kid_words;
+  base = old.children;
+  apart = h.running;
+}
+all_started kids words started old new (Err y) t e f same h = absurd (cc)

@@ -1,6 +1,7 @@
 -- A request to a serving node: what is bound, sent and written for it, after each answer.
 use Rattle.std.specs.Prelude.{ℕ, IsTrue, ◌≡◌, ◌⊎◌, ◌≤◌, List, [], ◌∷◌, ◌++◌, length, Result, Ok, Err}
 use Rattle.std.specs.Fmt.{decimal}
+use Rattle.std.specs.String.{string_bytes}
 use lib.Chars.{codes}
 use Rattle.network_plan.specs.declared.fleet.AskFile.{AskFile}
 use Rattle.network_plan.specs.Hosts.{dev_of}
@@ -10,6 +11,7 @@ use Rattle.node_io.specs.declared.link.Peer.{Peer}
 use Rattle.node_io.specs.Causes.{HasRisen}
 use Rattle.node_io.specs.Links.{Bind, Heard, LinkState}
 use Rattle.node_io.specs.Sinks.{SinkState, Writes, FailsIn}
+use Rattle.fleet_run.specs.declared.ask.Prepared.{Prepared}
 use Rattle.fleet_run.specs.declared.fault.AskFault.{AskFault}
 use Rattle.fleet_run.specs.declared.fault.AskFault.TheVariants.{LinkFault, WriteFault, NoMemory}
 
@@ -71,3 +73,9 @@ pub record SendsOne {T E : Type 0} (bind : Bind) (frame : Heard) (old new : Link
   pub script : new.script ≡ old.script
   pub later : old.faults ≤ new.faults
   pub did : OneResult bind frame old new result
+
+-- what a request needs was made for it: its frame, its peers and its line
+pub record IsPrepared (a : AskFile) (made : Prepared) : Type 0 where
+  pub frame : made.frame ≡ ask_frame a
+  pub peers : made.peers ≡ ask_peers a
+  pub line : string_bytes made.line ≡ ask_line a

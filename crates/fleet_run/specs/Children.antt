@@ -1,5 +1,6 @@
 -- Children that were started and are waited for.
-use Rattle.std.specs.Prelude.{ℕ, ◌≡◌, ◌+◌, List, [], ◌∷◌, ◌++◌}
+use Rattle.std.specs.Prelude.{ℕ, ◌≡◌, ◌+◌, ◌≤◌, List, [], ◌∷◌, ◌++◌, length}
+use Rattle.network_plan.specs.declared.fleet.Kid.{Kid}
 use Rattle.node_io.specs.declared.spawner.Child.{Child}
 use Rattle.node_io.specs.Spawners.{IsFresh}
 
@@ -22,3 +23,14 @@ AreNumbered n (c ∷ cs) = (c.0 ≡ n) × AreNumbered (n + 1) cs
 pub record LeavesOpen (old new : List Child) : Type 0 where
   pub still : List Child
   pub is : new ≡ old ++ still
+
+-- one child was started for each, and these are open, besides some others and each apart from all others
+pub record AreStarted (kids : List Kid) (running started : List Child) : Type 0 where
+  pub each : length started ≡ length kids
+  pub base : List Child
+  pub apart : AreOpen base running started
+
+-- no status stands there yet, and there is room for one of each child
+pub record HasRoomFor (kids : List Kid) (statuses : List ℕ) (capacity : ℕ) : Type 0 where
+  pub none : statuses ≡ []
+  pub room : length kids ≤ capacity

@@ -3,7 +3,7 @@ ghost use Rattle.std.specs.String.{string_bytes};
 ghost use Rattle.network_plan.specs.Hosts.{dev_of};
 ghost use Rattle.network_plan.specs.NodeRules.{KeepsAsk};
 ghost use Rattle.node_io.specs.Links.{HasPeer};
-ghost use Rattle.fleet_run.specs.Asks.{ask_frame, ask_peers, asked_line, ask_line, SendsOne, Asks};
+ghost use Rattle.fleet_run.specs.Asks.{ask_peers, asked_line, IsPrepared, SendsOne, Asks};
 
 use crate::fault::AskFault;
 use network_plan::AskFile;
@@ -43,9 +43,7 @@ struct Prepared {
 
 fn prepare(alloc: Global, ask: &AskFile) -> Result<Prepared, NoMemory>
     requires { KeepsAsk ask.now }
-    ensures frame { IfOk result (λ made. made.frame ≡ ask_frame ask.now) }
-    ensures peers { IfOk result (λ made. made.peers ≡ ask_peers ask.now) }
-    ensures line { IfOk result (λ made. string_bytes made.line ≡ ask_line ask.now) }
+    ensures { IfOk result (λ made. IsPrepared ask.now made) }
 {
     let frame = put_ask(alloc, ask.bound, &ask.chunk)?;
     let peers = peers_of(alloc, ask)?;

@@ -1,6 +1,5 @@
-ghost use Rattle.std.specs.Prelude.{◌≡◌, ◌≤◌, [], List, length, vec_capacity};
-ghost use Rattle.node_io.specs.declared.spawner.Child.{Child as Open};
-ghost use Rattle.fleet_run.specs.Children.{AreOpen};
+ghost use Rattle.std.specs.Prelude.{◌≡◌, length, vec_capacity};
+ghost use Rattle.fleet_run.specs.Children.{AreStarted, HasRoomFor};
 ghost use Rattle.fleet_run.specs.Fleets.{fleet_end};
 ghost use Rattle.fleet_run.specs.Runs.{ReportsEach};
 
@@ -30,10 +29,8 @@ pub fn report_all<P: Spawner, K: Sink>(
     out: &mut K,
     statuses: &mut Vec<u8>,
 ) -> Result<(), FleetFault>
-    requires each { length started.now ≡ length kids.now }
-    requires open { (base : List Open) × AreOpen base (P.state spawn.old).children started.now }
-    requires none { statuses.old.items ≡ [] }
-    requires room { length kids.now ≤ vec_capacity statuses.old }
+    requires started { AreStarted kids.now (P.state spawn.old).children started.now }
+    requires room { HasRoomFor kids.now statuses.old.items (vec_capacity statuses.old) }
     ensures { ReportsEach kids.now started.now statuses.new.items
         (P.state spawn.old) (P.state spawn.new) (K.state out.old) (K.state out.new) result }
 {

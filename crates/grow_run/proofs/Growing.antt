@@ -17,6 +17,7 @@ use Rattle.network_laws.proofs.Opening.{opening_version, opening_sound}
 use Rattle.run_ledger.specs.Stands.{Stands}
 use Rattle.run_ledger.proofs.Runs.{world_after-push, history_of-push, event_fits_ledger}
 use Rattle.grow_run.specs.Grow.{ring, next_event, grown_events, Grow}
+use Rattle.grow_run.specs.Growths.{IsAtOpening, HasMade}
 use Rattle.grow_run.specs.Summaries.{HasRoom, summary_of, grown_text, GrowText}
 use Rattle.grow_run.proofs.RingRules.{ring_keeps}
 use Rattle.grow_run.proofs.Summing.{room_less, room_first}
@@ -60,17 +61,17 @@ unfolding world_after
 still_start = refl
 
 module _ {S : Type 0} (stands : S → ServiceState) (ping : Host → Host → Chunk) (n : ℕ) (first : Lcg) where
-  pub grows_none : (g : Growth S) → g.words ≡ first → WorldStands stands g.world (opening ring) → Stands [] g.ledger → g.summary ≡ summary_of [] → Grows stands ping n first 0 g
-  grows_none g words world ledger summary = let all_left : n - 0 ≡ n = omega arith in let back = sym still_start in record {
+  pub grows_none : (g : Growth S) → g.words ≡ first → IsAtOpening stands g → Grows stands ping n first 0 g
+  grows_none g words fresh = let all_left : n - 0 ≡ n = omega arith in let back = sym still_start in record {
     events = [];
     all = ap (λ k. grown_events ping k g.words (world_after [] start)) all_left ∙ (λ i. grown_events ping n (words i) (back i));
     many = refl;
     fits = All-nil (event_fits One);
-    world = subst (WorldStands stands g.world) still_start world;
-    number = world.is.made ∙ opening_made ring;
-    ledger = subst (λ h. Stands h g.ledger) nothing_made ledger;
-    summary = summary ∙ ap summary_of nothing_made;
-    room = room_first g.summary ((50000 - 0) * 2 ^ 64) (omega arith) summary;
+    world = subst (WorldStands stands g.world) still_start fresh.world;
+    number = fresh.world.is.made ∙ opening_made ring;
+    ledger = subst (λ h. Stands h g.ledger) nothing_made fresh.ledger;
+    summary = fresh.summary ∙ ap summary_of nothing_made;
+    room = room_first g.summary ((50000 - 0) * 2 ^ 64) (omega arith) fresh.summary;
   }
 
   -- the lines of the next event can be counted
@@ -128,14 +129,13 @@ module _ {S : Type 0} (stands : S → ServiceState) (ping : Host → Host → Ch
       let none : n - made ≡ 0 = omega (arith, done) in
       sym (append-nil grows.events) ∙ ap (λ x. grows.events ++ x) (sym (none_left ping (n - made) g.words (world_after grows.events (opening ring)) none)) ∙ grows.all
 
-  pub grown_ledger : (made : ℕ) (g : Growth S) → Grows stands ping n first made g → n ≤ made → Stands (history_of (grown_events ping n first (opening ring)) (opening ring)) g.ledger
-  grown_ledger made g grows done = subst (λ es. Stands (history_of es (opening ring)) g.ledger) (all_made made g grows done) grows.ledger
-
-  pub grown_fit : (made : ℕ) (g : Growth S) → Grows stands ping n first made g → n ≤ made → EventsFit One (grown_events ping n first (opening ring))
-  grown_fit made g grows done = subst (EventsFit One) (all_made made g grows done) grows.fits
-
-  pub grown_summary : (made : ℕ) (g : Growth S) → Grows stands ping n first made g → n ≤ made → g.summary ≡ summary_of (history_of (grown_events ping n first (opening ring)) (opening ring))
-  grown_summary made g grows done = grows.summary ∙ ap (λ es. summary_of (history_of es (opening ring))) (all_made made g grows done)
+  -- all of them were made
+  pub grows_all : (made : ℕ) (g : Growth S) → Grows stands ping n first made g → n ≤ made → HasMade ping n first g
+  grows_all made g grows done = let all = all_made made g grows done in record {
+    ledger = subst (λ es. Stands (history_of es (opening ring)) g.ledger) all grows.ledger;
+    summary = grows.summary ∙ ap (λ es. summary_of (history_of es (opening ring))) all;
+    fits = subst (EventsFit One) all grows.fits;
+  }
 
 -- what is written of a network whose pings have the program that was read
 pub output_is : (seed n : ℕ) (code : Program) → grown_text seed n (history_of (Grow (ping_of code) seed n) (opening ring)) (world_after (Grow (ping_of code) seed n) (opening ring)) ≡ GrowText (ping_of code) seed n

@@ -3,3 +3,4 @@ pub mod Events
 pub mod Draws
 pub mod Grow
 pub mod Summaries
+pub mod Growths

@@ -1,17 +1,13 @@
-ghost use Rattle.std.specs.Prelude.{◌≡◌, ◌≤◌, ◌<◌, ◌+◌, ◌-◌, ◌^◌, ◌++◌, [], ℕ, List, map, IfOk, OnOk};
+ghost use Rattle.std.specs.Prelude.{◌≡◌, ◌≤◌, List, map, IfOk, OnOk};
 ghost use Rattle.plan_base.specs.declared.ids.Family.{Family};
 ghost use Rattle.grow_run.specs.Draws.{seeded_generator};
 ghost use Rattle.world_model.specs.declared.lines.Entry.{Entry};
-ghost use Rattle.world_model.specs.World.{WorldState, happens, entries, opening, opening_services};
+ghost use Rattle.world_model.specs.World.{WorldState, opening_services};
 ghost use Rattle.world_model.specs.Counts.{Balanced};
-ghost use Rattle.world_model.specs.Sound.{event_fits, EventsFit};
-ghost use Rattle.link_window.specs.declared.window.Version.TheVariants.{One};
 ghost use Rattle.run_ledger.specs.Stands.{Stands};
 ghost use Rattle.grow_run.specs.Grow as grow;
-ghost use Rattle.grow_run.specs.Summaries.{HasRoom, summary_of, grown_text};
-ghost use Rattle.net_world.specs.Stands.{WorldStands};
-ghost use Rattle.net_world.specs.Running.{AllLeave, IsCountable};
-ghost use Rattle.grow_run.specs.Events.{grown_history};
+ghost use Rattle.grow_run.specs.Growths.{IsAtOpening, CanMake, MakesEvent, HasMade};
+ghost use Rattle.grow_run.specs.Summaries.{summary_of, grown_text};
 ghost use Rattle.grow_run.specs.Pings as spec;
 
 use crate::events::next_event;
@@ -40,9 +36,8 @@ impl<S: Services + Drop> Growth<S> {
     /// The network of a seed before its first event. `services`: one for each host, in the order of hosts.
     pub fn begin(alloc: Global, seed: u64, services: Items<S>) -> Result<Growth<S>, NoMemory>
         requires services { map S.stands services ≡ map opening_services grow.ring.hosts }
-        ensures world { IfOk result (λ g. WorldStands S.stands g.world (opening grow.ring)) }
-        ensures fresh { IfOk result (λ g. (g.words ≡ seeded_generator seed) × (g.summary ≡ summary_of [])) }
-        ensures ledger { IfOk result (λ g. Stands [] g.ledger) }
+        ensures fresh { IfOk result (λ g. IsAtOpening S.stands g) }
+        ensures words { IfOk result (λ g. g.words ≡ seeded_generator seed) }
     {
         let topology = ring(alloc)?;
         let world = World::new(alloc, &topology, services)?;
@@ -59,21 +54,8 @@ impl<S: Services + Drop> Growth<S> {
 impl<S: Services> Growth<S> {
     /// Makes an event and counts its lines.
     fn make(&mut self, alloc: Global, event: &WorldEvent) -> Result<(), NoMemory>
-        requires fits { event_fits self.old.world.version event.now }
-        requires few { self.old.world.made < 2 ^ 32 - 2 }
-        requires counts { IsCountable S.stands self.old.world event.now self.old.ledger }
-        requires room { HasRoom (2 ^ 64) self.old.summary }
-        ensures world { (w : WorldState) → WorldStands S.stands self.old.world w
-            → OnOk result (WorldStands S.stands self.new.world (happens w event.now).world) }
-        ensures counts { (w : WorldState) (h : List Entry) → WorldStands S.stands self.old.world w
-            → AllLeave h w event.now → Stands h self.old.ledger
-            → self.old.summary ≡ summary_of h
-            → OnOk result (Stands (h ++ entries w event.now) self.new.ledger
-            × (self.new.summary ≡ summary_of (h ++ entries w event.now))) }
-        ensures room { (n : ℕ) → HasRoom (n + 2 ^ 64) self.old.summary
-            → OnOk result (HasRoom n self.new.summary) }
-        ensures made { (self.new.words ≡ self.old.words)
-            × OnOk result (self.new.world.made ≡ self.old.world.made + 1) }
+        requires { CanMake S.stands self.old event.now }
+        ensures { MakesEvent S.stands event.now self.old self.new result }
     {
         let late = self.world.is_late(event);
         let lines = self.world.step(alloc, event)?;
@@ -85,15 +67,8 @@ impl<S: Services> Growth<S> {
     /// Makes this many events. Conditions: they are at most 50,000, and nothing has happened in the network.
     pub fn grow(&mut self, alloc: Global, code: &Checked, events: u32) -> Result<(), NoMemory>
         requires few { events ≤ 50000 }
-        requires world { WorldStands S.stands self.old.world (opening grow.ring) }
-        requires ledger { Stands [] self.old.ledger }
-        requires summary { self.old.summary ≡ summary_of [] }
-        ensures ledger { OnOk result
-            (Stands (grown_history (spec.ping code.now) events self.old.words) self.new.ledger) }
-        ensures summary { OnOk result (self.new.summary
-            ≡ summary_of (grown_history (spec.ping code.now) events self.old.words)) }
-        ensures fits { OnOk result (EventsFit One
-            (grow.grown_events (spec.ping code.now) events self.old.words (opening grow.ring))) }
+        requires fresh { IsAtOpening S.stands self.old }
+        ensures { OnOk result (HasMade (spec.ping code.now) events self.old.words self.new) }
     {
         for _made in 0..events {
             let event = next_event(alloc, code, &self.world, &mut self.words)?;

@@ -3,3 +3,4 @@ pub mod ReplayLaws
 pub mod Printing
 pub mod Within
 pub mod Resting
+pub mod Beginning

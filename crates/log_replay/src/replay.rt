@@ -1,12 +1,12 @@
-ghost use Rattle.std.specs.Prelude.{◌≡◌, ◌≤◌, ◌<◌, ◌^◌, length, IfOk, OnOk};
-ghost use Rattle.std.specs.List.{All};
+ghost use Rattle.std.specs.Prelude.{◌≡◌, IfOk};
+ghost use Rattle.network_plan.specs.declared.event.LogEvent.TheVariants as logged;
 ghost use Rattle.network_plan.specs.NodeRules.{KeepsEntry, KeepsLog, KeepsNode, KeepsNodeEvent};
+ghost use Rattle.log_replay.specs.Entries.{IsNewNode, KeepsEntries, GivesLines, PrintsEntry};
 ghost use Rattle.log_replay.specs.Replays.{Prints};
 ghost use Rattle.node_model.specs.State.{NodeState, new_node};
-ghost use Rattle.node_model.specs.Node.{node_step};
-ghost use Rattle.node_core.specs.Stands.{version_of, NodeStands, IsStep};
+ghost use Rattle.node_core.specs.Stands.{version_of, NodeStands};
 ghost use Rattle.node_core.specs.Turns.{IsResting};
-ghost use Rattle.serve_model.specs.Runs.{acts_of, node_by, entries_at, played_entries, node_after};
+ghost use Rattle.serve_model.specs.Runs.{played_entries};
 ghost use Rattle.serve_model.specs.Texts.{lines_text, whole_trace};
 
 use crate::fault::ReplayFault;
@@ -30,13 +30,8 @@ fn event_lines<S: Services>(
 ) -> Result<Bytes, NoMemory>
     requires event { KeepsNodeEvent config.now.version event.now }
     requires version { version_of node.old ≡ config.now.version }
-    ensures same { version_of node.new ≡ version_of node.old }
-    ensures text { (s : NodeState) → NodeStands S.stands node.old s
-        → IfOk result
-        (λ text. text ≡ lines_text config.now.here
-        (entries_at number (node_step s event.now).acts)) }
-    ensures after { (s : NodeState) → NodeStands S.stands node.old s
-        → OnOk result (NodeStands S.stands node.new (node_step s event.now).node) }
+    ensures { GivesLines S.stands config.now.here number (logged.Step event.now)
+        node.old node.new result }
 {
     let acts = node.step(alloc, event)?;
     step_lines(alloc, number, config.here, acts.list.as_slice())
@@ -52,12 +47,7 @@ fn entry_lines<S: Services>(
 ) -> Result<Bytes, NoMemory>
     requires entry { KeepsEntry config.now.version entry.now }
     requires version { version_of node.old ≡ config.now.version }
-    ensures same { version_of node.new ≡ version_of node.old }
-    ensures text { (s : NodeState) → NodeStands S.stands node.old s
-        → IfOk result
-        (λ text. text ≡ lines_text config.now.here (entries_at number (acts_of s entry.now))) }
-    ensures after { (s : NodeState) → NodeStands S.stands node.old s
-        → OnOk result (NodeStands S.stands node.new (node_by s entry.now)) }
+    ensures { GivesLines S.stands config.now.here number entry.now node.old node.new result }
 {
     match entry {
         LogEvent::Step(event) => event_lines(alloc, node, config, number, event),
@@ -77,12 +67,8 @@ fn write_entry<S: Services, K: Sink>(
 ) -> Result<(), ReplayFault>
     requires entry { KeepsEntry config.now.version entry.now }
     requires version { version_of node.old ≡ config.now.version }
-    ensures same { version_of node.new ≡ version_of node.old }
-    ensures lines { (s : NodeState) → NodeStands S.stands node.old s
-        → Prints (lines_text config.now.here (entries_at number (acts_of s entry.now)))
+    ensures { PrintsEntry S.stands config.now.here number entry.now node.old node.new
         (K.state out.old) (K.state out.new) result }
-    ensures after { (s : NodeState) → NodeStands S.stands node.old s
-        → OnOk result (NodeStands S.stands node.new (node_by s entry.now)) }
 {
     let Ok(text) = entry_lines(alloc, node, config, number, entry) else {
         return Err(ReplayFault::NoMemory);
@@ -101,8 +87,7 @@ fn write_entries<S: Services, K: Sink>(
     entries: &[LogEvent],
     out: &mut K,
 ) -> Result<(), ReplayFault>
-    requires keeps { All (KeepsEntry config.now.version) entries.now }
-    requires few { length entries.now ≤ 50000 }
+    requires keeps { KeepsEntries config.now.version entries.now }
     requires version { version_of node.old ≡ config.now.version }
     ensures { (s : NodeState) → NodeStands S.stands node.old s
         → Prints (lines_text config.now.here (played_entries 0 s entries.now))
@@ -143,9 +128,7 @@ pub fn begin_node<S: Services + Drop>(
 ) -> Result<Node<S>, NoMemory>
     requires keeps { KeepsNode config.now }
     requires services { IsResting (S.stands services) }
-    ensures stands { IfOk result
-        (λ node. NodeStands S.stands node (new_node config.now (S.stands services))) }
-    ensures version { IfOk result (λ node. version_of node ≡ config.now.version) }
+    ensures { IfOk result (λ node. IsNewNode S.stands config.now (S.stands services) node) }
 {
     let config = config_again(alloc, config)?;
     Node::new(alloc, config, services)

@@ -9,7 +9,7 @@ ghost use Rattle.run_ledger.specs.Stands.{Stands};
 ghost use Rattle.net_world.specs.Stands.{WorldStands};
 ghost use Rattle.world_model.specs.Counts.{Balanced};
 ghost use Rattle.world_model.specs.Sound.{event_fits};
-ghost use Rattle.net_world.specs.Running.{AllLeave, IsCountable};
+ghost use Rattle.net_world.specs.Running.{AllLeave, CanRun, IsCountable};
 ghost use Rattle.net_world.specs.Printing.{Prints, WaitsFor, PutsPiece};
 ghost use Rattle.net_world.specs.Keeping.{KeepsRun};
 
@@ -220,9 +220,7 @@ pub fn run<S: Services + Drop, K: Sink>(
     services: Items<S>,
     out: &mut K,
 ) -> Result<(), RunFault>
-    requires rules { KeepsRules schedule.now }
-    requires services { map S.stands services
-        ≡ map spec.opening_services schedule.now.topology.hosts }
+    requires { CanRun S.stands schedule.now services }
     ensures prints { Prints
         (run_text schedule.now.frames schedule.now.events (opening schedule.now.topology))
         (K.state out.old) (K.state out.new) result }

@@ -19,7 +19,7 @@ use Rattle.node_serve.specs.Stays.{StandsFor}
 use Rattle.node_serve.specs.Sendings.{SendsNone}
 use Rattle.node_serve.specs.Steps.{Written, in_log, in_trace}
 use Rattle.node_serve.specs.Desks.{Desk, desk, seen_at, IsSeen, OthersStay, OnlyServes, KeepsDesk, Faults}
-use Rattle.node_serve.specs.Goes.{Goes, MakesStep}
+use Rattle.node_serve.specs.Goes.{IsServing, Goes, MakesStep}
 use Rattle.node_serve.proofs.Following.{reached_same, leaves_then, leaves_as, stopped_first, stopped_same, tick_over, tick_stopped}
 use Rattle.node_serve.proofs.MakeLaws.{made_reached, step_stopped, step_made, stands_marked}
 use Rattle.node_serve.proofs.Looping.{GoesUp, loop_stops}
@@ -70,6 +70,10 @@ keeps_both a b c u v = record {
   bound = v.bound ∙ u.bound;
   binds = v.binds ∙ u.binds;
 }
+
+-- the log is still being written, and the peers are still bound
+pub still_serving : (cfg : ServeConfig) (a b : Desk) → KeepsDesk a b → IsServing cfg a → IsServing cfg b
+still_serving cfg a b k s = record { writing = subst IsTrue (sym k.writing) s.writing; bound = k.bound ∙ s.bound }
 
 pub seen_on : (a b : Desk) → OnlyServes a b → IsSeen a → IsSeen b
 seen_on a b k s = (subst IsTrue (sym k.files.observable) s.0, subst IsTrue (sym k.out) s.1, subst IsTrue (sym k.link) s.2)

@@ -16,3 +16,4 @@ pub mod MakeLaws
 pub mod Again
 pub mod Moments
 pub mod Injecting
+pub mod Coming

@@ -18,7 +18,7 @@ use Rattle.serve_model.specs.Follow.{entry_of}
 use Rattle.node_serve.specs.declared.steps.StepOutcome.TheVariants.{Lost, Took}
 use Rattle.node_serve.specs.declared.steps.StepTexts.{StepTexts}
 use Rattle.node_serve.specs.Shown.{IsReadable}
-use Rattle.node_serve.specs.Steps.{was_lost, frame_of, Written}
+use Rattle.node_serve.specs.Steps.{was_lost, frame_of, TookTexts, Written}
 
 pub written_lost : {S : Type 0} (stands : S → ServiceState) (k : NodeConfig) (n : ℕ) (s : NodeState) (e : Event) (texts : StepTexts) (new : Node S) → NodeStands stands new s
     → texts.line ≡ entry_text entry.Lost → texts.lines ≡ lines_text k.here (entries_at n (NoMemory ∷ [])) → texts.made ≡ Lost → Written stands k n s e texts new
@@ -48,6 +48,6 @@ lost_result stands k n s e new (Ok t) h line lines made = written_lost stands k 
 lost_result stands k n s e new (Err x) h line lines made = tt
 
 pub took_result : {S E : Type 0} (stands : S → ServiceState) (k : NodeConfig) (n : ℕ) (s : NodeState) (x e : Event) (acts : Acts) (new : Node S) (result : Result StepTexts E) → x ≡ e → IsStep stands (node_step s x) acts new
-    → IfOk result (λ t. (t.line ≡ entry_text (entry.Step x)) × IsReadable k.version (entry.Step x)) → IfOk result (λ t. t.lines ≡ lines_text k.here (entries_at n acts.list)) → IfOk result (λ t. t.made ≡ Took acts.frame) → IfOk result (λ t. Written stands k n s e t new)
-took_result stands k n s x e acts new (Ok t) same h line lines made = written_took stands k n s x e acts t new same h line.0 lines made line.1
-took_result stands k n s x e acts new (Err y) same h line lines made = tt
+    → IfOk result (λ t. TookTexts k n x acts t) → IfOk result (λ t. Written stands k n s e t new)
+took_result stands k n s x e acts new (Ok t) same h took = written_took stands k n s x e acts t new same h took.line took.lines took.made took.readable
+took_result stands k n s x e acts new (Err y) same h took = tt

@@ -1,17 +1,41 @@
 -- How each call of a serving node goes on from a run.
-use Rattle.std.specs.Prelude.{◌≡◌, ℕ, IsTrue, Result, MatchResult}
+use Rattle.std.specs.Prelude.{◌≡◌, ℕ, ◌≤◌, ◌<◌, IsTrue, List, length, Result, MatchResult}
+use Rattle.plan_base.specs.declared.ids.Dev.{Dev}
 use Rattle.network_plan.specs.declared.serve.ServeConfig.{ServeConfig}
 use Rattle.network_plan.specs.declared.event.Event.{Event}
+use Rattle.network_plan.specs.NodeRules.{KeepsServe}
 use Rattle.node_io.specs.Clocks.{Tells}
-use Rattle.node_io.specs.Links.{next_heard}
+use Rattle.node_io.specs.Links.{HasPeer, next_heard}
 use Rattle.service_api.specs.Services.{ServiceState}
-use Rattle.serve_model.specs.Runs.{Running, Action, make, turn, turns, peers_of}
+use Rattle.serve_model.specs.Runs.{Running, Action, make, hear, turn, turns, peers_of}
 use Rattle.node_serve.specs.Shown.{Start, Shows, Stopped, Leaves, UsesOne, UsesUpTo}
 use Rattle.node_serve.specs.Stays.{StandsFor, Makes}
 use Rattle.node_serve.specs.Desks.{Desk, Serving, desk_of, seen_at, IsSeen, KeepsDesk, Faults}
 use Rattle.node_serve.specs.declared.server.Server.{Server}
 use Rattle.node_serve.specs.declared.steps.StepOutcome.{StepOutcome}
 use Rattle.node_serve.specs.declared.fault.ServeFault.{ServeFault}
+
+-- the log is being written, and the link has the peers of the node
+pub record IsServing (cfg : ServeConfig) (d : Desk) : Type 0 where
+  pub writing : IsTrue d.files.writing
+  pub bound : d.link.bound ≡ peers_of cfg
+
+-- a device from 1 to 8
+pub record IsOutward (d : Dev) : Type 0 where
+  pub device : d.0 ≤ 8
+  pub other : 0 < d.0
+
+-- one on which the node has a peer
+pub record IsToPeer (cfg : ServeConfig) (d : Dev) : Type 0 where
+  pub outward : IsOutward d
+  pub peer : HasPeer (peers_of cfg) d
+
+-- turns can be made: the node is serving by its rules, and there is room for what its link hears
+pub record CanTurn (cfg : ServeConfig) (d : Desk) (room : List ℕ) : Type 0 where
+  pub writing : IsTrue d.files.writing
+  pub bound : d.link.bound ≡ peers_of cfg
+  pub keeps : KeepsServe cfg
+  pub room : length room ≡ 16513
 
 -- a call went on from a run as this action does
 pub record Goes {S T : Type 0} (stands : S → ServiceState) (cfg : ServeConfig) (act : Action) (server after : Server S)
@@ -28,6 +52,19 @@ pub record MakesStep {S : Type 0} (stands : S → ServiceState) (cfg : ServeConf
   pub faults : Faults old new result
   pub run : IsSeen old → (base : Start) (r : Running) → StandsFor stands server r → Shows cfg base (seen_at old) r
       → MatchResult result (λ made. Makes stands cfg base (seen_at new) r e made after) (λ _. Stopped cfg base (seen_at new) r (make e))
+
+-- a call went on so, and heard nothing
+pub record GoesUnheard {S T : Type 0} (stands : S → ServiceState) (cfg : ServeConfig) (act : Action) (server after : Server S)
+    (old new : Desk) (result : Result T ServeFault) : Type 0 where
+  pub goes : Goes stands cfg act server after old new result
+  pub script : new.link.script ≡ old.link.script
+
+-- what the link heard arrived; a call that failed may have used no arrival
+pub record GoesHearing {S T : Type 0} (stands : S → ServiceState) (cfg : ServeConfig) (server after : Server S)
+    (old new : Desk) (room room_new : List ℕ) (result : Result T ServeFault) : Type 0 where
+  pub goes : Goes stands cfg (hear (next_heard (peers_of cfg) old.link.script)) server after old new result
+  pub script : IsTrue old.link.observable → UsesOne old.link.script new.link.script result
+  pub room : length room_new ≡ length room
 
 -- a turn was made at the time that the clock told, with what the link heard; a failed one may have used no arrival
 pub record GoesTurn {S T : Type 0} (stands : S → ServiceState) (cfg : ServeConfig) (number : ℕ) (server after : Server S)

@@ -4,6 +4,7 @@ use Rattle.plan_base.specs.declared.name.Name.{Name}
 use Rattle.link_window.specs.declared.window.Version.{Version}
 use Rattle.link_window.specs.declared.window.Version.TheVariants.{One, Two}
 use Rattle.network_plan.specs.declared.serve.ServeConfig.{ServeConfig}
+use Rattle.network_plan.specs.NodeRules.{KeepsServe}
 use Rattle.service_api.specs.Services.{ServiceState}
 use Rattle.node_io.specs.Clocks.{ClockState, Tells}
 use Rattle.node_model.specs.State.{new_node}
@@ -14,6 +15,11 @@ use Rattle.node_serve.specs.Serves.{Serves}
 -- a configuration whose node begins at this moment
 abbrev pub booted_config : ℕ → ServeConfig → ServeConfig
 booted_config boot cfg = record cfg { node = record cfg.node { boot = boot } }
+
+-- a configuration of version 2 that keeps its rules
+pub record KeepsTwo (cfg : ServeConfig) : Type 0 where
+  pub keeps : KeepsServe cfg
+  pub two : cfg.node.version ≡ Two
 
 -- a node of version 2 begins at the next answer of the clock; one of version 1 asks for none, and its moment is 0
 abbrev pub Asks : Version → ClockState → ClockState → ℕ → Type 0

@@ -1,5 +1,6 @@
 -- What a step of a serving node gives.
-use Rattle.std.specs.Prelude.{◌≡◌, ℕ, ◌≤◌, ◌⊎◌, Bool, true, false, IsTrue, List, ◌++◌, Option, None, Result, Ok, Err}
+use Rattle.std.specs.Prelude.{◌≡◌, ℕ, ◌≤◌, ◌<◌, ◌⊎◌, Bool, true, false, IsTrue, List, ◌++◌, length, Option, None, IfSome, Result, Ok, Err}
+use Rattle.link_window.specs.declared.window.Version.{Version}
 use Rattle.plan_base.specs.declared.ids.Dev.{Dev}
 use Rattle.node_io.specs.FileMaps.{FileMap, WritesMore}
 use Rattle.node_serve.specs.Fronts.{AppendsFront, WritesFront}
@@ -10,8 +11,12 @@ use Rattle.node_io.specs.Links.{LinkState}
 use Rattle.packet_frame.specs.declared.frame.PlainStamped.{PlainStamped}
 use Rattle.network_plan.specs.declared.node.NodeConfig.{NodeConfig}
 use Rattle.network_plan.specs.declared.event.Event.{Event}
+use Rattle.network_plan.specs.declared.event.LogEvent.TheVariants.{Step}
+use Rattle.network_plan.specs.NodeRules.{KeepsNodeEvent}
 use Rattle.service_api.specs.Services.{ServiceState}
 use Rattle.node_files.specs.LogTexts.{entry_text}
+use Rattle.node_model.specs.declared.acts.Acts.{Acts}
+use Rattle.node_model.specs.Fits.{comes_within}
 use Rattle.node_model.specs.State.{NodeState}
 use Rattle.node_model.specs.Node.{node_step}
 use Rattle.node_core.specs.declared.node.Node.{Node}
@@ -36,6 +41,24 @@ was_lost (Took frame) = false
 abbrev pub frame_of : StepOutcome → Option PlainStamped
 frame_of Lost = None
 frame_of (Took frame) = frame
+
+-- an event that found memory keeps the limits of its plan, and may come to a node of this version
+pub record MayCome (plan node : Version) (event : Option Event) : Type 0 where
+  pub keeps : IfSome event (KeepsNodeEvent plan)
+  pub within : IfSome event (comes_within node)
+
+-- bytes that a link hears come on a device up to 8, and are 1 to 16,513
+pub record HeardFits (d : Dev) (bytes : List ℕ) : Type 0 where
+  pub device : d.0 ≤ 8
+  pub some : 0 < length bytes
+  pub few : length bytes ≤ 16513
+
+-- the texts of a step that was made, which did these acts
+pub record TookTexts (config : NodeConfig) (number : ℕ) (e : Event) (acts : Acts) (texts : StepTexts) : Type 0 where
+  pub line : texts.line ≡ entry_text (Step e)
+  pub readable : IsReadable config.version (Step e)
+  pub lines : texts.lines ≡ lines_text config.here (entries_at number acts.list)
+  pub made : texts.made ≡ Took acts.frame
 
 -- a step with this number of a node that began so: its log line, its lines, the node afterwards, and the frame that it took
 pub record Written {S : Type 0} (stands : S → ServiceState) (config : NodeConfig) (number : ℕ) (s : NodeState) (e : Event) (texts : StepTexts) (new : Node S) : Type 0 where

@@ -1,9 +1,9 @@
-ghost use Rattle.std.specs.Prelude.{◌≡◌, ◌≤◌, ◌<◌, ◌==◌, IsTrue};
+ghost use Rattle.std.specs.Prelude.{◌≡◌, ◌==◌};
 ghost use Rattle.std.specs.List.{list_any};
 ghost use Rattle.node_io.specs.Links.{has_peer, HasPeer};
 ghost use Rattle.serve_model.specs.Runs as spec;
 ghost use Rattle.node_serve.specs.Desks.{desk};
-ghost use Rattle.node_serve.specs.Goes.{Goes};
+ghost use Rattle.node_serve.specs.Goes.{IsServing, IsOutward, IsToPeer, GoesUnheard};
 ghost use Rattle.node_serve.specs.Steps.{SendsTaken};
 
 use crate::fault::ServeFault;
@@ -62,15 +62,12 @@ impl<S: Services> Server<S> {
         out: &mut K,
         dev: Dev,
     ) -> Result<(), ServeFault>
-        requires writing { IsTrue (F.state files.old).writing }
-        requires bound { (L.state link.old).bound ≡ spec.peers_of cfg.now }
-        requires peer { HasPeer (spec.peers_of cfg.now) dev }
-        requires device { dev.0 ≤ 8 }
-        requires other { 0 < dev.0 }
-        ensures goes { Goes S.stands cfg.now (spec.take_send dev) self.old self.new
+        requires serving { IsServing cfg.now
+            (desk (F.state files.old) (K.state out.old) (L.state link.old)) }
+        requires device { IsToPeer cfg.now dev }
+        ensures { GoesUnheard S.stands cfg.now (spec.take_send dev) self.old self.new
             (desk (F.state files.old) (K.state out.old) (L.state link.old))
             (desk (F.state files.new) (K.state out.new) (L.state link.new)) result }
-        ensures script { (L.state link.new).script ≡ (L.state link.old).script }
     {
         if self.held {
             return Ok(());
@@ -96,15 +93,12 @@ impl<S: Services> Server<S> {
         dev: Dev,
         count: u32,
     ) -> Result<(), ServeFault>
-        requires writing { IsTrue (F.state files.old).writing }
-        requires bound { (L.state link.old).bound ≡ spec.peers_of cfg.now }
-        requires peer { HasPeer (spec.peers_of cfg.now) dev }
-        requires device { dev.0 ≤ 8 }
-        requires other { 0 < dev.0 }
-        ensures goes { Goes S.stands cfg.now (spec.repeat_send dev count) self.old self.new
+        requires serving { IsServing cfg.now
+            (desk (F.state files.old) (K.state out.old) (L.state link.old)) }
+        requires device { IsToPeer cfg.now dev }
+        ensures { GoesUnheard S.stands cfg.now (spec.repeat_send dev count) self.old self.new
             (desk (F.state files.old) (K.state out.old) (L.state link.old))
             (desk (F.state files.new) (K.state out.new) (L.state link.new)) result }
-        ensures script { (L.state link.new).script ≡ (L.state link.old).script }
     {
         for _ in 0..count {
             if let Err(fault) = self.take_send(alloc, cfg, link, files, out, dev) {
@@ -124,15 +118,13 @@ impl<S: Services> Server<S> {
         out: &mut K,
         dev: Dev,
     ) -> Result<(), ServeFault>
-        requires writing { IsTrue (F.state files.old).writing }
-        requires bound { (L.state link.old).bound ≡ spec.peers_of cfg.now }
-        requires device { dev.0 ≤ 8 }
-        requires other { 0 < dev.0 }
-        ensures goes { Goes S.stands cfg.now (spec.flush_device (spec.peers_of cfg.now) dev)
+        requires serving { IsServing cfg.now
+            (desk (F.state files.old) (K.state out.old) (L.state link.old)) }
+        requires device { IsOutward dev }
+        ensures { GoesUnheard S.stands cfg.now (spec.flush_device (spec.peers_of cfg.now) dev)
             self.old self.new
             (desk (F.state files.old) (K.state out.old) (L.state link.old))
             (desk (F.state files.new) (K.state out.new) (L.state link.new)) result }
-        ensures script { (L.state link.new).script ≡ (L.state link.old).script }
     {
         if !has_peer(cfg, dev) {
             return Ok(());
@@ -150,13 +142,12 @@ impl<S: Services> Server<S> {
         files: &mut F,
         out: &mut K,
     ) -> Result<(), ServeFault>
-        requires writing { IsTrue (F.state files.old).writing }
-        requires bound { (L.state link.old).bound ≡ spec.peers_of cfg.now }
-        ensures goes { Goes S.stands cfg.now (spec.flush_to (spec.peers_of cfg.now) 8)
+        requires { IsServing cfg.now
+            (desk (F.state files.old) (K.state out.old) (L.state link.old)) }
+        ensures { GoesUnheard S.stands cfg.now (spec.flush_to (spec.peers_of cfg.now) 8)
             self.old self.new
             (desk (F.state files.old) (K.state out.old) (L.state link.old))
             (desk (F.state files.new) (K.state out.new) (L.state link.new)) result }
-        ensures script { (L.state link.new).script ≡ (L.state link.old).script }
     {
         for number in 0..8 {
             if let Err(fault) = self.flush_device(alloc, cfg, link, files, out, Dev(number + 1)) {
@@ -175,12 +166,12 @@ impl<S: Services> Server<S> {
         files: &mut F,
         out: &mut K,
     ) -> Result<(), ServeFault>
-        requires writing { IsTrue (F.state files.old).writing }
-        requires bound { (L.state link.old).bound ≡ spec.peers_of cfg.now }
-        ensures goes { Goes S.stands cfg.now (spec.flush (spec.peers_of cfg.now)) self.old self.new
+        requires { IsServing cfg.now
+            (desk (F.state files.old) (K.state out.old) (L.state link.old)) }
+        ensures { GoesUnheard S.stands cfg.now (spec.flush (spec.peers_of cfg.now))
+            self.old self.new
             (desk (F.state files.old) (K.state out.old) (L.state link.old))
             (desk (F.state files.new) (K.state out.new) (L.state link.new)) result }
-        ensures script { (L.state link.new).script ≡ (L.state link.old).script }
     {
         self.held = false;
         self.flush_all(alloc, cfg, link, files, out)
@@ -195,13 +186,12 @@ impl<S: Services> Server<S> {
         files: &mut F,
         out: &mut K,
     ) -> Result<(), ServeFault>
-        requires writing { IsTrue (F.state files.old).writing }
-        requires bound { (L.state link.old).bound ≡ spec.peers_of cfg.now }
-        ensures goes { Goes S.stands cfg.now (spec.end_turn (spec.peers_of cfg.now))
+        requires { IsServing cfg.now
+            (desk (F.state files.old) (K.state out.old) (L.state link.old)) }
+        ensures { GoesUnheard S.stands cfg.now (spec.end_turn (spec.peers_of cfg.now))
             self.old self.new
             (desk (F.state files.old) (K.state out.old) (L.state link.old))
             (desk (F.state files.new) (K.state out.new) (L.state link.new)) result }
-        ensures script { (L.state link.new).script ≡ (L.state link.old).script }
     {
         match self.loop_back(alloc, cfg, files, out) {
             Ok(()) => self.flush(alloc, cfg, link, files, out),

@@ -1,11 +1,11 @@
 ghost use Rattle.link_window.specs.declared.window.Version.{Version};
-ghost use Rattle.std.specs.Prelude.{◌≡◌, ◌≤◌, ◌<◌, Some, IsTrue, IfSome, length};
-ghost use Rattle.network_plan.specs.NodeRules.{KeepsNodeEvent, KeepsServe};
-ghost use Rattle.node_io.specs.Links.{LinkState, next_heard};
+ghost use Rattle.std.specs.Prelude.{◌≡◌, Some, IsTrue, IfSome};
+ghost use Rattle.network_plan.specs.NodeRules.{KeepsNodeEvent};
+ghost use Rattle.node_io.specs.Links.{LinkState};
 ghost use Rattle.serve_model.specs.Runs as spec;
 ghost use Rattle.node_serve.specs.Desks.{desk};
-ghost use Rattle.node_serve.specs.Goes.{Goes};
-ghost use Rattle.node_serve.specs.Shown.{UsesOne};
+ghost use Rattle.node_serve.specs.Goes.{CanTurn, Goes, GoesHearing};
+ghost use Rattle.node_serve.specs.Steps.{HeardFits};
 
 use crate::fault::ServeFault;
 use crate::server::Server;
@@ -17,9 +17,7 @@ use std::alloc::Global;
 
 /// The event of an arrival, where its bytes find memory.
 fn arrival(alloc: Global, dev: Dev, bytes: &[u8]) -> Option<Event>
-    requires device { dev.0 ≤ 8 }
-    requires some { 0 < length bytes.now }
-    requires few { length bytes.now ≤ 16513 }
+    requires { HeardFits dev bytes.now }
     ensures event { IfSome result (λ e. e ≡ spec.arrival (dev, bytes.now)) }
     ensures keeps { (v : Version) → IfSome result (KeepsNodeEvent v) }
 {
@@ -42,9 +40,7 @@ impl<S: Services> Server<S> {
         bytes: &[u8],
     ) -> Result<(), ServeFault>
         requires writing { IsTrue (F.state files.old).writing }
-        requires device { dev.0 ≤ 8 }
-        requires some { 0 < length bytes.now }
-        requires few { length bytes.now ≤ 16513 }
+        requires arrival { HeardFits dev bytes.now }
         ensures { (l : LinkState) → Goes S.stands cfg.now (spec.hear (Some (dev, bytes.now)))
             self.old self.new
             (desk (F.state files.old) (K.state out.old) l)
@@ -64,18 +60,12 @@ impl<S: Services> Server<S> {
         out: &mut K,
         buf: &mut [u8],
     ) -> Result<(), ServeFault>
-        requires writing { IsTrue (F.state files.old).writing }
-        requires bound { (L.state link.old).bound ≡ spec.peers_of cfg.now }
-        requires keeps { KeepsServe cfg.now }
-        requires room { length buf.old ≡ 16513 }
-        ensures goes { Goes S.stands cfg.now
-            (spec.hear (next_heard (spec.peers_of cfg.now) (L.state link.old).script))
-            self.old self.new
+        requires { CanTurn cfg.now
+            (desk (F.state files.old) (K.state out.old) (L.state link.old)) buf.old }
+        ensures { GoesHearing S.stands cfg.now self.old self.new
             (desk (F.state files.old) (K.state out.old) (L.state link.old))
-            (desk (F.state files.new) (K.state out.new) (L.state link.new)) result }
-        ensures script { IsTrue (L.state link.old).observable
-            → UsesOne (L.state link.old).script (L.state link.new).script result }
-        ensures room { length buf.new ≡ length buf.old }
+            (desk (F.state files.new) (K.state out.new) (L.state link.new))
+            buf.old buf.new result }
     {
         match link.recv(buf) {
             Got::Frame(dev, count) => self.arrive(alloc, cfg, files, out, dev, &buf[..count]),

@@ -1,8 +1,6 @@
-ghost use Rattle.std.specs.Prelude.{◌≡◌, IsTrue, length};
-ghost use Rattle.network_plan.specs.NodeRules.{KeepsServe};
-ghost use Rattle.serve_model.specs.Runs as spec;
-ghost use Rattle.node_serve.specs.Desks.{serving};
-ghost use Rattle.node_serve.specs.Goes.{GoesTurn, GoesTurns};
+ghost use Rattle.std.specs.Prelude.{◌≡◌, length};
+ghost use Rattle.node_serve.specs.Desks.{desk, serving};
+ghost use Rattle.node_serve.specs.Goes.{CanTurn, GoesTurn, GoesTurns};
 
 use crate::fault::ServeFault;
 use crate::server::Server;
@@ -24,10 +22,8 @@ impl<S: Services> Server<S> {
         buf: &mut [u8],
         number: u32,
     ) -> Result<(), ServeFault>
-        requires writing { IsTrue (F.state files.old).writing }
-        requires bound { (L.state link.old).bound ≡ spec.peers_of cfg.now }
-        requires keeps { KeepsServe cfg.now }
-        requires room { length buf.old ≡ 16513 }
+        requires { CanTurn cfg.now
+            (desk (F.state files.old) (K.state out.old) (L.state link.old)) buf.old }
         ensures goes { GoesTurn S.stands cfg.now number self.old self.new
             (serving (F.state files.old) (K.state out.old) (L.state link.old) (C.state clock.old))
             (serving (F.state files.new) (K.state out.new) (L.state link.new) (C.state clock.new))
@@ -56,10 +52,8 @@ impl<S: Services> Server<S> {
         buf: &mut [u8],
         turns: u32,
     ) -> Result<(), ServeFault>
-        requires writing { IsTrue (F.state files.old).writing }
-        requires bound { (L.state link.old).bound ≡ spec.peers_of cfg.now }
-        requires keeps { KeepsServe cfg.now }
-        requires room { length buf.old ≡ 16513 }
+        requires { CanTurn cfg.now
+            (desk (F.state files.old) (K.state out.old) (L.state link.old)) buf.old }
         ensures { GoesTurns S.stands cfg.now turns self.old self.new
             (serving (F.state files.old) (K.state out.old) (L.state link.old) (C.state clock.old))
             (serving (F.state files.new) (K.state out.new) (L.state link.new) (C.state clock.new))

@@ -1,14 +1,12 @@
 ghost use Rattle.std.specs.Prelude.{◌≡◌, ◌+◌, IsTrue, IfSome, IfOk};
 ghost use Rattle.network_plan.specs.declared.event.Event.{Event as EventOf};
-ghost use Rattle.network_plan.specs.NodeRules.{KeepsNodeEvent};
 ghost use Rattle.node_core.specs.Stands.{version_of};
-ghost use Rattle.node_model.specs.Fits.{comes_within};
 ghost use Rattle.node_io.specs.Links.{LinkState};
 ghost use Rattle.serve_model.specs.Runs as spec;
 ghost use Rattle.node_serve.specs.Desks.{desk};
 ghost use Rattle.node_serve.specs.Goes.{Goes, MakesStep};
 ghost use Rattle.node_serve.specs.Sendings.{SendsNone};
-ghost use Rattle.node_serve.specs.Steps.{WritesStep};
+ghost use Rattle.node_serve.specs.Steps.{MayCome, WritesStep};
 
 use crate::fault::ServeFault;
 use crate::steps::{StepOutcome, try_step};
@@ -65,8 +63,7 @@ impl<S: Services> Server<S> {
         event: &Option<Event>,
     ) -> Result<StepOutcome, ServeFault>
         requires writing { IsTrue (F.state files.old).writing }
-        requires event { IfSome event.now (KeepsNodeEvent cfg.now.node.version) }
-        requires within { IfSome event.now (comes_within (version_of self.old.node)) }
+        requires event { MayCome cfg.now.node.version (version_of self.old.node) event.now }
         ensures { (l : LinkState) (e : EventOf) → IfSome event.now (λ x. x ≡ e)
             → MakesStep S.stands cfg.now e self.old self.new
             (desk (F.state files.old) (K.state out.old) l)
@@ -95,8 +92,7 @@ impl<S: Services> Server<S> {
         event: &Option<Event>,
     ) -> Result<(), ServeFault>
         requires writing { IsTrue (F.state files.old).writing }
-        requires event { IfSome event.now (KeepsNodeEvent cfg.now.node.version) }
-        requires within { IfSome event.now (comes_within (version_of self.old.node)) }
+        requires event { MayCome cfg.now.node.version (version_of self.old.node) event.now }
         ensures { (l : LinkState) (e : EventOf) → IfSome event.now (λ x. x ≡ e) → SendsNone e
             → Goes S.stands cfg.now (spec.make e) self.old self.new
             (desk (F.state files.old) (K.state out.old) l)

@@ -1,12 +1,12 @@
-ghost use Rattle.std.specs.Prelude.{◌≡◌, IfOk, IsTrue, length};
-ghost use Rattle.link_window.specs.declared.window.Version.TheVariants as version;
+ghost use Rattle.std.specs.Prelude.{◌≡◌, IfOk};
 ghost use Rattle.network_plan.specs.NodeRules.{KeepsServe};
 ghost use Rattle.node_core.specs.Turns.{IsResting};
 ghost use Rattle.node_model.specs.State.{new_node};
-ghost use Rattle.serve_model.specs.Runs.{opened_run, peers_of};
-ghost use Rattle.node_serve.specs.Desks.{serving};
+ghost use Rattle.serve_model.specs.Runs.{opened_run};
+ghost use Rattle.node_serve.specs.Desks.{desk, serving};
+ghost use Rattle.node_serve.specs.Goes.{CanTurn};
 ghost use Rattle.node_serve.specs.Moments as moments;
-ghost use Rattle.node_serve.specs.Moments.{ServesFrom};
+ghost use Rattle.node_serve.specs.Moments.{KeepsTwo, ServesFrom};
 ghost use Rattle.node_serve.specs.Serves.{Finishes, Serves};
 ghost use Rattle.node_serve.specs.Stays.{StandsFor};
 
@@ -36,10 +36,8 @@ impl<S: Services> Server<S> {
         room: &mut [u8],
         turns: u32,
     ) -> Result<(), ServeFault>
-        requires writing { IsTrue (F.state files.old).writing }
-        requires bound { (L.state link.old).bound ≡ peers_of cfg.now }
-        requires keeps { KeepsServe cfg.now }
-        requires room { length room.old ≡ 16513 }
+        requires { CanTurn cfg.now
+            (desk (F.state files.old) (K.state out.old) (L.state link.old)) room.old }
         ensures { Finishes S.stands cfg.now turns self.old
             (serving (F.state files.old) (K.state out.old) (L.state link.old) (C.state clock.old))
             (serving (F.state files.new) (K.state out.new) (L.state link.new) (C.state clock.new))
@@ -64,7 +62,8 @@ fn open<S: Services + Drop>(
     requires keeps { KeepsServe cfg.now }
     requires services { IsResting (S.stands services) }
     ensures { IfOk result
-        (λ server. StandsFor S.stands server (opened_run (new_node cfg.now.node (S.stands services)))) }
+        (λ server. StandsFor S.stands server
+        (opened_run (new_node cfg.now.node (S.stands services)))) }
 {
     Ok(Server {
         node: begin_node(alloc, &cfg.node, services)?,
@@ -125,8 +124,7 @@ fn injects_again(alloc: Global, at: &[Inject]) -> Result<Injects, NoMemory>
 
 /// This configuration with another moment at which the node begins. Conditions: it keeps the rules, and is of version 2.
 fn with_boot(alloc: Global, cfg: &ServeConfig, boot: u64) -> Result<ServeConfig, NoMemory>
-    requires keeps { KeepsServe cfg.now }
-    requires two { cfg.now.node.version ≡ version.Two }
+    requires { KeepsTwo cfg.now }
     ensures is { IfOk result (λ c. c ≡ moments.booted_config boot cfg.now) }
     ensures keeps { IfOk result KeepsServe }
 {
@@ -155,8 +153,7 @@ fn serve_booted<S: Services + Drop, L: Link, C: Clock, F: Files, K: Sink>(
     out: &mut K,
     turns: u32,
 ) -> Result<(), ServeFault>
-    requires keeps { KeepsServe cfg.now }
-    requires two { cfg.now.node.version ≡ version.Two }
+    requires config { KeepsTwo cfg.now }
     requires services { IsResting (S.stands services) }
     ensures { ServesFrom cfg.now (S.stands services) turns
         (serving (F.state files.old) (K.state out.old) (L.state link.old) (C.state clock.old))

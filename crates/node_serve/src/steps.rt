@@ -11,7 +11,7 @@ ghost use Rattle.node_files.specs.LogTexts.{entry_text};
 ghost use Rattle.serve_model.specs.Runs.{entries_at};
 ghost use Rattle.serve_model.specs.Texts.{lines_text};
 ghost use Rattle.node_serve.specs.Shown.{IsReadable};
-ghost use Rattle.node_serve.specs.Steps.{Written};
+ghost use Rattle.node_serve.specs.Steps.{TookTexts, Written};
 ghost use Rattle.node_serve.specs.declared.steps.StepOutcome.TheVariants as stepped;
 
 use log_replay::{lost_lines, step_lines};
@@ -86,11 +86,7 @@ fn took_texts(
     acts: Acts,
 ) -> Result<StepTexts, NoMemory>
     requires { KeepsNodeEvent config.now.version event.now }
-    ensures line { IfOk result (λ texts. (texts.line ≡ entry_text (entry.Step event.now))
-        × IsReadable config.now.version (entry.Step event.now)) }
-    ensures lines { IfOk result
-        (λ texts. texts.lines ≡ lines_text config.now.here (entries_at number acts.list)) }
-    ensures made { IfOk result (λ texts. texts.made ≡ stepped.Took acts.frame) }
+    ensures { IfOk result (λ texts. TookTexts config.now number event.now acts texts) }
 {
     let Acts { list, frame } = acts;
     let line = event_text(alloc, event)?;

@@ -1,11 +1,10 @@
-use Rattle.std.proofs.Common.{◌≡◌, ◌∙◌, ◌+◌, ◌<◌, ℕ, IsTrue, Some, length, take, drop, get_or, slice_get, refl, sym, ap, subst, arith, rules}
+use Rattle.std.proofs.Common.{◌≡◌, ◌∙◌, ◌+◌, ◌<◌, IsTrue, Some, length, drop, get_or, slice_get, refl, sym, ap, subst, arith, rules}
 use Rattle.std.proofs.lemmas.List.{length_push}
 use Rattle.node_io.specs.Causes.{HasRisen}
 use Rattle.node_io.specs.declared.spawner.Child.{Child}
 use Rattle.node_io.proofs.SpawnerLaws.{kept_same, kept_both}
 use Rattle.node_io.specs.Sinks.{Writes}
 use Rattle.fleet_run.specs.Fleets.{fleet_text}
-use Rattle.fleet_run.specs.Children.{AreNumbered, AreOpen, LeavesOpen}
 use Rattle.fleet_run.proofs.ChildLaws.{next_is_open, next_waited, leaves, numbered_at}
 use Rattle.fleet_run.proofs.FleetLaws.{no_lines, given_none, given_next, lines_next, lines_fail, put_ok, put_failed}
 use Rattle.fleet_run.proofs.reports.report_all.Goals as goal
@@ -14,24 +13,25 @@ pub loop-i-init : goal.loop-i-init
 loop-i-init g c =
     let old = g.P.Spawner.state c.args.spawn.now in
     let out = g.K.Sink.state c.args.out.now in
+    let none = c.requires.room.none in
     record {
       within = omega arith;
-      count = ap length c.requires.none;
+      count = ap length none;
       room = search rules;
       kept = kept_same old;
       starts = refl;
       running = λ base o. o;
-      given = λ t n a. given_none n old.statuses c.args.statuses.now.items c.requires.none;
-      lines = subst (λ ss. Writes out out (fleet_text c.args.kids.now ss)) (sym c.requires.none) (no_lines c.args.kids.now out);
+      given = λ t n a. given_none n old.statuses c.args.statuses.now.items none;
+      lines = subst (λ ss. Writes out out (fleet_text c.args.kids.now ss)) (sym none) (no_lines c.args.kids.now out);
     }
 
 pub wait-requires : goal.wait-requires
 wait-requires g c =
     let none : Child = record { 0 = 0 } in
     let i = c.loop-i.i in
-    let o = c.requires.open in
-    let inside : i < length c.args.started.now = omega (arith, c.loop-i-test.true, c.requires.each) in
-    next_is_open o.0 (g.P.Spawner.state c.loop-i.spawn).children c.args.started.now i none (get_or c.args.started.now i none) inside refl (c.loop-i.invariant.running o.0 o.1)
+    let o = c.requires.started in
+    let inside : i < length c.args.started.now = omega (arith, c.loop-i-test.true, c.requires.started.each) in
+    next_is_open o.base (g.P.Spawner.state c.loop-i.spawn).children c.args.started.now i none (get_or c.args.started.now i none) inside refl (c.loop-i.invariant.running o.base o.apart)
 
 pub returns-in_default : goal.returns-in_default
 returns-in_default g c =
@@ -42,7 +42,7 @@ returns-in_default g c =
     let old = s c.args.spawn.now in
     let mid = s c.loop-i.spawn in
     let new = s c.wait.new.self in
-    let inside : i < length c.args.started.now = omega (arith, c.loop-i-test.true, c.requires.each) in
+    let inside : i < length c.args.started.now = omega (arith, c.loop-i-test.true, c.requires.started.each) in
     let rose : HasRisen mid.faults new.faults = c.in_default.ensures.waits.status in
     record {
       kept = kept_both old mid new l.kept c.wait.ensures.waits.kept;
@@ -63,7 +63,7 @@ returns-in_default-kid_line g c =
     let old = s c.args.spawn.now in
     let mid = s c.loop-i.spawn in
     let new = s c.wait.new.self in
-    let inside : i < length c.args.started.now = omega (arith, c.loop-i-test.true, c.requires.each) in
+    let inside : i < length c.args.started.now = omega (arith, c.loop-i-test.true, c.requires.started.each) in
     record {
       kept = kept_both old mid new l.kept c.wait.ensures.waits.kept;
       starts = c.wait.ensures.waits.starts ∙ l.starts;
@@ -84,7 +84,7 @@ returns-then-is_err g c =
     let mid = s c.loop-i.spawn in
     let new = s c.wait.new.self in
     let grown = c.push_reserved.ensures.items in
-    let inside : i < length c.args.started.now = omega (arith, c.loop-i-test.true, c.requires.each) in
+    let inside : i < length c.args.started.now = omega (arith, c.loop-i-test.true, c.requires.started.each) in
     let piece = c.as_bytes.result.now in
     let out = g.K.Sink.state in
     record {
@@ -113,7 +113,7 @@ loop-i-preserved g c =
     let mid = s c.loop-i.spawn in
     let new = s c.wait.new.self in
     let grown = c.push_reserved.ensures.items in
-    let inside : i < length c.args.started.now = omega (arith, c.loop-i-test.true, c.requires.each) in
+    let inside : i < length c.args.started.now = omega (arith, c.loop-i-test.true, c.requires.started.each) in
     let piece = c.as_bytes.result.now in
     let out = g.K.Sink.state in
     record {

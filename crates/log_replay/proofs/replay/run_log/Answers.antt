@@ -1,7 +1,14 @@
+use Rattle.std.proofs.Common.{sym, subst}
+use Rattle.log_replay.specs.Entries.{KeepsEntries}
 use Rattle.log_replay.proofs.ReplayLaws.{trace_stopped, trace_cut, trace_written}
 use Rattle.node_model.specs.State.{new_node}
 use Rattle.serve_model.specs.Runs.{played_entries}
 use Rattle.log_replay.proofs.replay.run_log.Goals as goal
+
+pub write_entries-requires-clause-keeps : goal.write_entries-requires-clause-keeps
+write_entries-requires-clause-keeps g c =
+    let keeps : KeepsEntries c.args.log.now.node.version c.args.log.now.events = record { each = c.requires.keeps.events; few = c.requires.keeps.few } in
+    subst (KeepsEntries c.args.log.now.node.version) (sym c.as_slice.ensures) keeps
 
 pub returns-in-Err : goal.returns-in-Err
 returns-in-Err g c =

@@ -14,7 +14,7 @@ loop-entry-init g c = record {
 }
 
 pub write_entry-requires-clause-entry : goal.write_entry-requires-clause-entry
-write_entry-requires-clause-entry g c = let h = All-get_or (KeepsEntry c.args.config.now.version) c.args.entries.now c.loop-entry.entry-index c.entry-item.result c.loop-entry-test.true c.requires.keeps in rw (sym c.entry-item.is) at h
+write_entry-requires-clause-entry g c = let h = All-get_or (KeepsEntry c.args.config.now.version) c.args.entries.now c.loop-entry.entry-index c.entry-item.result c.loop-entry-test.true c.requires.keeps.each in rw (sym c.entry-item.is) at h
 
 pub write_entry-requires-clause-version : goal.write_entry-requires-clause-version
 write_entry-requires-clause-version g c = c.loop-entry.invariant.version ∙ c.requires.version

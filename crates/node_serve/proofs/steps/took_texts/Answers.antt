@@ -1,4 +1,12 @@
+use Rattle.std.proofs.Common.{refl, ap, ◌∙◌}
+use Rattle.serve_model.specs.Runs.{entries_at}
+use Rattle.serve_model.specs.Texts.{lines_text}
 use Rattle.node_serve.proofs.steps.took_texts.Goals as goal
 
-pub returns-clause-line : goal.returns-clause-line
-returns-clause-line c = (c.in_ok-line.ensures.text, c.in_ok-line.ensures.readable c.args.config.now.version c.requires)
+pub returns : goal.returns
+returns c = record {
+  line = c.in_ok-line.ensures.text;
+  readable = c.in_ok-line.ensures.readable c.args.config.now.version c.requires;
+  lines = c.in_ok-lines.ensures ∙ ap (λ acts. lines_text c.args.config.now.here (entries_at c.args.number acts)) c.as_slice.ensures;
+  made = refl;
+}

@@ -14,8 +14,9 @@ new-requires-clause-rules g c = subst KeepsNetwork (sym c.in_ok-topology.ensures
 pub new-requires-clause-services : goal.new-requires-clause-services
 new-requires-clause-services g c = c.requires.services ∙ ap (λ t. map opening_services t.hosts) (sym c.in_ok-topology.ensures)
 
-pub returns-clause-world : goal.returns-clause-world
-returns-clause-world g c = subst (λ t. WorldStands g.S.Services.stands c.in_ok-world.world (opening t)) c.in_ok-topology.ensures c.in_ok-world.ensures
-
-pub returns-clause-ledger : goal.returns-clause-ledger
-returns-clause-ledger g c = subst (Stands []) (sym c.in_ok-ledger.ensures) nothing_stands
+pub returns-clause-fresh : goal.returns-clause-fresh
+returns-clause-fresh g c = record {
+  world = subst (λ t. WorldStands g.S.Services.stands c.in_ok-world.world (opening t)) c.in_ok-topology.ensures c.in_ok-world.ensures;
+  ledger = subst (Stands []) (sym c.in_ok-ledger.ensures) nothing_stands;
+  summary = cc;
+}

@@ -21,18 +21,17 @@ count_lines-requires g c =
 pub count-requires : goal.count-requires
 count-requires g c = room_less c.args.self.now.summary (2 ^ 64) (length c.as_slice-2.result.now) (omega arith) c.requires.room
 
-pub returns-clause-world : goal.returns-clause-world
-returns-clause-world g c = λ w h. (c.in_ok-lines.ensures.ok w h).world
-
-pub returns-clause-counts : goal.returns-clause-counts
-returns-clause-counts g c = λ w old h l s t.
-    let lines = (c.in_ok-lines.ensures.ok w h).list in
-    let late = c.is_late-late.ensures ∙ ap (λ wire. late_in wire c.args.event.now) h.is.wire in
-    let counted = entries_are w c.args.event.now _ (c.args.self.now.world.made + 1) c.args.self.now.world.made refl h.is.made (c.as_slice.ensures ∙ lines) in
-    let summed = entries_are w c.args.event.now _ (c.args.self.now.world.made + 1) c.args.self.now.world.made refl h.is.made (c.as_slice-2.ensures ∙ lines) in (
-      subst (λ x. Stands (old ++ x) c.count_lines.new.ledger) counted (c.in_ok-count_lines.ensures old (c.args.self.now.world.made + 1) (leaves_as old w c.args.event.now _ _ _ late counted (c.as_slice.ensures ∙ lines) l) s),
-      c.count.ensures.counted old (c.args.self.now.world.made + 1) t ∙ ap (λ x. summary_of (old ++ x)) summed,
-    )
-
-pub returns-clause-room : goal.returns-clause-room
-returns-clause-room g c = λ n r. c.count.ensures.room n (room_less c.args.self.now.summary (n + 2 ^ 64) (n + length c.as_slice-2.result.now) (omega arith) r)
+pub returns : goal.returns
+returns g c = record {
+  world = λ w h. (c.in_ok-lines.ensures.ok w h).world;
+  counts = λ w old h l s t.
+      let lines = (c.in_ok-lines.ensures.ok w h).list in
+      let late = c.is_late-late.ensures ∙ ap (λ wire. late_in wire c.args.event.now) h.is.wire in
+      let counted = entries_are w c.args.event.now _ (c.args.self.now.world.made + 1) c.args.self.now.world.made refl h.is.made (c.as_slice.ensures ∙ lines) in
+      let summed = entries_are w c.args.event.now _ (c.args.self.now.world.made + 1) c.args.self.now.world.made refl h.is.made (c.as_slice-2.ensures ∙ lines) in (
+        subst (λ x. Stands (old ++ x) c.count_lines.new.ledger) counted (c.in_ok-count_lines.ensures old (c.args.self.now.world.made + 1) (leaves_as old w c.args.event.now _ _ _ late counted (c.as_slice.ensures ∙ lines) l) s),
+        c.count.ensures.counted old (c.args.self.now.world.made + 1) t ∙ ap (λ x. summary_of (old ++ x)) summed,
+      );
+  room = λ n r. c.count.ensures.room n (room_less c.args.self.now.summary (n + 2 ^ 64) (n + length c.as_slice-2.result.now) (omega arith) r);
+  made = (refl, c.in_ok-lines.ensures.made);
+}

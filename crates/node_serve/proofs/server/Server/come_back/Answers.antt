@@ -1,10 +1,12 @@
-use Rattle.std.proofs.Common.{◌≡◌, None, refl, arith}
+use Rattle.std.proofs.Common.{◌≡◌, Some, None, refl, arith}
 use Rattle.std.proofs.lemmas.Grind.{common_steps}
 use Rattle.serve_model.specs.Runs.{come_back, make}
 use Rattle.network_plan.specs.Hosts.{dev_of}
 use Rattle.network_plan.specs.declared.event.Event.TheVariants.{Frame}
 use Rattle.packet_frame.specs.Stamped.{stamped_bytes}
+use Rattle.node_core.specs.Stands.{version_of}
 use Rattle.node_serve.specs.Desks.{desk}
+use Rattle.node_serve.proofs.Coming.{may_come_always}
 use Rattle.node_serve.proofs.Joining.{goes_same, goes_as}
 use Rattle.node_serve.proofs.MakeLaws.{back_stay, back_makes}
 use Rattle.node_serve.proofs.server.Server.come_back.Goals as goal
@@ -21,4 +23,4 @@ returns g c = λ l.
     (λ seen r st. back_makes c.args.frame c.in-Some.frame r c.in-Some.is) (c.step.ensures l e c.event_of_frame.ensures.event (λ node. refl))
 
 pub step-requires-clause-event : goal.step-requires-clause-event
-step-requires-clause-event g c = c.event_of_frame.ensures.keeps c.args.cfg.now.node.version
+step-requires-clause-event g c = may_come_always c.args.cfg.now.node.version (version_of c.args.self.now.node) (Some c.event_of_frame.result) c.event_of_frame.ensures.keeps

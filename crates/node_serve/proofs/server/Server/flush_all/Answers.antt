@@ -1,10 +1,10 @@
-use Rattle.std.proofs.Common.{◌≡◌, ◌+◌, IsTrue, refl, sym, ap, subst, ◌∙◌, arith}
+use Rattle.std.proofs.Common.{◌≡◌, ◌+◌, refl, ap, ◌∙◌, arith}
 use Rattle.serve_model.specs.Runs.{flush_device, flush_to, peers_of}
 use Rattle.network_plan.specs.Hosts.{dev_of}
 use Rattle.node_serve.proofs.MakeLaws.{flush_none, flush_next}
 use Rattle.node_serve.specs.Desks.{desk}
 use Rattle.node_serve.proofs.Looping.{flush_up}
-use Rattle.node_serve.proofs.Joining.{goes_same, goes_as, goes_next, goes_no_more}
+use Rattle.node_serve.proofs.Joining.{still_serving, goes_same, goes_as, goes_next, goes_no_more}
 use Rattle.node_serve.proofs.server.Server.flush_all.Goals as goal
 
 pub loop-number-init : goal.loop-number-init
@@ -14,11 +14,11 @@ loop-number-init g c = record {
   script = refl;
 }
 
-pub flush_device-requires-clause-writing : goal.flush_device-requires-clause-writing
-flush_device-requires-clause-writing g c = subst IsTrue (sym c.loop-number.invariant.run.keeps.writing) c.requires.writing
+pub flush_device-requires-clause-serving : goal.flush_device-requires-clause-serving
+flush_device-requires-clause-serving g c = still_serving c.args.cfg.now _ _ c.loop-number.invariant.run.keeps c.requires
 
-pub flush_device-requires-clause-bound : goal.flush_device-requires-clause-bound
-flush_device-requires-clause-bound g c = c.loop-number.invariant.run.keeps.bound ∙ c.requires.bound
+pub flush_device-requires-clause-device : goal.flush_device-requires-clause-device
+flush_device-requires-clause-device g c = record { device = omega (arith, c.loop-number-test.true); other = omega arith }
 
 pub loop-number-preserved : goal.loop-number-preserved
 loop-number-preserved g c =
@@ -29,12 +29,17 @@ loop-number-preserved g c =
       script = c.flush_device.ensures.script ∙ i.script;
     }
 
-pub returns-in-Err-clause-goes : goal.returns-in-Err-clause-goes
-returns-in-Err-clause-goes g c =
-    goes_no_more g.S.Services.stands c.args.cfg.now (flush_to (peers_of c.args.cfg.now)) (flush_device (peers_of c.args.cfg.now) (dev_of (c.loop-number.number + 1))) c.loop-number.number c.args.self.now c.loop-number.self c.flush_device.new.self _ _ _ (flush_next (peers_of c.args.cfg.now) c.loop-number.number) (flush_up (peers_of c.args.cfg.now)) 8 c.loop-number-test.true tt c.in-Err.fault
-    c.loop-number.invariant.run c.in-Err.ensures.goes
+pub returns-in-Err : goal.returns-in-Err
+returns-in-Err g c = record {
+  goes = goes_no_more g.S.Services.stands c.args.cfg.now (flush_to (peers_of c.args.cfg.now)) (flush_device (peers_of c.args.cfg.now) (dev_of (c.loop-number.number + 1))) c.loop-number.number c.args.self.now c.loop-number.self c.flush_device.new.self _ _ _ (flush_next (peers_of c.args.cfg.now) c.loop-number.number) (flush_up (peers_of c.args.cfg.now)) 8 c.loop-number-test.true tt c.in-Err.fault
+      c.loop-number.invariant.run c.in-Err.ensures.goes;
+  script = c.flush_device.ensures.script ∙ c.loop-number.invariant.script;
+}
 
-pub returns-clause-goes : goal.returns-clause-goes
-returns-clause-goes g c =
+pub returns : goal.returns
+returns g c =
     let all : c.loop-number.number ≡ 8 = omega (arith, c.loop-number.invariant.within, c.loop-number-test.false) in
-    goes_as g.S.Services.stands c.args.cfg.now (flush_to (peers_of c.args.cfg.now) c.loop-number.number) (flush_to (peers_of c.args.cfg.now) 8) c.args.self.now c.loop-number.self _ _ _ (λ seen r st refused. ap (λ n. flush_to (peers_of c.args.cfg.now) n refused r) all) c.loop-number.invariant.run
+    record {
+      goes = goes_as g.S.Services.stands c.args.cfg.now (flush_to (peers_of c.args.cfg.now) c.loop-number.number) (flush_to (peers_of c.args.cfg.now) 8) c.args.self.now c.loop-number.self _ _ _ (λ seen r st refused. ap (λ n. flush_to (peers_of c.args.cfg.now) n refused r) all) c.loop-number.invariant.run;
+      script = c.loop-number.invariant.script;
+    }

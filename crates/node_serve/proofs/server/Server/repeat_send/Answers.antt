@@ -1,9 +1,9 @@
-use Rattle.std.proofs.Common.{◌≡◌, IsTrue, refl, sym, ap, subst, ◌∙◌, arith}
+use Rattle.std.proofs.Common.{◌≡◌, refl, ap, ◌∙◌, arith}
 use Rattle.serve_model.specs.Runs.{take_send, repeat_send}
 use Rattle.node_serve.proofs.MakeLaws.{repeat_none, repeat_next}
 use Rattle.node_serve.specs.Desks.{desk}
 use Rattle.node_serve.proofs.Looping.{repeat_up}
-use Rattle.node_serve.proofs.Joining.{goes_same, goes_as, goes_next, goes_no_more}
+use Rattle.node_serve.proofs.Joining.{still_serving, goes_same, goes_as, goes_next, goes_no_more}
 use Rattle.node_serve.proofs.server.Server.repeat_send.Goals as goal
 
 pub loop-init : goal.loop-init
@@ -13,11 +13,8 @@ loop-init g c = record {
   script = refl;
 }
 
-pub take_send-requires-clause-writing : goal.take_send-requires-clause-writing
-take_send-requires-clause-writing g c = subst IsTrue (sym c.loop.invariant.run.keeps.writing) c.requires.writing
-
-pub take_send-requires-clause-bound : goal.take_send-requires-clause-bound
-take_send-requires-clause-bound g c = c.loop.invariant.run.keeps.bound ∙ c.requires.bound
+pub take_send-requires-clause-serving : goal.take_send-requires-clause-serving
+take_send-requires-clause-serving g c = still_serving c.args.cfg.now _ _ c.loop.invariant.run.keeps c.requires.serving
 
 pub loop-preserved : goal.loop-preserved
 loop-preserved g c =
@@ -28,12 +25,17 @@ loop-preserved g c =
       script = c.take_send.ensures.script ∙ i.script;
     }
 
-pub returns-in-Err-clause-goes : goal.returns-in-Err-clause-goes
-returns-in-Err-clause-goes g c =
-    goes_no_more g.S.Services.stands c.args.cfg.now (repeat_send c.args.dev) (take_send c.args.dev) c.loop.counter c.args.self.now c.loop.self c.take_send.new.self _ _ _ (repeat_next c.args.dev c.loop.counter) (repeat_up c.args.dev) c.args.count c.loop-test.true tt c.in-Err.fault
-    c.loop.invariant.run c.in-Err.ensures.goes
+pub returns-in-Err : goal.returns-in-Err
+returns-in-Err g c = record {
+  goes = goes_no_more g.S.Services.stands c.args.cfg.now (repeat_send c.args.dev) (take_send c.args.dev) c.loop.counter c.args.self.now c.loop.self c.take_send.new.self _ _ _ (repeat_next c.args.dev c.loop.counter) (repeat_up c.args.dev) c.args.count c.loop-test.true tt c.in-Err.fault
+      c.loop.invariant.run c.in-Err.ensures.goes;
+  script = c.take_send.ensures.script ∙ c.loop.invariant.script;
+}
 
-pub returns-clause-goes : goal.returns-clause-goes
-returns-clause-goes g c =
+pub returns : goal.returns
+returns g c =
     let all : c.loop.counter ≡ c.args.count = omega (arith, c.loop.invariant.within, c.loop-test.false) in
-    goes_as g.S.Services.stands c.args.cfg.now (repeat_send c.args.dev c.loop.counter) (repeat_send c.args.dev c.args.count) c.args.self.now c.loop.self _ _ _ (λ seen r st refused. ap (λ n. repeat_send c.args.dev n refused r) all) c.loop.invariant.run
+    record {
+      goes = goes_as g.S.Services.stands c.args.cfg.now (repeat_send c.args.dev c.loop.counter) (repeat_send c.args.dev c.args.count) c.args.self.now c.loop.self _ _ _ (λ seen r st refused. ap (λ n. repeat_send c.args.dev n refused r) all) c.loop.invariant.run;
+      script = c.loop.invariant.script;
+    }

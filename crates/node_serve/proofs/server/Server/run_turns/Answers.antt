@@ -13,11 +13,13 @@ loop-done-init g c = record {
   room = c.requires.room;
 }
 
-pub turn-requires-clause-writing : goal.turn-requires-clause-writing
-turn-requires-clause-writing g c = subst IsTrue (sym c.loop-done.invariant.run.keeps.writing) c.requires.writing
-
-pub turn-requires-clause-bound : goal.turn-requires-clause-bound
-turn-requires-clause-bound g c = c.loop-done.invariant.run.keeps.bound ∙ c.requires.bound
+pub turn-requires : goal.turn-requires
+turn-requires g c = record {
+  writing = subst IsTrue (sym c.loop-done.invariant.run.keeps.writing) c.requires.writing;
+  bound = c.loop-done.invariant.run.keeps.bound ∙ c.requires.bound;
+  keeps = c.requires.keeps;
+  room = c.loop-done.invariant.room;
+}
 
 pub loop-done-preserved : goal.loop-done-preserved
 loop-done-preserved g c =

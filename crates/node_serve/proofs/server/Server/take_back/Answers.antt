@@ -1,4 +1,4 @@
-use Rattle.std.proofs.Common.{refl, sym, subst, IsTrue}
+use Rattle.std.proofs.Common.{refl, sym, subst, IsTrue, arith}
 use Rattle.network_plan.specs.Hosts.{dev_of}
 use Rattle.network_plan.specs.declared.event.Event.TheVariants.{Take}
 use Rattle.node_serve.proofs.Joining.{no_link}
@@ -17,3 +17,6 @@ returns-in-Err g c = λ l. back_stops g.S.Services.stands c.args.cfg.now c.args.
 
 pub come_back-requires : goal.come_back-requires
 come_back-requires g c = subst IsTrue (sym (c.in-Ok-Took.ensures no_link (Take (dev_of 0)) refl).keeps.writing) c.requires
+
+pub make-requires-clause-event : goal.make-requires-clause-event
+make-requires-clause-event g c = record { keeps = omega arith; within = tt }

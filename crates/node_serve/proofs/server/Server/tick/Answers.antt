@@ -24,3 +24,6 @@ returns g c =
     let over : c.is_over.result ≡ true = grind (arith, c.if-not-is_over.false) in
     λ l. goes_ticked g.S.Services.stands c.args.cfg.now c.args.cfg.now.period c.args.now c.args.self.now c.step.new.self _ _ _ tt refl refl refl refl
     (λ r st. over_is g.S.Services.stands c.args.self.now r c.args.cfg.now.period c.args.now c.is_over.result st c.is_over.ensures ∙ over) (c.in_default.ensures l Tick refl (λ node. refl))
+
+pub step-requires-clause-event : goal.step-requires-clause-event
+step-requires-clause-event g c = record { keeps = tt; within = tt }

@@ -39,11 +39,16 @@ returns-clause-goes g c =
       script = λ seen. used_one c.end_turn.result (g.L.Link.state c.args.link.now).script (g.L.Link.state c.end_turn.new.link).script (c.end_turn.ensures.script ∙ c.in_default-hear.ensures.script seen);
     }
 
-pub hear-requires-clause-writing : goal.hear-requires-clause-writing
-hear-requires-clause-writing g c = subst IsTrue (sym (c.in_default.ensures no_link).keeps.writing) c.requires.writing
+pub hear-requires : goal.hear-requires
+hear-requires g c = record {
+  writing = subst IsTrue (sym (c.in_default.ensures no_link).keeps.writing) c.requires.writing;
+  bound = c.requires.bound;
+  keeps = c.requires.keeps;
+  room = c.requires.room;
+}
 
-pub end_turn-requires-clause-writing : goal.end_turn-requires-clause-writing
-end_turn-requires-clause-writing g c = subst IsTrue (sym (c.in_default-hear.ensures.goes.keeps.writing ∙ (c.in_default.ensures no_link).keeps.writing)) c.requires.writing
-
-pub end_turn-requires-clause-bound : goal.end_turn-requires-clause-bound
-end_turn-requires-clause-bound g c = c.in_default-hear.ensures.goes.keeps.bound ∙ c.requires.bound
+pub end_turn-requires : goal.end_turn-requires
+end_turn-requires g c = record {
+  writing = subst IsTrue (sym (c.in_default-hear.ensures.goes.keeps.writing ∙ (c.in_default.ensures no_link).keeps.writing)) c.requires.writing;
+  bound = c.in_default-hear.ensures.goes.keeps.bound ∙ c.requires.bound;
+}

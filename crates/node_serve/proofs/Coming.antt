@@ -1,0 +1,12 @@
+-- Which events may come to a node.
+use Rattle.std.proofs.Common.{Option, Some, None, IfSome}
+use Rattle.link_window.specs.declared.window.Version.{Version}
+use Rattle.network_plan.specs.declared.event.Event.{Event}
+use Rattle.network_plan.specs.NodeRules.{KeepsNodeEvent}
+use Rattle.log_replay.proofs.Within.{comes_as}
+use Rattle.node_serve.specs.Steps.{MayCome}
+
+-- one that keeps the limits of every version
+pub may_come_always : (plan node : Version) (e : Option Event) → ((v : Version) → IfSome e (KeepsNodeEvent v)) → MayCome plan node e
+may_come_always plan node (Some e) keeps = record { keeps = keeps plan; within = comes_as node e (keeps node) }
+may_come_always plan node None keeps = record { keeps = tt; within = tt }
