@@ -1,17 +1,18 @@
 -- The next hop by a node's list of routes is its route.
 use Rattle.std.proofs.Common.{◌≡◌, ℕ, Bool, true, false, cond, not, eqb, Option, Some, None, List, [], ◌∷◌, inl, inr, refl, sym, ap, subst, ◌∙◌}
 use Rattle.std.specs.Str.{bytes_eq}
+use Rattle.std.specs.Option.{option_to_list}
 use Rattle.plan_base.specs.declared.ids.Host.{Host}
 use Rattle.plan_base.specs.declared.ids.Dev.{Dev}
 use Rattle.service_api.specs.declared.router.RouteRow.{RouteRow}
 use Rattle.service_api.specs.declared.router.Hop.{Hop}
 use Rattle.service_api.specs.declared.router.Hop.TheVariants.{To, NoService, NoRoute}
 use Rattle.service_api.specs.Routes.{hop, hop_in, own_device, default_route}
-use Rattle.dv_routing.specs.Routing.{Routing, is_among, heard_cost, own_cost, near_cost, route, route_cost, cost, own_route, routes_to, all_routes, row_for}
+use Rattle.dv_routing.specs.Routing.{Routing, is_among, heard_cost, own_cost, near_cost, route, route_cost, cost, own_route, routes_to, all_routes, routes_within, row_for}
 use Rattle.dv_routing.specs.Laws.{IsRoute, IsRouteAnswer, LeadsBy, HostsHold}
 use Rattle.dv_routing.proofs.Costs.{least_from, same_host, heard_outside}
-use Rattle.dv_routing.proofs.Best.{route_own, route_answer, same_or_not}
-use Rattle.dv_routing.proofs.Rows.{rows_for}
+use Rattle.dv_routing.proofs.Best.{route_own, route_answer, route_host, same_or_not}
+use Rattle.dv_routing.proofs.Rows.{rows_for, row_first}
 
 abbrev hop_of : Option RouteRow → Hop
 hop_of None = NoRoute
@@ -28,6 +29,19 @@ hop_by_row (row ∷ rows) x = split (hop_by_row rows x) (eqb row.host.0 x.0)
 hop_by_route : (r : Routing) (x : Host) → hop_in (all_routes r) x ≡ hop_of (cond (is_among r.hosts x) (route r x) None)
 unfolding all_routes
 hop_by_route r x = hop_by_row (routes_to r r.hosts) x ∙ ap hop_of (rows_for r x r.hosts)
+
+-- the hop by the one route to a host is that by all routes
+pub one_hop : (r : Routing) (name : List ℕ) (here x : Host) → hop (routes_within r x) name here x ≡ hop (all_routes r) name here x
+unfolding hop
+one_hop r name here x = ap (λ h. cond (not (bytes_eq name default_route)) NoService (cond (eqb here.0 x.0) (To x own_device) h)) same
+  where
+    only : (t : Bool) (o : Option RouteRow) → route r x ≡ o → row_for (option_to_list (cond t o None)) x ≡ cond t o None
+    only true (Some row) e = row_first x row [] (route_host r x row e)
+    only true None e = refl
+    only false o e = refl
+
+    same : hop_in (routes_within r x) x ≡ hop_in (all_routes r) x
+    same = hop_by_row (routes_within r x) x ∙ (ap hop_of (only (is_among r.hosts x) (route r x) refl) ∙ sym (hop_by_route r x))
 
 pub hop_leads : (r : Routing) (name : List ℕ) (x m : Host) (d : Dev) → hop (all_routes r) name r.here x ≡ To m d → LeadsBy r x m d
 unfolding hop

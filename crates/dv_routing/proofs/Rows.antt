@@ -18,7 +18,7 @@ use Rattle.dv_routing.proofs.Costs.{least_from, same_host, eqb_self}
 use Rattle.dv_routing.proofs.Best.{route_own, route_answer, route_host, same_or_not}
 
 -- a row for its host, before others
-row_first : (x : Host) (row : RouteRow) (rows : List RouteRow) → row.host ≡ x → row_for (row ∷ rows) x ≡ Some row
+pub row_first : (x : Host) (row : RouteRow) (rows : List RouteRow) → row.host ≡ x → row_for (row ∷ rows) x ≡ Some row
 row_first x row rows e = ap (λ t. cond t (Some row) (row_for rows x)) (ap (λ h. eqb row.host.0 h.0) (sym e) ∙ eqb_self row.host.0)
 
 row_later : (x y : Host) (row : RouteRow) (rows : List RouteRow) → row.host ≡ y → eqb y.0 x.0 ≡ false → row_for (row ∷ rows) x ≡ row_for rows x

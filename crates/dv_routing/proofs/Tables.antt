@@ -1,7 +1,8 @@
 -- A table that stands for the adverts heard keeps on doing so, and answers by them.
-use Rattle.std.proofs.Common.{◌≡◌, ◌≢◌, Bool, true, false, cond, eqb, ◌||◌, Option, Some, None, List, [], ◌∷◌, refl, sym, ap, ◌∙◌}
-use Rattle.std.specs.Prelude.{map}
+use Rattle.std.proofs.Common.{◌≡◌, ◌≢◌, ℕ, zero, suc, ◌+◌, ◌≤◌, ◌<◌, Bool, true, false, cond, eqb, ◌||◌, Option, Some, None, List, [], ◌∷◌, length, drop, get_or, refl, sym, ap, subst, ◌∙◌, arith}
+use Rattle.std.specs.Prelude.{map, slice_get}
 use Rattle.std.proofs.lemmas.Bool.{false≢true}
+use Rattle.std.proofs.lemmas.List.{drop_all}
 use Rattle.std.proofs.lemmas.Bool.Decides.{Decides-eqb}
 use Rattle.plan_base.specs.declared.ids.Host.{Host}
 use Rattle.plan_base.specs.declared.ids.Dev.{Dev}
@@ -10,8 +11,8 @@ use Rattle.service_api.specs.declared.advert.Advert.{Advert}
 use Rattle.dv_routing.specs.declared.table.Known.{Known}
 use Rattle.dv_routing.specs.declared.table.Lane.{Lane}
 use Rattle.dv_routing.specs.declared.table.Table.{Table}
-use Rattle.dv_routing.specs.Routing.{Routing, opening_routing, hears, is_among, least, rows_cost, told_on, heard_cost, near_cost, over_link, better, best_from, own_route, route}
-use Rattle.dv_routing.specs.Lanes.{taken_cost, known_after, lane_after, unknown, fresh_lane, known_cost, lane_cost, best_lane}
+use Rattle.dv_routing.specs.Routing.{Routing, opening_routing, hears, is_among, least, rows_cost, told_on, heard_cost, near_cost, over_link, better, best_from, own_route, route, route_within}
+use Rattle.dv_routing.specs.Lanes.{taken_cost, known_after, lane_after, unknown, fresh_lane, known_cost, lane_cost, lane_route, best_lane}
 use Rattle.dv_routing.specs.Stands.{known_of, lane_of, Stands}
 use Rattle.dv_routing.proofs.Costs.{least-none, least-zero, rows_inside, heard_outside, heard_more, same_host, eqb_self}
 
@@ -122,6 +123,33 @@ known_heard r d x = split (is_among r.hosts x) refl
     split true h = known_is r d x r.hosts h
     split false h = known_none r d x r.hosts h ∙ sym (heard_outside r.hosts x d r.heard h)
 
+-- each entry is that of its host
+own_entry : (r : Routing) (d : Dev) (hs : List Host) (at : ℕ) (k : Known) → slice_get (map (known_of r d) hs) at ≡ Some k → k ≡ known_of r d k.host
+own_entry r d [] at k e = cc
+own_entry r d (h ∷ hs) zero k e = let s : known_of r d h ≡ k = cc in sym s ∙ ap (λ (z : Known). known_of r d z.host) s
+own_entry r d (h ∷ hs) (suc at) k e = own_entry r d hs at k e
+
+-- an entry before all that is known changes nothing, where it is one of it
+pub known_near : (r : Routing) (d : Dev) (ks : List Known) (at : ℕ) (k : Known) (x : Host) → ks ≡ map (known_of r d) r.hosts → slice_get ks at ≡ Some k → known_cost (k ∷ ks) x ≡ known_cost ks x
+known_near r d ks at k x e there = split (eqb k.host.0 x.0) refl
+  where
+    split : (t : Bool) → t ≡ eqb k.host.0 x.0 → cond t k.least (known_cost ks x) ≡ known_cost ks x
+    split true h =
+        let is = own_entry r d r.hosts at k (ap (λ l. slice_get l at) (sym e) ∙ there) in
+        ap (λ (z : Known). z.least) is ∙ (ap (λ y. heard_cost r.hosts y d r.heard) (same_host k.host x (sym h)) ∙ (sym (known_heard r d x) ∙ ap (λ l. known_cost l x) (sym e)))
+    split false h = refl
+
+not_same : (a b : ℕ) → a ≢ b → eqb a b ≡ false
+not_same a b e = split (eqb a b) refl
+  where
+    split : (t : Bool) → eqb a b ≡ t → t ≡ false
+    split true h = absurd (e ((Decides-eqb a b).0 h))
+    split false h = refl
+
+-- the cost for another host than the neighbour
+pub later_cost : (lane : Lane) (x : Host) (o : Option ℕ) → lane.host.0 ≢ x.0 → o ≡ known_cost lane.known x → o ≡ lane_cost x lane
+later_cost lane x o e is = is ∙ sym (ap (λ t. cond t (Some 0) (known_cost lane.known x)) (not_same lane.host.0 x.0 e))
+
 lane_near : (r : Routing) (x : Host) (link : Host × Dev) → lane_cost x (lane_of r link) ≡ near_cost r x link
 unfolding near_cost
 lane_near r x link = split (eqb link.0.0 x.0)
@@ -137,6 +165,36 @@ best_is r x best (link ∷ links) =
     ap (λ c. best_lane x (better best (over_link x link c)) (map (lane_of r) links)) (lane_near r x link)
     ∙ best_is r x (better best (over_link x link (near_cost r x link))) links
 
+best_suc : (lanes : List Lane) (i : ℕ) (l : Lane) (x : Host) (best : Option RouteRow) → i < length lanes → best_lane x best (drop i lanes) ≡ best_lane x (better best (lane_route x (get_or lanes i l))) (drop (suc i) lanes)
+best_suc [] i l x best h = absurd (omega arith)
+best_suc (m ∷ ms) zero l x best h = refl
+best_suc (m ∷ ms) (suc i) l x best h = best_suc ms i l x best (omega arith)
+
+-- each lane is one of a link
+record IsLane (r : Routing) (l : Lane) : Type 0 where
+  link : Host × Dev
+  is : l ≡ lane_of r link
+
+own_lane : (r : Routing) (links : List (Host × Dev)) (i : ℕ) (d : Lane) → i < length (map (lane_of r) links) → IsLane r (get_or (map (lane_of r) links) i d)
+own_lane r [] i d h = absurd (omega arith)
+own_lane r (link ∷ links) zero d h = record { link = link; is = refl }
+own_lane r (link ∷ links) (suc i) d h = let o = own_lane r links i d (omega arith) in record { link = o.link; is = o.is }
+
+-- the best route, after one more lane
+pub lane_next : (r : Routing) (links : List (Host × Dev)) (lanes : List Lane) (i : ℕ) (l : Lane) (x : Host) (best one new : Option RouteRow) → lanes ≡ map (lane_of r) links → i < length lanes → l ≡ get_or lanes i l
+    → ((link : Host × Dev) → l ≡ lane_of r link → one ≡ lane_route x l) → new ≡ better best one → best_lane x best (drop i lanes) ≡ best_lane x None lanes → best_lane x new (drop (i + 1) lanes) ≡ best_lane x None lanes
+lane_next r links lanes i l x best one new e within is over n h =
+    let there : i < length (map (lane_of r) links) = subst (λ ls. i < length ls) e within in
+    let o = own_lane r links i l there in
+    let more : suc i ≡ i + 1 = omega arith in
+    let way : one ≡ lane_route x (get_or lanes i l) = over o.link (is ∙ (ap (λ ls. get_or ls i l) e ∙ o.is)) ∙ ap (lane_route x) is in
+    ap (λ b. best_lane x b (drop (i + 1) lanes)) (n ∙ ap (better best) way)
+    ∙ (ap (λ j. best_lane x (better best (lane_route x (get_or lanes i l))) (drop j lanes)) (sym more) ∙ (sym (best_suc lanes i l x best within) ∙ h))
+
+-- behind the last lane
+pub lanes_past : (lanes : List Lane) (i : ℕ) (x : Host) (best : Option RouteRow) → length lanes ≤ i → best_lane x best (drop i lanes) ≡ best_lane x None lanes → best ≡ best_lane x None lanes
+lanes_past lanes i x best past h = ap (best_lane x best) (sym (drop_all i lanes past)) ∙ h
+
 -- the route of a table
 pub table_route : (r : Routing) (t : Table) (x : Host) → Stands r t
     → cond (eqb t.here.0 x.0) (Some (own_route t.here)) (best_lane x None t.lanes.items) ≡ route r x
@@ -150,9 +208,8 @@ table_own r t x s e =
     sym (ap (λ b. cond b (Some (own_route t.here)) (best_lane x None t.lanes.items)) ((Decides-eqb t.here.0 x.0).1 e)) ∙ table_route r t x s
 
 pub table_best : (r : Routing) (t : Table) (x : Host) (best : Option RouteRow) → Stands r t → t.here.0 ≢ x.0 → best ≡ best_lane x None t.lanes.items → best ≡ route r x
-table_best r t x best s e is =
-    is ∙ (sym (ap (λ b. cond b (Some (own_route t.here)) (best_lane x None t.lanes.items)) (not_from_tested (eqb t.here.0 x.0) refl)) ∙ table_route r t x s)
-  where
-    not_from_tested : (b : Bool) → eqb t.here.0 x.0 ≡ b → b ≡ false
-    not_from_tested true h = absurd (e ((Decides-eqb t.here.0 x.0).0 h))
-    not_from_tested false h = refl
+table_best r t x best s e is = is ∙ (sym (ap (λ b. cond b (Some (own_route t.here)) (best_lane x None t.lanes.items)) (not_same t.here.0 x.0 e)) ∙ table_route r t x s)
+
+-- the route to a host within the network, by the table's hosts
+pub within_is : (r : Routing) (t : Table) (x : Host) → Stands r t → (b : Bool) → is_among t.hosts x ≡ b → cond b (route r x) None ≡ route_within r x
+within_is r t x s b e = ap (λ u. cond u (route r x) None) (sym e ∙ ap (λ hs. is_among hs x) s.hosts)

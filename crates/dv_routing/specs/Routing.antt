@@ -103,6 +103,14 @@ routes_to r hosts = flat_map (λ x. option_to_list (route r x)) hosts
 unfoldable pub all_routes : Routing → List RouteRow
 all_routes r = routes_to r r.hosts
 
+-- the route to one host, where it is one of the network
+abbrev pub route_within : Routing → Host → Option RouteRow
+route_within r x = if is_among r.hosts x then route r x else None
+
+-- the same in a list
+abbrev pub routes_within : Routing → Host → List RouteRow
+routes_within r x = option_to_list (route_within r x)
+
 -- what is told of a route
 abbrev pub advert_row : RouteRow → AdvertRow
 advert_row row = record { host = row.host; cost = row.cost }

@@ -1,7 +1,9 @@
-ghost use Rattle.std.specs.Prelude.{◌≡◌, [], map, ◌++◌, IfOk, OnOk};
+ghost use Rattle.std.specs.Prelude.{◌≡◌, List, [], ◌∷◌, map, ◌++◌, IfOk, OnOk};
+ghost use Rattle.plan_base.specs.declared.ids.Host.{Host as HostOf};
+ghost use Rattle.plan_base.specs.declared.ids.Dev.{Dev as DevOf};
 ghost use Rattle.std.specs.Option.{option_to_list};
-ghost use Rattle.dv_routing.specs.Routing.{Routing, opening_routing, hears, route as the_route, all_routes, own_advert, own_route, is_better, better as the_better, least as the_least, advert_row};
-ghost use Rattle.dv_routing.specs.Stands.{Stands};
+ghost use Rattle.dv_routing.specs.Routing.{Routing, opening_routing, hears, route as the_route, all_routes, route_within, routes_within, is_among, own_advert, own_route, is_better, better as the_better, least as the_least, advert_row};
+ghost use Rattle.dv_routing.specs.Stands.{known_of, lane_of, Stands};
 ghost use Rattle.dv_routing.specs.Lanes.{told_cost, taken_cost, known_after, lane_after, unknown, fresh_lane, known_cost, lane_cost, lane_route, best_lane};
 
 use plan_base::{Dev, Host, NoMemory};
@@ -120,6 +122,27 @@ fn known_cost(known: &[Known], host: Host) -> Option<u16>
     None
 }
 
+/// The cost of an entry where it is the host's, and else what is known for it.
+fn cost_or(entry: Known, known: &[Known], host: Host) -> Option<u16>
+    ensures { result ≡ known_cost (entry ∷ known.now) host }
+{
+    if entry.host.0 == host.0 {
+        return entry.least;
+    }
+    known_cost(known, host)
+}
+
+/// The cost that is known for a host, which is sought at a place first.
+fn cost_near(known: &[Known], at: usize, host: Host) -> Option<u16>
+    ensures { (r : Routing) (d : DevOf) → known.now ≡ map (known_of r d) r.hosts
+        → result ≡ known_cost known.now host }
+{
+    match known.get(at) {
+        None => known_cost(known, host),
+        Some(entry) => cost_or(*entry, known, host),
+    }
+}
+
 impl Lane {
     /// Hears rows on a device: they count where it is this lane's.
     fn hear(&mut self, dev: Dev, rows: &[AdvertRow])
@@ -130,21 +153,23 @@ impl Lane {
         }
     }
 
-    /// The least cost for a host at this neighbour, which is 0 for itself.
-    fn cost(&self, host: Host) -> Option<u16>
-        ensures { result ≡ lane_cost host self.now }
+    /// The least cost for a host at this neighbour, which is 0 for itself; it is sought at a place first.
+    fn cost(&self, at: usize, host: Host) -> Option<u16>
+        ensures { (r : Routing) (link : HostOf × DevOf) → self.now ≡ lane_of r link
+            → result ≡ lane_cost host self.now }
     {
         if self.host.0 == host.0 {
             return Some(0);
         }
-        known_cost(self.known.as_slice(), host)
+        cost_near(self.known.as_slice(), at, host)
     }
 
     /// The route to a host over this neighbour.
-    fn route(&self, host: Host) -> Option<RouteRow>
-        ensures { result ≡ lane_route host self.now }
+    fn route(&self, at: usize, host: Host) -> Option<RouteRow>
+        ensures { (r : Routing) (link : HostOf × DevOf) → self.now ≡ lane_of r link
+            → result ≡ lane_route host self.now }
     {
-        let cost = self.cost(host)?;
+        let cost = self.cost(at, host)?;
         Some(RouteRow {
             host,
             next: self.host,
@@ -206,15 +231,33 @@ fn better(a: Option<RouteRow>, b: Option<RouteRow>) -> Option<RouteRow>
     if is_better(second, first) { b } else { a }
 }
 
-/// The best route over lanes.
-fn best_route(lanes: &[Lane], host: Host) -> Option<RouteRow>
-    ensures { result ≡ best_lane host None lanes.now }
+/// The best route to a host over lanes, whose costs are sought at a place first.
+fn best_route(lanes: &[Lane], at: usize, host: Host) -> Option<RouteRow>
+    ensures { (r : Routing) (links : List (HostOf × DevOf)) → lanes.now ≡ map (lane_of r) links
+        → result ≡ best_lane host None lanes.now }
 {
     let mut best = None;
     for lane in lanes {
-        best = better(best, lane.route(host));
+        best = better(best, lane.route(at, host));
     }
     best
+}
+
+/// Whether a host is one of these.
+fn is_among(hosts: &[Host], host: Host) -> bool
+    ensures { result ≡ is_among hosts.now host }
+{
+    hosts.iter().any(|h| h.0 == host.0)
+}
+
+/// Adds a route, where there is one.
+fn add_row(row: Option<RouteRow>, rows: &mut RouteRows) -> Result<(), NoMemory>
+    ensures { OnOk result (rows.new ≡ rows.old ++ option_to_list row) }
+{
+    if let Some(row) = row {
+        rows.add(row)?;
+    }
+    Ok(())
 }
 
 impl Table {
@@ -243,9 +286,8 @@ impl Table {
         hear_all(&mut self.lanes, dev, advert.rows.as_slice());
     }
 
-    /// The route to a host, `None` exactly where no cost is known. The node's own host is reached over device 0
-    /// with cost 0. Takes no memory.
-    pub fn route(&self, host: Host) -> Option<RouteRow>
+    /// The route to a host, whose costs are sought at a place first.
+    fn route_near(&self, at: usize, host: Host) -> Option<RouteRow>
         ensures { (r : Routing) → Stands r self.now → result ≡ the_route r host }
     {
         if self.here.0 == host.0 {
@@ -256,24 +298,31 @@ impl Table {
                 cost: 0,
             });
         }
-        best_route(self.lanes.as_slice(), host)
+        best_route(self.lanes.as_slice(), at, host)
     }
 
-    fn add_route(&self, host: Host, rows: &mut RouteRows) -> Result<(), NoMemory>
+    /// The route to a host, `None` exactly where no cost is known. The node's own host is reached over device 0
+    /// with cost 0. Takes no memory.
+    pub fn route(&self, host: Host) -> Option<RouteRow>
+        ensures { (r : Routing) → Stands r self.now → result ≡ the_route r host }
+    {
+        self.route_near(0, host)
+    }
+
+    fn add_route(&self, at: usize, host: Host, rows: &mut RouteRows) -> Result<(), NoMemory>
         ensures { (r : Routing) → Stands r self.now → OnOk result (rows.new ≡ rows.old ++ option_to_list (the_route r host)) }
     {
-        if let Some(row) = self.route(host) {
-            rows.add(row)?;
-        }
-        Ok(())
+        add_row(self.route_near(at, host), rows)
     }
 
     fn routes(&self, alloc: Global) -> Result<RouteRows, NoMemory>
         ensures { (r : Routing) → Stands r self.now → IfOk result (λ rows. rows ≡ all_routes r) }
     {
         let mut rows = Items::new(alloc);
+        let mut at: usize = 0;
         for host in self.hosts.as_slice() {
-            self.add_route(*host, &mut rows)?;
+            self.add_route(at, *host, &mut rows)?;
+            at = at.saturating_add(1);
         }
         Ok(rows)
     }
@@ -283,6 +332,25 @@ impl Table {
         ensures { (r : Routing) → Stands r self.now → IfOk result (λ rows. rows ≡ all_routes r) }
     {
         Ok(Router::new(self.routes(alloc)?))
+    }
+
+    /// The route to a host of the network.
+    fn route_within(&self, host: Host) -> Option<RouteRow>
+        ensures { (r : Routing) → Stands r self.now → result ≡ route_within r host }
+    {
+        if !is_among(self.hosts.as_slice(), host) {
+            return None;
+        }
+        self.route(host)
+    }
+
+    /// The route to one host of the network in a list, which is empty where there is none.
+    pub fn router_to(&self, alloc: Global, host: Host) -> Result<Router, NoMemory>
+        ensures { (r : Routing) → Stands r self.now → IfOk result (λ rows. rows ≡ routes_within r host) }
+    {
+        let mut rows = Items::new(alloc);
+        add_row(self.route_within(host), &mut rows)?;
+        Ok(Router::new(rows))
     }
 
     /// What the node tells its neighbours: a row for each route.

@@ -12,20 +12,16 @@ use Rattle.plan_base.specs.declared.memory.NoMemory.{NoMemory}
 use Rattle.plan_base.specs.declared.name.Name.{Name}
 use Rattle.plan_base.specs.declared.tree.Chunk.{Chunk}
 use Rattle.typing_rules.specs.Handlers.{MayHandle}
-use Rattle.link_window.specs.declared.window.Stamp.{Stamp}
 use Rattle.link_window.specs.declared.window.Version.{Version}
 use Rattle.link_window.specs.declared.window.Version.TheVariants.{One, Two}
 use Rattle.packet_frame.specs.declared.frame.PlainStamped.{PlainStamped}
-use Rattle.packet_frame.specs.Stamped.{AcceptsBy}
-use Rattle.packet_frame.proofs.Versions.{accepted_by}
 use Rattle.network_plan.specs.Rules.{MayName}
-use Rattle.spelled_frame.specs.Spelled.{version_of}
 use Rattle.service_api.specs.Services.{ServiceState}
 use Rattle.node_model.specs.declared.acts.Act.{Act}
 use Rattle.node_model.specs.declared.acts.Acts.{Acts}
 use Rattle.node_model.specs.declared.acts.Lane.{Lane}
 use Rattle.node_model.specs.State.{NodeState, is_host}
-use Rattle.node_model.specs.Node.{NodeStep, stamped_step, arrived_read, arrive_step, inject_step, take_first, take_from, take_step}
+use Rattle.node_model.specs.Node.{NodeStep, inject_step, take_first, take_from, take_step}
 use Rattle.node_model.specs.Fits.{IsMarked}
 use Rattle.node_core.specs.declared.node.Node.{Node}
 use Rattle.node_core.specs.Stands.{NodeStands, IsStep}
@@ -80,18 +76,6 @@ take_from_nothing node d (Some lane) e = take_first_nothing node d lane.number l
 take_nothing : (node : NodeState) (d : Dev) → (take_step node d).frame ≡ None → (take_step node d).node ≡ node
 unfolding take_step
 take_nothing node d e = take_from_nothing node d (slice_get node.queues d.0) e
-
--- the version whose frames bear this
-marked_version : (v : Version) (o : Option Stamp) → IsMarked v o → version_of o ≡ v
-marked_version One None m = refl
-marked_version One (Some s) m = cc
-marked_version Two None m = absurd m
-marked_version Two (Some s) m = refl
-
--- a frame of the node's version that arrives by its bytes
-by_bytes : (bytes : List ℕ) (x : PlainStamped) (node : NodeState) (d : Dev) → AcceptsBy (version_of x.stamp) bytes x → IsMarked node.version x.stamp → arrive_step node d bytes ≡ stamped_step node d x
-unfolding arrive_step
-by_bytes bytes x node d h m = ap (arrived_read node d) (accepted_by node.version bytes x (subst (λ v. AcceptsBy v bytes x) (marked_version node.version x.stamp m) h))
 
 -- ---- handlers
 
@@ -260,17 +244,3 @@ module _ {S : Type 0} (stands : S → ServiceState) where
       → IfOk r (λ acts. StepsAt stands (λ node. take_step node dev) states at acts new) → IfOk r (λ acts. acts.frame ≡ None → AllStand stands new states)
   unchanged_at dev new at r states h = if_ok (λ acts. StepsAt stands (λ node. take_step node dev) states at acts new) (λ acts. acts.frame ≡ None → AllStand stands new states) r
       (λ acts s e. nothing_taken dev states at acts new s e) h
-
-  -- what arrives as the bytes of a frame arrives as that frame
-  pub handed_at : (dev : Dev) (bytes : List ℕ) (x : PlainStamped) (new : List (Node S)) (at : ℕ) (r : Result Acts NoMemory) (states : List NodeState) → AcceptsBy (version_of x.stamp) bytes x → IsMarkedAt states at x.stamp
-      → IfOk r (λ acts. StepsAt stands (λ node. arrive_step node dev bytes) states at acts new) → IfOk r (λ acts. StepsAt stands (λ node. stamped_step node dev x) states at acts new)
-  handed_at dev bytes x new at r states h marked done = if_ok (λ acts. StepsAt stands (λ node. arrive_step node dev bytes) states at acts new) (λ acts. StepsAt stands (λ node. stamped_step node dev x) states at acts new) r
-      (λ acts s.
-      let e = by_bytes bytes x s.node dev h (marked s.node s.there) in
-      record {
-        node = s.node;
-        there = s.there;
-        list = s.list ∙ ap (λ (t : NodeStep). t.acts) e;
-        frame = s.frame ∙ ap (λ (t : NodeStep). t.frame) e;
-        after = subst (AllStand stands new) (ap (λ (t : NodeStep). slice_set states at t.node) e) s.after;
-      }) done

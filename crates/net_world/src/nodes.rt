@@ -107,7 +107,7 @@ pub fn arrive_at<S: Services>(
     nodes[at].arrive(alloc, dev, bytes)
 }
 
-/// A frame of its version arrives at the node at this place, by its bytes.
+/// A frame of its version arrives at the node at this place.
 pub fn hand_to<S: Services>(
     alloc: Global,
     nodes: &mut [Node<S>],
@@ -120,7 +120,7 @@ pub fn hand_to<S: Services>(
         → IsMarkedAt states at frame.now.stamp → IfOk result (λ acts. StepsAt S.stands
         (λ node. stamped_step node dev frame.now) states at acts nodes.new) }
 {
-    arrive_at(alloc, nodes, at, dev, frame.bytes())
+    nodes[at].arrive_spelled(alloc, dev, frame)
 }
 
 /// A tick of the node at this place.

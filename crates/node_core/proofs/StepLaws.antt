@@ -24,7 +24,7 @@ use Rattle.packet_frame.specs.Stamped.{AcceptsBy, StampedFirst, stamped_plain}
 use Rattle.packet_frame.specs.Decoding.{unstamped_frame, read_by}
 use Rattle.packet_frame.proofs.OneAnswer.{first_is}
 use Rattle.packet_frame.proofs.Versions.{accepted_by, refused_by_two}
-use Rattle.spelled_frame.specs.Spelled.{what_of, MayCarry}
+use Rattle.spelled_frame.specs.Spelled.{what_of, MayCarry, version_of}
 use Rattle.spelled_frame.proofs.Reading.{one_accepted}
 use Rattle.service_api.specs.declared.advert.Advert.{Advert}
 use Rattle.service_api.specs.Adverts.{AdvertFits}
@@ -39,7 +39,8 @@ use Rattle.node_model.specs.declared.acts.Act.{Act}
 use Rattle.node_model.specs.declared.acts.Act.TheVariants.{Injected, Arrived, Stale, SerialsSpent}
 use Rattle.node_model.specs.declared.acts.Acts.{Acts}
 use Rattle.node_model.specs.State.{NodeState}
-use Rattle.node_model.specs.Node.{next_serial, injected_packet, visit_step, inject_step, stepped_node, mark_of, mark, takes_as, seen_then, with_seen, frame_step, only_acts, stamped_as, stamped_step}
+use Rattle.node_model.specs.Node.{NodeStep, next_serial, injected_packet, visit_step, inject_step, stepped_node, mark_of, mark, takes_as, seen_then, with_seen, frame_step, only_acts, stamped_as, stamped_step, arrived_read, arrive_step}
+use Rattle.node_model.specs.Fits.{IsMarked}
 use Rattle.node_laws.proofs.Staying.{frame_stays}
 use Rattle.node_core.specs.Heard.{IsHeard}
 use Rattle.node_core.specs.Stands.{NodeStands, IsStep, MayGoOn, mark_on, own_family, own_packet, asks_within}
@@ -142,6 +143,31 @@ module _ {S : Type 0} (stands : S → ServiceState) where
   stale_result s d x t (Ok acts) old n q e l f = stamped_so s d x t acts old q (subst (λ step. IsStep stands step acts old) (sym e) (record { list = l; frame = f; node = n }))
   stale_result s d x t (Err k) old n q e l f = l
 
+-- the version whose frames bear this
+marked_version : (v : Version) (o : Option Stamp) → IsMarked v o → version_of o ≡ v
+marked_version One None m = refl
+marked_version One (Some s) m = cc
+marked_version Two None m = absurd m
+marked_version Two (Some s) m = refl
+
+-- a frame of the node's version that arrives by its bytes
+by_bytes : (bytes : List ℕ) (x : PlainStamped) (s : NodeState) (d : Dev) → AcceptsBy (version_of x.stamp) bytes x → IsMarked s.version x.stamp → arrive_step s d bytes ≡ stamped_step s d x
+unfolding arrive_step
+by_bytes bytes x s d h m = ap (arrived_read s d) (accepted_by s.version bytes x (subst (λ v. AcceptsBy v bytes x) (marked_version s.version x.stamp m) h))
+
+module _ {S : Type 0} (stands : S → ServiceState) (d : Dev) (new : Node S) (r : Result Acts NoMemory) where
+  -- what arrives as the bytes of a frame arrives as that frame
+  pub bytes_arrive : (bytes : List ℕ) (x : PlainStamped) (s : NodeState) → AcceptsBy (version_of x.stamp) bytes x → IsMarked s.version x.stamp
+      → IfOk r (λ acts. IsStep stands (arrive_step s d bytes) acts new) → IfOk r (λ acts. IsStep stands (stamped_step s d x) acts new)
+  bytes_arrive bytes x s h m done = subst (λ (step : NodeStep). IfOk r (λ acts. IsStep stands step acts new)) (by_bytes bytes x s d h m) done
+
+  -- and so does what stands beside them
+  pub frame_arrives : (x y : PlainStamped) (s : NodeState) → y.stamp ≡ x.stamp → y.frame ≡ x.frame
+      → IfOk r (λ acts. IsStep stands (stamped_step s d y) acts new) → IfOk r (λ acts. IsStep stands (stamped_step s d x) acts new)
+  frame_arrives x y s e f done =
+      let same : y ≡ x = λ i. record { stamp = e i; frame = f i } in
+      subst (λ (z : PlainStamped). IfOk r (λ acts. IsStep stands (stamped_step s d z) acts new)) same done
+
 -- what a version lets be named may handle
 none_handles : (c : Chunk) (o : Option Name) → o ≡ None → MayHandle c o
 none_handles c None e = tt
@@ -198,6 +224,10 @@ goes_on One boot bytes o (PlainFrame.Packet p) h = h.read.1
 goes_on Two boot bytes o (PlainFrame.Packet p) h = tt
 goes_on v boot bytes o (PlainFrame.Advert a) h = tt
 goes_on v boot bytes o (PlainFrame.Ask bound chunk) h = tt
+
+-- what stands beside the bytes of a frame may go on from a node that reads these
+pub beside_goes_on : (v : Version) (boot : ℕ) (bytes : List ℕ) (x : PlainStamped) (y : PlainFrame) → AcceptsBy (version_of x.stamp) bytes x → v ≡ version_of x.stamp → y ≡ x.frame → MayGoOn (mark_of v boot) y
+beside_goes_on v boot bytes x y h e f = subst (MayGoOn (mark_of v boot)) (sym f) (goes_on v boot bytes x.stamp x.frame (subst (λ u. AcceptsBy u bytes x) (sym e) h))
 
 -- a packet that was read may go on
 pub read_carried : (v : Version) (bytes : List ℕ) (r : Result Stamped FrameFault) → IfOk r (λ x. AcceptsBy v bytes (stamped_plain x)) → (boot : ℕ) → IfOk r (λ x. MayGoOn (mark_of v boot) (plain_of x.frame))

@@ -8,6 +8,7 @@ use Rattle.plan_base.specs.declared.ids.Family.{Family}
 use Rattle.plan_base.specs.declared.tree.Chunk.{Chunk}
 use Rattle.plan_base.specs.declared.tree.Packet.{Packet}
 use Rattle.packet_frame.specs.declared.frame.PlainFrame.{PlainFrame}
+use Rattle.packet_frame.specs.declared.frame.PlainStamped.{PlainStamped}
 use Rattle.service_api.specs.Routes.{default_route}
 use Rattle.service_api.specs.Services.{ServiceState}
 use Rattle.dv_routing.specs.Stands.{Stands}
@@ -52,6 +53,10 @@ own_family here serial = record { source = here; serial = serial }
 
 abbrev pub own_packet : Host → ℕ → Chunk → ℕ → Option Name → Packet
 own_packet here serial chunk bound handler = record { family = own_family here serial; dest = here; bound = bound; route = default_route; chunk = chunk; handler = handler }
+
+-- a frame with this stamp, or with none
+abbrev pub with_stamp : Option Stamp → PlainFrame → PlainStamped
+with_stamp m x = record { stamp = m; frame = x }
 
 -- a packet that may go on from a node whose frames bear this
 abbrev pub MayGoOn : Option Stamp → PlainFrame → Type 0

@@ -1,5 +1,5 @@
 ghost use Rattle.std.specs.Prelude.{◌≡◌, ◌≤◌, ◌<◌, length, ◌++◌, IfOk, OnErr, [], ◌∷◌, slice_get, None};
-ghost use Rattle.node_model.specs.State.{NodeState, new_node, neighbour_on, leads_to};
+ghost use Rattle.node_model.specs.State.{NodeState, new_node, neighbour_on, leads_to, routing_of};
 ghost use Rattle.node_model.specs.Visits.{around};
 ghost use Rattle.node_model.specs.declared.acts.Act.TheVariants as act;
 ghost use Rattle.node_model.specs.Node as spec;
@@ -10,12 +10,13 @@ ghost use Rattle.network_plan.specs.Rules.{MayName};
 ghost use Rattle.spelled_frame.specs.Spelled as spelled;
 ghost use Rattle.spelled_frame.specs.Spelled.{MayCarry};
 ghost use Rattle.node_model.specs.Counts.{came, stale, StepBalances};
-ghost use Rattle.node_model.specs.Fits.{ConfigFits, NodeFits, comes_fit, comes_within};
+ghost use Rattle.node_model.specs.Fits.{ConfigFits, NodeFits, IsMarked, comes_fit, comes_within};
 ghost use Rattle.node_core.specs.Queued.{queued_at};
 ghost use Rattle.packet_frame.specs.Typed.{plain_of};
-ghost use Rattle.packet_frame.specs.Stamped.{stamped_plain};
+ghost use Rattle.dv_routing.specs.Routing.{all_routes};
+ghost use Rattle.service_api.specs.Routes.{hop};
 ghost use Rattle.node_core.specs.Turns.{IsResting};
-ghost use Rattle.node_core.specs.Stands.{NodeStands, IsStep, MayGoOn, version_of, mark_on, own_family, own_packet, asks_within};
+ghost use Rattle.node_core.specs.Stands.{NodeStands, IsStep, MayGoOn, version_of, mark_on, with_stamp, own_family, own_packet, asks_within};
 
 use crate::idle_services::IdleServices;
 use crate::lanes::{count_frames, has_frame, open_lanes, take_first};
@@ -29,13 +30,14 @@ use chunk_types::{CheckedChunk, CheckedPacket};
 use link_window::{Stamp, Took, Version, Window};
 use network_plan::{Event, NodeConfig};
 use node_model::{Act, ActList, Acts, Lane, Reason};
-use packet_frame::{Frame, FrameFault, Stamped};
+use packet_frame::{Frame, FrameFault};
 use plan_base::{Dev, Family, Host, Name, NoMemory};
 use plan_copies::copy_handler;
 use plan_items::Items;
 use plan_types::Checked;
 use remote_calls::default_route;
 use service_api::{Advert, Ctx, Hop, Services};
+use spelled_frame::SpelledFrame;
 use std::alloc::Global;
 
 /// A node: its host, its version, the moment at which it began, its neighbours by device, its routes, its services, for each
@@ -395,6 +397,15 @@ impl<S: Services> Node<S> {
         self.only_acts(alloc, Act::Arrived(dev), dropped)
     }
 
+    /// Where a packet for another host goes next.
+    fn hop(&self, alloc: Global, packet: &CheckedPacket) -> Result<Hop, NoMemory>
+        ensures { (s : NodeState) → NodeStands S.stands self.now s → IfOk result (λ to. to ≡ hop (all_routes (routing_of s)) packet.now.route s.here packet.now.dest) }
+    {
+        let dest = packet.dest();
+        let router = self.routes.router_to(alloc, dest)?;
+        Ok(router.next(packet.route(), self.here, dest))
+    }
+
     /// A packet for another host. Condition: under version 1 it has no handler.
     #[tactic(auto, unfolding(node_model::specs::Node::forward_step))]
     fn forward(&mut self, alloc: Global, dev: Dev, packet: &CheckedPacket) -> Result<Acts, NoMemory>
@@ -407,8 +418,7 @@ impl<S: Services> Node<S> {
             let dropped = Act::Dropped(Reason::NoBound, packet.family(), 0);
             return self.only_acts(alloc, Act::Arrived(dev), dropped);
         }
-        let router = self.routes.router(alloc)?;
-        let hop = router.next(packet.route(), self.here, packet.dest());
+        let hop = self.hop(alloc, packet)?;
         self.forward_by(alloc, dev, packet, hop)
     }
 
@@ -495,14 +505,20 @@ impl<S: Services> Node<S> {
     }
 
     /// A fresh frame arrives, and its stamp is taken. Condition: under version 1 a packet has no handler.
-    fn arrive_fresh(&mut self, alloc: Global, dev: Dev, stamped: &Stamped) -> Result<Acts, NoMemory>
-        requires { MayGoOn (mark_on self.old) (plain_of stamped.now.frame) }
-        ensures ok { (s : NodeState) → NodeStands S.stands self.old s → spec.takes_as s.seen dev stamped.now.stamp ≡ FreshOne → IfOk result (λ acts. IsStep S.stands (spec.stamped_as s dev (stamped_plain stamped.now) FreshOne) acts self.new) }
+    fn arrive_fresh(
+        &mut self,
+        alloc: Global,
+        dev: Dev,
+        stamp: Option<Stamp>,
+        frame: &Frame,
+    ) -> Result<Acts, NoMemory>
+        requires { MayGoOn (mark_on self.old) (plain_of frame.now) }
+        ensures ok { (s : NodeState) → NodeStands S.stands self.old s → spec.takes_as s.seen dev stamp ≡ FreshOne → IfOk result (λ acts. IsStep S.stands (spec.stamped_as s dev (with_stamp stamp (plain_of frame.now)) FreshOne) acts self.new) }
         ensures err { (s : NodeState) → NodeStands S.stands self.old s → OnErr result (NodeStands S.stands self.new s) }
         ensures same { version_of self.new ≡ version_of self.old }
     {
-        let acts = self.arrive_frame(alloc, dev, &stamped.frame)?;
-        self.note(dev, stamped.stamp);
+        let acts = self.arrive_frame(alloc, dev, frame)?;
+        self.note(dev, stamp);
         Ok(acts)
     }
 
@@ -528,17 +544,18 @@ impl<S: Services> Node<S> {
         &mut self,
         alloc: Global,
         dev: Dev,
-        stamped: &Stamped,
+        stamp: Option<Stamp>,
+        frame: &Frame,
     ) -> Result<Acts, NoMemory>
-        requires { MayGoOn (mark_on self.old) (plain_of stamped.now.frame) }
-        ensures ok { (s : NodeState) → NodeStands S.stands self.old s → IfOk result (λ acts. IsStep S.stands (spec.stamped_step s dev (stamped_plain stamped.now)) acts self.new) }
+        requires { MayGoOn (mark_on self.old) (plain_of frame.now) }
+        ensures ok { (s : NodeState) → NodeStands S.stands self.old s → IfOk result (λ acts. IsStep S.stands (spec.stamped_step s dev (with_stamp stamp (plain_of frame.now))) acts self.new) }
         ensures err { (s : NodeState) → NodeStands S.stands self.old s → OnErr result (NodeStands S.stands self.new s) }
         ensures same { version_of self.new ≡ version_of self.old }
     {
-        match self.judge(dev, stamped.stamp) {
-            Took::Fresh => self.arrive_fresh(alloc, dev, stamped),
-            Took::Repeated => self.arrive_stale(alloc, dev, Took::Repeated, &stamped.frame),
-            Took::TooOld => self.arrive_stale(alloc, dev, Took::TooOld, &stamped.frame),
+        match self.judge(dev, stamp) {
+            Took::Fresh => self.arrive_fresh(alloc, dev, stamp, frame),
+            Took::Repeated => self.arrive_stale(alloc, dev, Took::Repeated, frame),
+            Took::TooOld => self.arrive_stale(alloc, dev, Took::TooOld, frame),
         }
     }
 
@@ -563,10 +580,30 @@ impl<S: Services> Node<S> {
         match read_as(alloc, bytes, self.version, self.known.as_ref()) {
             Ok(stamped) => {
                 self.remember(&stamped.frame);
-                self.arrive_stamped(alloc, dev, &stamped)
+                self.arrive_stamped(alloc, dev, stamped.stamp, &stamped.frame)
             }
             Err(FrameFault::NoMemory) => Err(NoMemory),
             Err(refusal) => self.only_acts(alloc, Act::Arrived(dev), Act::Bad(refusal)),
+        }
+    }
+
+    /// The step of a frame that arrives over a device from a node of the same version: as it stands beside its bytes, and by these
+    /// where it doesn't.
+    pub fn arrive_spelled(
+        &mut self,
+        alloc: Global,
+        dev: Dev,
+        frame: &SpelledFrame,
+    ) -> Result<Acts, NoMemory>
+        ensures ok { (s : NodeState) → NodeStands S.stands self.old s → IsMarked s.version frame.now.stamp → IfOk result (λ acts. IsStep S.stands (spec.stamped_step s dev frame.now) acts self.new) }
+        ensures err { (s : NodeState) → NodeStands S.stands self.old s → OnErr result (NodeStands S.stands self.new s) }
+        ensures same { version_of self.new ≡ version_of self.old }
+    {
+        let bytes = frame.bytes();
+        let stamp = frame.stamp();
+        match frame.frame(self.version) {
+            Some(own) => self.arrive_stamped(alloc, dev, stamp, own),
+            None => self.arrive(alloc, dev, bytes),
         }
     }
 

@@ -46,7 +46,7 @@ pub fn visit_sendings(
     requires { All (Carries mark) outbox }
     ensures { IfOk result (λ sends. sends ≡ map (spec.packet_sending mark) outbox) }
 {
-    let mut sends = Items::new(alloc);
+    let mut sends = Items::from_vec(Vec::with_capacity(alloc, outbox.len())?);
     for sent in outbox.into_vec() {
         sends.add(packet_sending(alloc, mark, sent.dev, &sent.packet)?)?;
     }
@@ -83,7 +83,7 @@ pub fn advert_sendings(
     requires { AdvertFits advert.now }
     ensures { IfOk result (λ sends. sends ≡ map (spec.advert_sending mark advert.now) neighbours.now) }
 {
-    let mut sends = Items::new(alloc);
+    let mut sends = Items::from_vec(Vec::with_capacity(alloc, neighbours.len())?);
     for link in neighbours {
         sends.add(advert_sending(alloc, mark, advert, *link)?)?;
     }

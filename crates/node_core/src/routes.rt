@@ -1,6 +1,6 @@
 ghost use Rattle.std.specs.Prelude.{◌≡◌, ◌<◌, ◌^◌, [], IfOk};
 ghost use Rattle.service_api.specs.Adverts.{AdvertFits};
-ghost use Rattle.dv_routing.specs.Routing.{Routing, opening_routing, hears, all_routes, own_advert};
+ghost use Rattle.dv_routing.specs.Routing.{Routing, opening_routing, hears, all_routes, routes_within, own_advert};
 ghost use Rattle.dv_routing.specs.Sorted.{sorted_into};
 ghost use Rattle.dv_routing.specs.Stands.{Stands};
 ghost use Rattle.node_model.specs.Fits.{NetworkFits};
@@ -68,6 +68,13 @@ impl Routes {
         ensures { (r : Routing) → Stands r self.now → IfOk result (λ rows. rows ≡ all_routes r) }
     {
         self.table.router(alloc)
+    }
+
+    /// The route to one host of the network, as far as it is known.
+    pub fn router_to(&self, alloc: Global, host: Host) -> Result<Router, NoMemory>
+        ensures { (r : Routing) → Stands r self.now → IfOk result (λ rows. rows ≡ routes_within r host) }
+    {
+        self.table.router_to(alloc, host)
     }
 
     /// What the node tells its neighbours.

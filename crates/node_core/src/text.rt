@@ -45,7 +45,7 @@ pub fn put_family(out: &mut Bytes, f: Family) -> Result<(), NoMemory>
     ensures { OnOk result (out.new ≡ out.old ++ spec.family_text f) }
 {
     put_number(out, u64::from(f.source.0))?;
-    out.add_all(b".")?;
+    out.add(b'.')?;
     put_number(out, f.serial)?;
     Ok(())
 }
@@ -54,7 +54,7 @@ pub fn put_family(out: &mut Bytes, f: Family) -> Result<(), NoMemory>
 pub fn put_bound(out: &mut Bytes, f: Family, bound: u32) -> Result<(), NoMemory>
     ensures { OnOk result (out.new ≡ out.old ++ spec.bound_text f bound) }
 {
-    out.add_all(b" ")?;
+    out.add(b' ')?;
     put_family(out, f)?;
     out.add_all(b" bound ")?;
     put_number(out, u64::from(bound))?;
@@ -96,7 +96,7 @@ fn put_print(alloc: Global, out: &mut Bytes, host: Host, value: &Value) -> Resul
     ensures { OnOk result (out.new ≡ out.old ++ (spec.head_text (codes "print") host ++ (codes " " ++ value_text value.now))) }
 {
     put_head(out, b"print", host)?;
-    out.add_all(b" ")?;
+    out.add(b' ')?;
     print_value(alloc, value, out)?;
     Ok(())
 }
@@ -111,9 +111,9 @@ fn put_port(
     ensures { OnOk result (out.new ≡ out.old ++ (spec.head_text (codes "port") host ++ (codes " " ++ (decimal port ++ (codes " " ++ value_text value.now))))) }
 {
     put_head(out, b"port", host)?;
-    out.add_all(b" ")?;
+    out.add(b' ')?;
     put_number(out, u64::from(port))?;
-    out.add_all(b" ")?;
+    out.add(b' ')?;
     print_value(alloc, value, out)?;
     Ok(())
 }
@@ -150,9 +150,9 @@ fn put_ended(
     ensures { OnOk result (out.new ≡ out.old ++ (spec.head_text (codes "value") host ++ (codes " " ++ (spec.family_text f ++ (codes " " ++ (value_text value.now ++ spec.rest_text evals left)))))) }
 {
     put_head(out, b"value", host)?;
-    out.add_all(b" ")?;
+    out.add(b' ')?;
     put_family(out, f)?;
-    out.add_all(b" ")?;
+    out.add(b' ')?;
     print_value(alloc, value, out)?;
     put_rest(out, evals, left)?;
     Ok(())
@@ -169,9 +169,9 @@ fn put_raised(
     ensures { OnOk result (out.new ≡ out.old ++ (spec.head_text (codes "raised") host ++ (codes " " ++ (spec.family_text f ++ (codes " " ++ (name.now ++ spec.rest_text evals left)))))) }
 {
     put_head(out, b"raised", host)?;
-    out.add_all(b" ")?;
+    out.add(b' ')?;
     put_family(out, f)?;
-    out.add_all(b" ")?;
+    out.add(b' ')?;
     out.add_all(name)?;
     put_rest(out, evals, left)?;
     Ok(())
@@ -181,7 +181,7 @@ fn put_spent(out: &mut Bytes, host: Host, f: Family, left: u32) -> Result<(), No
     ensures { OnOk result (out.new ≡ out.old ++ (spec.head_text (codes "spent") host ++ (codes " " ++ (spec.family_text f ++ (codes " left " ++ decimal left))))) }
 {
     put_head(out, b"spent", host)?;
-    out.add_all(b" ")?;
+    out.add(b' ')?;
     put_family(out, f)?;
     out.add_all(b" left ")?;
     put_number(out, u64::from(left))?;
@@ -199,9 +199,9 @@ fn put_handled(
     ensures { OnOk result (out.new ≡ out.old ++ (spec.head_text (codes "handler") host ++ (codes " " ++ (spec.family_text f ++ (codes " " ++ (name.now ++ (codes " bound " ++ decimal bound))))))) }
 {
     put_head(out, b"handler", host)?;
-    out.add_all(b" ")?;
+    out.add(b' ')?;
     put_family(out, f)?;
-    out.add_all(b" ")?;
+    out.add(b' ')?;
     out.add_all(name)?;
     out.add_all(b" bound ")?;
     put_number(out, u64::from(bound))?;
@@ -296,7 +296,7 @@ fn put_dropped(
     ensures { OnOk result (out.new ≡ out.old ++ (spec.head_text (codes "drop") host ++ (codes " " ++ (spec.reason_text reason ++ spec.bound_text f bound)))) }
 {
     put_head(out, b"drop", host)?;
-    out.add_all(b" ")?;
+    out.add(b' ')?;
     out.add_all(reason_word(reason))?;
     put_bound(out, f, bound)?;
     Ok(())
@@ -328,7 +328,7 @@ fn put_stale(out: &mut Bytes, host: Host, took: Took, what: What) -> Result<(), 
     ensures { OnOk result (out.new ≡ out.old ++ (spec.head_text (codes "drop") host ++ (codes " " ++ (spec.took_text took ++ spec.stale_text what)))) }
 {
     put_head(out, b"drop", host)?;
-    out.add_all(b" ")?;
+    out.add(b' ')?;
     out.add_all(took_word(took))?;
     put_held(out, what)?;
     Ok(())
@@ -339,7 +339,7 @@ fn put_taken(out: &mut Bytes, host: Host, dev: Dev, what: What) -> Result<(), No
 {
     put_head(out, b"send", host)?;
     put_device(out, dev)?;
-    out.add_all(b" ")?;
+    out.add(b' ')?;
     put_what(out, what)?;
     Ok(())
 }
@@ -388,9 +388,9 @@ fn put_act_line(
     ensures { OnOk result (out.new ≡ out.old ++ spec.act_line event here act.now) }
 {
     put_number(out, event)?;
-    out.add_all(b" ")?;
+    out.add(b' ')?;
     put_act_text(alloc, out, here, act)?;
-    out.add_all(b"\n")?;
+    out.add(b'\n')?;
     Ok(())
 }
 

@@ -33,7 +33,7 @@ fn put_row(out: &mut Bytes, f: Family, row: Row) -> Result<(), NoMemory>
     put_count(out, b" evals ", row.evals)?;
     put_count(out, b" live ", row.live)?;
     put_count(out, b" left ", row.left)?;
-    out.add_all(b"\n")?;
+    out.add(b'\n')?;
     Ok(())
 }
 

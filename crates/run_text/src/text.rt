@@ -11,6 +11,9 @@ use plan_base::{Bytes, Family, Host, NoMemory};
 use std::alloc::Global;
 use world_model::Line;
 
+/// The bytes for which the text of an event's lines has room at first; most take no more.
+const LINES_ROOM: usize = 512;
+
 /// A word and a number.
 fn put_numbered(out: &mut Bytes, word: &[u8], number: u32) -> Result<(), NoMemory>
     ensures { OnOk result (out.new ≡ out.old ++ (word.now ++ decimal number)) }
@@ -25,7 +28,7 @@ fn put_shown(alloc: Global, out: &mut Bytes, frames: bool, frame: &Bytes) -> Res
     ensures { OnOk result (out.new ≡ out.old ++ spec.shown_text frames frame.now) }
 {
     if frames {
-        out.add_all(b" ")?;
+        out.add(b' ')?;
         out.add_all(encode(alloc, frame.as_slice())?.as_bytes())?;
     }
     Ok(())
@@ -95,9 +98,9 @@ fn put_line(
     ensures { OnOk result (out.new ≡ out.old ++ spec.entry_text frames (entry_at event line.now)) }
 {
     put_number(out, u64::from(event))?;
-    out.add_all(b" ")?;
+    out.add(b' ')?;
     put_line_text(alloc, out, frames, line)?;
-    out.add_all(b"\n")?;
+    out.add(b'\n')?;
     Ok(())
 }
 
@@ -128,7 +131,7 @@ pub fn put_lines(
     ensures whole { OnOk result (out.new ≡ out.old ++ spec.entries_text frames (map (entry_at event) lines.now)) }
     ensures stays { OnErr result (out.new ≡ out.old) }
 {
-    let mut text = Bytes::new(alloc);
+    let mut text = Bytes::of(Vec::with_capacity(alloc, LINES_ROOM)?);
     put_all_lines(alloc, &mut text, frames, event, lines)?;
     out.add_all(text.as_slice())?;
     Ok(())

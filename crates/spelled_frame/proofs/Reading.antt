@@ -5,6 +5,7 @@ use Rattle.packet_frame.specs.declared.frame.PlainStamped.{PlainStamped}
 use Rattle.link_window.specs.declared.window.Version.TheVariants.{One, Two}
 use Rattle.link_window.specs.declared.window.Stamp.{Stamp}
 use Rattle.packet_frame.specs.declared.frame.PlainFrame.{PlainFrame}
+use Rattle.packet_frame.specs.declared.checked.Frame.{Frame}
 use Rattle.std.specs.Prelude.{Result, Ok, Err, IfOk}
 use Rattle.plan_base.specs.declared.memory.NoMemory.{NoMemory}
 use Rattle.plan_base.specs.declared.name.Name.{Name}
@@ -14,7 +15,7 @@ use Rattle.packet_frame.specs.Stamped.{packet_with, stamped_bytes, SpellsStamped
 use Rattle.packet_frame.proofs.Carried.{plain_carries}
 use Rattle.packet_frame.proofs.Versions.{accepted_by}
 use Rattle.spelled_frame.specs.declared.spelled.What.{What}
-use Rattle.spelled_frame.specs.Spelled.{frame_or, frame_in, what_of, IsOnItsWay, IsSpelled, stamp_with, numbered_frame, is_stamped, version_of}
+use Rattle.spelled_frame.specs.Spelled.{frame_or, frame_in, what_of, IsOnItsWay, IsSpelled, IsFrame, IsBeside, stamp_with, numbered_frame, is_stamped, version_of}
 
 pub frame_is_read : (v : Version) (bytes : List ℕ) (x : PlainStamped) → AcceptsBy v bytes x → frame_in v bytes ≡ x
 unfolding frame_in
@@ -29,6 +30,10 @@ is_spelled v bytes x w h o e =
       way = subst (λ y. IsOnItsWay y.frame) (sym r) o;
       holds = e ∙ ap (λ y. what_of y.frame) (sym r);
     }
+
+-- what stands beside a frame stands beside what its bytes spell
+pub is_beside : (v : Version) (bytes : List ℕ) (x : PlainStamped) (stamp : Option Stamp) (frame : Option Frame) → frame_in v bytes ≡ x → stamp ≡ x.stamp → IsFrame x.frame frame → IsBeside (frame_in v bytes) stamp frame
+is_beside v bytes x stamp frame e s h = (s ∙ sym (ap (λ y. y.stamp) e), subst (λ y. IsFrame y.frame frame) (sym e) h)
 
 -- ---- what is spelled is accepted
 

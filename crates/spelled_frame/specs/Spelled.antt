@@ -7,8 +7,10 @@ use Rattle.plan_base.specs.declared.name.Name.{Name}
 use Rattle.plan_base.specs.declared.tree.Packet.{Packet}
 use Rattle.packet_frame.specs.declared.frame.PlainFrame.{PlainFrame}
 use Rattle.packet_frame.specs.declared.frame.PlainStamped.{PlainStamped}
+use Rattle.packet_frame.specs.declared.checked.Frame.{Frame}
 use Rattle.packet_frame.specs.declared.fault.FrameFault.{FrameFault}
 use Rattle.packet_frame.specs.Stamped.{AcceptsBy}
+use Rattle.packet_frame.specs.Typed.{plain_of}
 use Rattle.packet_frame.specs.Decoding.{read_by}
 use Rattle.spelled_frame.specs.declared.spelled.What.{What}
 use Rattle.spelled_frame.specs.declared.spelled.What.TheVariants as what
@@ -40,6 +42,15 @@ pub record IsSpelled (v : Version) (bytes : List ℕ) (w : What) : Type 0 where
   pub accepted : AcceptsBy v bytes (frame_in v bytes)
   pub way : IsOnItsWay (frame_in v bytes).frame
   pub holds : w ≡ what_of (frame_in v bytes).frame
+
+-- what stands for a frame, if there is something, is that frame
+abbrev pub IsFrame : PlainFrame → Option Frame → Type 0
+IsFrame x None = Unit {0}
+IsFrame x (Some y) = plain_of y ≡ x
+
+-- the stamp and the frame that stand beside bytes are those of the frame that they spell
+abbrev pub IsBeside : PlainStamped → Option Stamp → Option Frame → Type 0
+IsBeside x stamp frame = (stamp ≡ x.stamp) × IsFrame x.frame frame
 
 abbrev pub stamp_with : ℕ → Option Stamp → Option Stamp
 stamp_with n None = None

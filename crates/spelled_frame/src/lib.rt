@@ -1,4 +1,4 @@
-//! Frames on their way, kept as their bytes.
+//! Frames on their way, kept as their bytes, and short packets beside these as they are.
 #![tactic(auto)]
 
 mod spelled;

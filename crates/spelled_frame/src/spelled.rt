@@ -1,18 +1,25 @@
-ghost use Rattle.std.specs.Prelude.{◌≡◌, ◌≤◌, IfOk};
+ghost use Rattle.std.specs.Prelude.{◌≡◌, ◌≤◌, IsTrue, IfOk, IfSome, None};
+ghost use Rattle.typing_rules.specs.Handlers.{MayHandle};
 ghost use Rattle.service_api.specs.Adverts.{AdvertFits};
 ghost use Rattle.packet_frame.specs.declared.frame.PlainFrame.{PlainFrame};
 ghost use Rattle.packet_frame.specs.Stamped.{AcceptsBy};
+ghost use Rattle.packet_frame.specs.Typed.{plain_of};
 ghost use Rattle.link_window.specs.declared.window.Version.TheVariants.{One, Two};
 ghost use Rattle.spelled_frame.specs.Spelled as spec;
-ghost use Rattle.spelled_frame.specs.Spelled.{frame_in, IsSpelled, MayCarry};
+ghost use Rattle.spelled_frame.specs.Spelled.{frame_in, IsSpelled, IsBeside, IsFrame, MayCarry};
 
 use chunk_types::CheckedPacket;
 use link_window::{Stamp, Version};
-use packet_frame::{put_advert, put_advert2, put_packet, put_packet2, with_link};
-use plan_base::{Bytes, Family, NoMemory};
+use packet_frame::{Frame, put_advert, put_advert2, put_packet, put_packet2, with_link};
+use plan_base::{Bytes, Family, Name, NoMemory};
+use plan_copies::copy_handler;
+use plan_items::Boxed;
 use service_api::Advert;
 use std::alloc::Global;
 use std::marker::Model;
+
+/// The most bytes of a frame beside which its packet stands.
+const SHORT_FRAME: usize = 1_024;
 
 /// What a frame on its way holds.
 #[derive(Clone, Copy, PartialEq, Eq)]
@@ -24,18 +31,20 @@ pub enum What {
 }
 
 /// A packet with a typed chunk or an advert, kept as the bytes of its frame, which contracts see as that frame with its
-/// stamp. What it holds stands beside the bytes.
+/// stamp. What it holds stands beside the bytes, and where these are few, the packet itself, so that it need not be read again.
 #[derive(Drop)]
 pub struct SpelledFrame {
     version: Version,
+    stamp: Option<Stamp>,
     bytes: Bytes,
     what: What,
+    frame: Option<Boxed<Frame>>,
 }
 
 impl Model for SpelledFrame {
     ghost use Rattle.packet_frame.specs.declared.frame.PlainStamped.{PlainStamped};
     ghost use Rattle.packet_frame.specs.contracts.frame.PlainStamped as whole;
-    ghost use Rattle.spelled_frame.specs.Spelled.{frame_in, IsSpelled};
+    ghost use Rattle.spelled_frame.specs.Spelled.{frame_in, IsSpelled, IsBeside};
 
     ghost Value = { PlainStamped };
 
@@ -43,7 +52,8 @@ impl Model for SpelledFrame {
 
     ghost view = { λ s. frame_in s.version s.bytes };
 
-    ghost invariant = { λ s. IsSpelled s.version s.bytes s.what };
+    ghost invariant = { λ s. IsSpelled s.version s.bytes s.what
+        × IsBeside (frame_in s.version s.bytes) s.stamp s.frame };
 }
 
 /// The version of the frames that bear this stamp, or none. Takes no memory.
@@ -89,6 +99,74 @@ fn advert_bytes(alloc: Global, advert: &Advert, mark: Option<Stamp>) -> Result<B
     }
 }
 
+/// The packet with this handler, if there is one. Conditions: it has none, and the handler may handle. Takes no memory.
+fn with_handler(packet: CheckedPacket, handler: Option<Name>) -> CheckedPacket
+    requires plain { packet.handler ≡ None }
+    requires handler { MayHandle packet.chunk handler }
+    ensures { result ≡ record packet { handler = handler } }
+{
+    match handler {
+        None => packet,
+        Some(name) => packet.handled_by(name),
+    }
+}
+
+/// The same packet with another bound.
+fn with_bound(alloc: Global, packet: &CheckedPacket, bound: u32) -> Result<CheckedPacket, NoMemory>
+    requires { bound ≤ 65535 }
+    ensures { IfOk result (λ p. p ≡ record packet.now { bound = bound }) }
+{
+    let route = packet.route().copy(alloc)?;
+    let chunk = packet.chunk().copy(alloc)?;
+    let handler = copy_handler(alloc, packet.handler())?;
+    let bare = CheckedPacket::of(packet.family(), packet.dest(), bound, route, chunk);
+    Ok(with_handler(bare, handler))
+}
+
+/// The packet with another bound, where its frame has few bytes.
+fn packet_beside(
+    alloc: Global,
+    packet: &CheckedPacket,
+    bound: u32,
+    bytes: &Bytes,
+) -> Result<Option<Boxed<Frame>>, NoMemory>
+    requires { bound ≤ 65535 }
+    ensures { IfOk result
+        (λ frame. IsFrame (PlainFrame.Packet (record packet.now { bound = bound })) frame) }
+{
+    if bytes.len() > SHORT_FRAME {
+        return Ok(None);
+    }
+    let own = with_bound(alloc, packet, bound)?;
+    Ok(Some(Boxed::new(alloc, Frame::Packet(own))?))
+}
+
+/// Whether this is the same version.
+fn is_same(a: Version, b: Version) -> bool
+    ensures { IsTrue result → a ≡ b }
+{
+    match a {
+        Version::One => match b {
+            Version::One => true,
+            Version::Two => false,
+        },
+        Version::Two => match b {
+            Version::One => false,
+            Version::Two => true,
+        },
+    }
+}
+
+/// A stamp, where there is one, with this number.
+fn stamp_with(link: u64, stamp: Option<Stamp>) -> Option<Stamp>
+    ensures { result ≡ spec.stamp_with link stamp }
+{
+    match stamp {
+        None => None,
+        Some(s) => Some(Stamp { boot: s.boot, link }),
+    }
+}
+
 impl SpelledFrame {
     /// The frame of a packet with another bound and this stamp, under version 2, or with none, under version 1. Conditions:
     /// the bound is at most 65,535, and without a stamp the packet has no handler.
@@ -103,11 +181,14 @@ impl SpelledFrame {
         ensures { IfOk result (λ s. s ≡ spec.packet_frame mark packet.now bound) }
     {
         let bytes = packet_bytes(alloc, packet, bound, mark)?;
+        let frame = packet_beside(alloc, packet, bound, &bytes)?;
         let what = What::Packet(packet.family(), bound);
         Ok(SpelledFrame {
             version: version_of(mark),
+            stamp: mark,
             bytes,
             what,
+            frame,
         })
     }
 
@@ -124,8 +205,10 @@ impl SpelledFrame {
         let bytes = advert_bytes(alloc, advert, mark)?;
         Ok(SpelledFrame {
             version: version_of(mark),
+            stamp: mark,
             bytes,
             what: What::Advert,
+            frame: None,
         })
     }
 
@@ -134,6 +217,28 @@ impl SpelledFrame {
         ensures { result ≡ spec.what_of self.now.frame }
     {
         self.what
+    }
+
+    /// Its stamp, where it bears one. Takes no memory.
+    pub fn stamp(&self) -> Option<Stamp>
+        ensures { result ≡ self.now.stamp }
+    {
+        self.stamp
+    }
+
+    /// The frame itself, where it stands beside its bytes and they are read by this version. Takes no memory.
+    #[tactic(auto, using(crate::proofs::Reading::version_is))]
+    pub fn frame(&self, version: Version) -> Option<&Frame>
+        ensures frame { IfSome result (λ x. plain_of x.now ≡ self.now.frame) }
+        ensures version { IfSome result (λ x. version ≡ spec.version_of self.now.stamp) }
+    {
+        if !is_same(version, self.version) {
+            return None;
+        }
+        match &self.frame {
+            None => None,
+            Some(frame) => Some(frame.get()),
+        }
     }
 
     /// Whether it bears a stamp. Takes no memory.
@@ -177,39 +282,59 @@ impl SpelledFrame {
     {
         let SpelledFrame {
             version,
+            stamp,
             bytes,
             what,
+            frame,
         } = self;
         match version {
-            Version::One => same_number(bytes, what, link),
-            Version::Two => other_number(bytes, what, link),
+            Version::One => same_number(stamp, bytes, what, frame, link),
+            Version::Two => other_number(stamp, bytes, what, frame, link),
         }
     }
 }
 
 /// A frame of version 1, which has no number.
 #[tactic(auto, using(crate::proofs::Reading::one_numbered))]
-fn same_number(bytes: Bytes, what: What, link: u64) -> SpelledFrame
-    requires { IsSpelled One bytes what }
+fn same_number(
+    stamp: Option<Stamp>,
+    bytes: Bytes,
+    what: What,
+    frame: Option<Boxed<Frame>>,
+    link: u64,
+) -> SpelledFrame
+    requires spelled { IsSpelled One bytes what }
+    requires beside { IsBeside (frame_in One bytes) stamp frame }
     ensures { result ≡ spec.numbered_frame link (frame_in One bytes) }
 {
     let _link = link;
     SpelledFrame {
         version: Version::One,
+        stamp,
         bytes,
         what,
+        frame,
     }
 }
 
 /// A frame of version 2 with this number.
 #[tactic(auto, using(crate::proofs::Reading::has_stamp, crate::proofs::Reading::two_numbered, crate::proofs::Reading::two_spelled))]
-fn other_number(bytes: Bytes, what: What, link: u64) -> SpelledFrame
-    requires { IsSpelled Two bytes what }
+fn other_number(
+    stamp: Option<Stamp>,
+    bytes: Bytes,
+    what: What,
+    frame: Option<Boxed<Frame>>,
+    link: u64,
+) -> SpelledFrame
+    requires spelled { IsSpelled Two bytes what }
+    requires beside { IsBeside (frame_in Two bytes) stamp frame }
     ensures { result ≡ spec.numbered_frame link (frame_in Two bytes) }
 {
     SpelledFrame {
         version: Version::Two,
+        stamp: stamp_with(link, stamp),
         bytes: with_link(bytes, link),
         what,
+        frame,
     }
 }
