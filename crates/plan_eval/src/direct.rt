@@ -13,20 +13,9 @@ ghost use Rattle.plan_meaning.specs.Meaning.{entered_function, meaning, visited_
 ghost use Rattle.plan_meaning.specs.Safe.{IsSafe};
 ghost use Rattle.eval_steps.specs.declared.next.Next.TheVariants as next;
 ghost use Rattle.eval_steps.specs.Nexts.{begins, call_of, next_step};
-ghost use Rattle.plan_eval.specs.Direct.{spot, IsHere, Flows, Bodies, Enters, Advances, Grows, Goes, Lasts, RowLasts, Rows, Spends, Turns, named_spot, row_gave};
+ghost use Rattle.eval_flow.specs.Direct.{spot, IsHere, Flows, Bodies, Enters, Advances, Grows, Goes, Lasts, RowLasts, Rows, Spends, Turns, named_spot, row_gave};
 
-use crate::back::{
-    args_back, body_back, bound_back, called_back, chunk_back, ended_by_value, give, is_bound,
-    last_back, part_back, stepped_back, visited_back,
-};
-use crate::begin::{begin, leaf_number, number, pack_chunk, variable};
-use crate::here::{Binding, Here};
-use crate::operators::{numbers, operands_back};
-use crate::packed::pay_packed;
-use crate::place::open_code;
-use crate::rest::{Flow, inside, pause, pause_in, stopped_in};
-use crate::row::Row;
-use crate::turn::Turn;
+use eval_flow::{Binding, Flow, Here, Row, Turn, args_back, begin, body_back, bound_back, called_back, chunk_back, ended_by_value, give, inside, is_bound, last_back, leaf_number, number, numbers, open_code, operands_back, pack_chunk, part_back, pause, pause_in, pay_packed, stepped_back, stopped_in, variable, visited_back};
 use eval_steps::{Codes, Next, StackFrame, begin_call, part_at, part_or_self};
 use plan_base::{Chunk, Expr, Exprs, Fun, Name, NoMemory, Op, Program, Value, Values};
 use plan_items::{Items, Shared};

@@ -8,13 +8,12 @@ ghost use Rattle.plan_base.specs.declared.tree.Program.{Program as Code};
 ghost use Rattle.plan_base.specs.declared.tree.Value.{Value as AValue};
 ghost use Rattle.plan_meaning.specs.State.{VisitState};
 ghost use Rattle.plan_meaning.specs.Run.{RunStep};
-ghost use Rattle.plan_eval.specs.Direct.{Flows, Grows, IsProgramSize, Lasts, Performs, Spends, task_step};
+ghost use Rattle.eval_flow.specs.Direct.{Flows, Grows, IsProgramSize, Lasts, Spends};
+ghost use Rattle.plan_eval.specs.Tasks.{Performs, task_step};
 ghost use Rattle.eval_steps.specs.Stack.{Spot, spot_in, ended_frame, all_ended, AreLinked, stands_for};
-ghost use Rattle.plan_eval.specs.Turns.{Stands, Turned, load};
+ghost use Rattle.eval_flow.specs.Turns.{Stands, Turned, load};
 
-use crate::here::Here;
-use crate::measure::{ProgramSize, size_of};
-use crate::rest::{Flow, stack_rest};
+use eval_flow::{Flow, Here, ProgramSize, size_of, stack_rest};
 use crate::task::{Task, perform};
 use eval_steps::{Activation, Activations, Codes, Mode, expr_from};
 use plan_base::{Exn, Value};
@@ -60,7 +59,7 @@ fn land_flow(
 }
 
 /// How far the innermost expression of an activation comes with a task on the native stack.
-#[tactic(auto, using(crate::proofs::Naming::no_code, crate::proofs::Naming::no_function, crate::proofs::Naming::no_expression))]
+#[tactic(auto, using(eval_flow::proofs::Naming::no_code, eval_flow::proofs::Naming::no_function, eval_flow::proofs::Naming::no_expression))]
 fn run_top<S: Services>(
     alloc: Global,
     codes: &mut Codes,

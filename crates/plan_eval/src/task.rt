@@ -5,11 +5,11 @@ ghost use Rattle.plan_meaning.specs.Run.{gave, quiet, stopped};
 ghost use Rattle.plan_meaning.specs.Safe.{IsSafe};
 ghost use Rattle.plan_meaning.specs.declared.stop.EvalStop.TheVariants.{Raised};
 ghost use Rattle.eval_steps.specs.Stack.{resume};
-ghost use Rattle.plan_eval.specs.Direct.{spot, IsHere, Flows, Grows, Lasts, Performs, task_step};
+ghost use Rattle.eval_flow.specs.Direct.{spot, IsHere, Flows, Grows, Lasts};
+ghost use Rattle.plan_eval.specs.Tasks.{Performs, task_step};
 
 use crate::direct::{evaluate, proceed};
-use crate::here::Here;
-use crate::rest::Flow;
+use eval_flow::{Flow, Here};
 use eval_steps::{Codes, StackFrame, frame_given, frame_raised};
 use plan_base::{Exn, Expr, Value};
 use plan_meaning::EvalStop;

@@ -10,11 +10,10 @@ ghost use Rattle.plan_meaning.specs.Meaning.{meaning, visited_chunk};
 ghost use Rattle.plan_meaning.specs.Safe.{IsSafe, AreGoodNotes, AreGoodPackets};
 ghost use Rattle.meaning_laws.specs.Laws.{VisitEnds, VisitsAlike, NoneSuffices};
 ghost use Rattle.visit_state.specs.Meets.{Meets};
-ghost use Rattle.plan_eval.specs.Turns.{entry};
+ghost use Rattle.eval_flow.specs.Turns.{entry};
 
 use crate::machine::run;
-use crate::measure::measure;
-use crate::place::enters;
+use eval_flow::{enters, measure};
 use chunk_types::CheckedPacket;
 use eval_steps::{Activation, Activations, Codes};
 use plan_base::{Chunk, Family, NoMemory, Value};

@@ -3,7 +3,7 @@ use Rattle.plan_base.specs.declared.tree.Expr.{Expr-F, out-Expr}
 use Rattle.plan_base.specs.declared.tree.Expr as expr
 use Rattle.plan_base.specs.declared.tree.Value as value
 use Rattle.plan_base.specs.Sizes.{code_size}
-use Rattle.plan_eval.specs.declared.row.Row.TheVariants as row
+use Rattle.eval_flow.specs.declared.row.Row.TheVariants as row
 use Rattle.typing_rules.specs.TypingNames.{place_of}
 use Rattle.plan_meaning.specs.declared.stop.EvalStop.TheVariants.{WorkSpent, Wrong}
 use Rattle.plan_meaning.specs.State.{joined_state}
@@ -12,24 +12,24 @@ use Rattle.plan_meaning.specs.Safe.{IsSafe}
 use Rattle.plan_meaning.specs.Meaning.{meaning, as_bool, bound, entered_function, visited_chunk}
 use Rattle.eval_steps.specs.declared.stack_frame.StackFrame.TheVariants as frame
 use Rattle.eval_steps.specs.declared.next.Next.TheVariants as next
-use Rattle.plan_eval.specs.declared.rest.Flow.TheVariants as flow
-use Rattle.plan_eval.specs.declared.turn.Turn.TheVariants as turn
+use Rattle.eval_flow.specs.declared.rest.Flow.TheVariants as flow
+use Rattle.eval_flow.specs.declared.turn.Turn.TheVariants as turn
 use Rattle.eval_steps.specs.Forms.{IsRow}
 use Rattle.eval_steps.specs.Stack.{parts_of, part_or_self, part_number, resume}
 use Rattle.eval_steps.specs.Nexts.{begins, next_step, call_of}
 use Rattle.eval_steps.specs.Leads.{Leads}
-use Rattle.plan_eval.specs.Direct.{env_of, bound_here, named_spot, spot, row_gave, Waits}
+use Rattle.eval_flow.specs.Direct.{env_of, bound_here, named_spot, spot, row_gave, Waits}
 use Rattle.eval_steps.proofs.Leading.{itself, onward}
-use Rattle.plan_eval.proofs.Beginning.{begun_here, begun_spent}
-use Rattle.plan_eval.proofs.Naming.{no_part, enters_none, enters_other}
-use Rattle.plan_eval.proofs.Taking.{resume_asks}
-use Rattle.plan_eval.proofs.Hot.{let_form, let_first, let_parts, let_no_try, let_body, let_leads, one_name, call_form, eval_part, eval_parts, eval_no_try, packing_leads, tuple_form, chunk_form, eval_form, row_no_try, row_begins, row_next, next_deep, next_safe, row_more, row_done, tuple_gave, chunk_gave, call_gave, if_form, binary_form, part_stops_so, first_leads, first_safe, if_test, if_yes, if_no, if_parts, if_no_try, if_true, if_false, if_wrong, left_part, right_part, operator_parts, operator_no_try, right_leads}
-use Rattle.plan_eval.proofs.Turning.{visited_nowhere}
-use Rattle.plan_eval.proofs.Ending.{resume_final}
+use Rattle.eval_flow.proofs.Beginning.{begun_here, begun_spent}
+use Rattle.eval_flow.proofs.Naming.{no_part, enters_none, enters_other}
+use Rattle.eval_flow.proofs.Taking.{resume_asks}
+use Rattle.eval_flow.proofs.Hot.{let_form, let_first, let_parts, let_no_try, let_body, let_leads, one_name, call_form, eval_part, eval_parts, eval_no_try, packing_leads, tuple_form, chunk_form, eval_form, row_no_try, row_begins, row_next, next_deep, next_safe, row_more, row_done, tuple_gave, chunk_gave, call_gave, if_form, binary_form, part_stops_so, first_leads, first_safe, if_test, if_yes, if_no, if_parts, if_no_try, if_true, if_false, if_wrong, left_part, right_part, operator_parts, operator_no_try, right_leads}
+use Rattle.eval_flow.proofs.Turning.{visited_nowhere}
+use Rattle.eval_flow.proofs.Ending.{resume_final}
 use Rattle.eval_steps.proofs.Delivering.{visited_on}
-use Rattle.plan_eval.proofs.Waiting.{nothing_begun_waits, waits_inside}
-use Rattle.plan_eval.proofs.Backs.{flows_from, enters_from}
-use Rattle.plan_eval.proofs.Diving.{grown_get, here_grown, grows_on, grows_none, deeper_here, opened_paused, opened_safe, part_safe, body_leads, body_binds, bodies_from}
+use Rattle.eval_flow.proofs.Waiting.{nothing_begun_waits, waits_inside}
+use Rattle.eval_flow.proofs.Backs.{flows_from, enters_from}
+use Rattle.eval_flow.proofs.Diving.{grown_get, here_grown, grows_on, grows_none, deeper_here, opened_paused, opened_safe, part_safe, body_leads, body_binds, bodies_from}
 use Rattle.plan_eval.proofs.direct.+evaluate.Goals as goal
 
 -- ---- an expression

@@ -1,6 +1,6 @@
 use Rattle.std.proofs.Common.{◌≡◌, ◌+◌, ◌*◌, ◌≤◌, drop, length}
 use Rattle.plan_meaning.specs.State.{joined_state}
-use Rattle.plan_eval.specs.Direct.{spot, IsHere, Grows, pending}
+use Rattle.eval_flow.specs.Direct.{spot, IsHere, Grows, pending}
 use Rattle.eval_steps.specs.Leads.{Leads}
 use Rattle.eval_steps.specs.Nexts.{begins, next_step}
 use Rattle.plan_eval.proofs.direct.+evaluate.Given as goal

@@ -1,7 +1,7 @@
 use Rattle.plan_meaning.specs.State.{joined_state}
-use Rattle.plan_eval.proofs.Entering.{linked_top}
-use Rattle.plan_eval.proofs.Taking.{safe_run}
-use Rattle.plan_eval.proofs.Diving.{turn_begins}
+use Rattle.eval_flow.proofs.Entering.{linked_top}
+use Rattle.eval_flow.proofs.Taking.{safe_run}
+use Rattle.eval_flow.proofs.Diving.{turn_begins}
 use Rattle.plan_eval.proofs.machine.begin.Goals as goal
 
 pub run_top-flow-requires-clause-linked : goal.run_top-flow-requires-clause-linked

@@ -1,8 +1,8 @@
 use Rattle.std.proofs.Common.{List, ap}
 use Rattle.plan_meaning.specs.State.{joined_state}
 use Rattle.eval_steps.specs.declared.stack_frame.StackFrame.{StackFrame}
-use Rattle.plan_eval.proofs.Taking.{turn_bare, stands_below, safe_given}
-use Rattle.plan_eval.proofs.Diving.{turn_given}
+use Rattle.eval_flow.proofs.Taking.{turn_bare, stands_below, safe_given}
+use Rattle.eval_flow.proofs.Diving.{turn_given}
 use Rattle.plan_eval.proofs.machine.give.Goals as goal
 
 pub returns-in_default-clause-turned : goal.returns-in_default-clause-turned

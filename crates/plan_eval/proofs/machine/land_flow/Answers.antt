@@ -1,9 +1,9 @@
 use Rattle.std.proofs.Common.{◌≡◌, Ok, Err, refl}
 use Rattle.plan_meaning.specs.declared.stop.EvalStop.TheVariants.{Raised, WorkSpent, Wrong}
-use Rattle.plan_eval.specs.declared.rest.Flow.TheVariants as flow
-use Rattle.plan_eval.proofs.Turning.{gives_on, turn_left, turn_raised, turn_stopped}
-use Rattle.plan_eval.proofs.Waiting.{turn_waits}
-use Rattle.plan_eval.proofs.Backs.{load_waits, load_rests}
+use Rattle.eval_flow.specs.declared.rest.Flow.TheVariants as flow
+use Rattle.eval_flow.proofs.Turning.{gives_on, turn_left, turn_raised, turn_stopped}
+use Rattle.eval_flow.proofs.Waiting.{turn_waits}
+use Rattle.eval_flow.proofs.Backs.{load_waits, load_rests}
 use Rattle.plan_eval.proofs.machine.land_flow.Goals as goal
 
 pub returns-then-is_empty-clause-turned : goal.returns-then-is_empty-clause-turned

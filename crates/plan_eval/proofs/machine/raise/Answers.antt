@@ -1,8 +1,8 @@
 use Rattle.std.proofs.Common.{List, ap}
 use Rattle.plan_meaning.specs.State.{joined_state}
 use Rattle.eval_steps.specs.declared.stack_frame.StackFrame.{StackFrame}
-use Rattle.plan_eval.proofs.Taking.{turn_bare_raised, stands_below, safe_raised}
-use Rattle.plan_eval.proofs.Diving.{turn_raises}
+use Rattle.eval_flow.proofs.Taking.{turn_bare_raised, stands_below, safe_raised}
+use Rattle.eval_flow.proofs.Diving.{turn_raises}
 use Rattle.plan_eval.proofs.machine.raise.Goals as goal
 
 pub returns-in_default-clause-turned : goal.returns-in_default-clause-turned

@@ -1,6 +1,6 @@
 use Rattle.std.proofs.Common.{refl, ◌∙◌}
 use Rattle.eval_steps.proofs.Leading.{itself, onward}
-use Rattle.plan_eval.proofs.Starting.{ended_give, ended_raise, ended_run}
+use Rattle.eval_flow.proofs.Starting.{ended_give, ended_raise, ended_run}
 use Rattle.plan_eval.proofs.machine.run.Goals as goal
 
 pub loop-top-init : goal.loop-top-init

@@ -3,8 +3,8 @@ use Rattle.plan_meaning.specs.State.{joined_state}
 use Rattle.eval_steps.specs.declared.stack_frame.Mode.TheVariants as mode
 use Rattle.eval_steps.specs.Leads.{Leads}
 use Rattle.eval_steps.specs.Stack.{AreLinked, stands_for}
-use Rattle.plan_eval.specs.Turns.{load}
-use Rattle.plan_eval.specs.Direct.{IsProgramSize}
+use Rattle.eval_flow.specs.Turns.{load}
+use Rattle.eval_flow.specs.Direct.{IsProgramSize}
 use Rattle.plan_eval.proofs.machine.run.Given as goal
 
 abbrev pub invariant-loop-top : goal.invariant-loop-top

@@ -2,9 +2,10 @@ use Rattle.std.proofs.Common.{◌≡◌, Some, slice_get, sym, ◌∙◌, ap}
 use Rattle.plan_base.specs.declared.tree.Program.{Program}
 use Rattle.plan_meaning.specs.State.{joined_state}
 use Rattle.eval_steps.specs.Stack.{Spot, expr_from}
-use Rattle.plan_eval.specs.Direct.{Flows, task_step}
-use Rattle.plan_eval.specs.Turns.{IsAt}
-use Rattle.plan_eval.proofs.Diving.{here_binds, here_spot, here_only, size_same, size_grown}
+use Rattle.eval_flow.specs.Direct.{Flows}
+use Rattle.plan_eval.specs.Tasks.{task_step}
+use Rattle.eval_flow.specs.Turns.{IsAt}
+use Rattle.eval_flow.proofs.Diving.{here_binds, here_spot, here_only, size_same, size_grown}
 use Rattle.plan_eval.proofs.machine.run_top.Goals as goal
 
 pub size_of-requires : goal.size_of-requires

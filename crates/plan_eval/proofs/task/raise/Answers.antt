@@ -1,7 +1,7 @@
 use Rattle.std.proofs.Common.{◌≡◌, Ok, Err}
 use Rattle.plan_meaning.specs.State.{joined_state}
-use Rattle.plan_eval.specs.Direct.{spot}
-use Rattle.plan_eval.proofs.Backs.{flows_from}
+use Rattle.eval_flow.specs.Direct.{spot}
+use Rattle.eval_flow.proofs.Backs.{flows_from}
 use Rattle.plan_eval.proofs.task.raise.Goals as goal
 
 pub proceed-requires-clause-safe : goal.proceed-requires-clause-safe

@@ -2,8 +2,8 @@ use Rattle.std.proofs.Common.{◌≡◌, Some, None, refl, ◌∙◌}
 use Rattle.typing_rules.specs.TypingNames.{place_of}
 use Rattle.plan_meaning.specs.State.{joined_state}
 use Rattle.eval_steps.proofs.Delivering.{visited_on}
-use Rattle.plan_eval.proofs.Turning.{visited_nowhere}
-use Rattle.plan_eval.proofs.Starting.{starts, starts_linked, meets_from}
+use Rattle.eval_flow.proofs.Turning.{visited_nowhere}
+use Rattle.eval_flow.proofs.Starting.{starts, starts_linked, meets_from}
 use Rattle.plan_eval.proofs.visiting.run_chunk.Goals as goal
 
 pub returns-in_default-clause-meets : goal.returns-in_default-clause-meets

@@ -1,0 +1,14 @@
+pub mod Applying
+pub mod Entering
+pub mod Ending
+pub mod Turning
+pub mod Loads
+pub mod Naming
+pub mod Beginning
+pub mod Starting
+pub mod Taking
+pub mod Waiting
+pub mod Backs
+pub mod Diving
+pub mod Hot
+pub mod Counted

@@ -1,0 +1,26 @@
+//! What an evaluation by recursion does at a place: how it begins there, what comes back, and what is left where the
+//! native stack ends.
+#![tactic(auto)]
+
+mod back;
+mod begin;
+mod here;
+mod measure;
+mod numbers;
+mod operators;
+mod packed;
+mod place;
+mod rest;
+mod row;
+mod turn;
+
+pub use back::{args_back, body_back, bound_back, called_back, chunk_back, ended_by_value, give, is_bound, last_back, part_back, stepped_back, visited_back};
+pub use begin::{begin, leaf_number, number, pack_chunk, variable};
+pub use here::{Binding, Here};
+pub use measure::{ProgramSize, measure, size_of};
+pub use operators::{numbers, operands_back};
+pub use packed::pay_packed;
+pub use place::{enters, open_code};
+pub use rest::{Flow, Rest, inside, pause, pause_in, stack_rest, stopped_in};
+pub use row::Row;
+pub use turn::Turn;
