@@ -8,7 +8,7 @@ use Rattle.plan_base.specs.declared.tree.Value as value
 use Rattle.plan_meaning.specs.declared.stop.EvalStop.{EvalStop}
 use Rattle.plan_meaning.specs.declared.stop.EvalStop.TheVariants.{Raised, NoMemory}
 use Rattle.plan_meaning.specs.State.{VisitState}
-use Rattle.plan_meaning.specs.Run.{Run, RunStep, ◌>>=◌, gave, stopped, quiet, pure, wrong, weighed_value}
+use Rattle.plan_meaning.specs.Run.{Run, RunStep, ◌>>=◌, gave, stopped, pure, wrong, weighed_value}
 use Rattle.plan_meaning.specs.Meaning.{Env, binds, bound, called_name, meaning}
 use Rattle.eval_steps.specs.declared.stack_frame.StackFrame.{StackFrame}
 use Rattle.eval_steps.specs.declared.stack_frame.StackFrame.TheVariants as frame

@@ -4,7 +4,7 @@ ghost use Rattle.fleet_audit.specs.Texts as spec;
 
 use crate::verdict::Verdict;
 use bound_ledger::Row;
-use node_core::{put_family, put_number};
+use act_text::{put_family, put_number};
 use plan_base::{Bytes, Family, NoMemory};
 use std::alloc::Global;
 

@@ -5,7 +5,7 @@ ghost use Rattle.log_gather.specs.Texts as spec;
 use crate::counting::Counting;
 use frag_chunks::{Gather, Held};
 use hex::encode;
-use node_core::put_number;
+use act_text::put_number;
 use plan_base::{Bytes, NoMemory, Value};
 use plan_printer::print_value;
 use std::alloc::Global;

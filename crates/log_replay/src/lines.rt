@@ -3,7 +3,7 @@ ghost use Rattle.node_model.specs.declared.acts.Act.TheVariants as act;
 ghost use Rattle.serve_model.specs.Runs.{entries_at};
 ghost use Rattle.serve_model.specs.Texts.{lines_text};
 
-use node_core::put_act;
+use act_text::put_act;
 use node_model::Act;
 use plan_base::{Bytes, Host, NoMemory};
 use std::alloc::Global;

@@ -5,7 +5,8 @@ ghost use Rattle.packet_frame.specs.Decoding.{read_by};
 ghost use Rattle.world_model.specs.World as spec;
 ghost use Rattle.world_model.specs.declared.lines.Line.TheVariants as line;
 
-use node_core::{Version, read_as};
+use node_core::Version;
+use node_parts::read_as;
 use node_model::ActList;
 use packet_frame::{Frame, FrameFault};
 use plan_base::{Bytes, Host, NoMemory};

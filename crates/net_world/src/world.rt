@@ -13,7 +13,7 @@ ghost use Rattle.net_world.specs.Stands.{WorldStands, IsHappened};
 
 use crate::network::Network;
 use network_plan::{Topology, WorldEvent};
-use node_core::are_bytes;
+use node_parts::are_bytes;
 use plan_base::NoMemory;
 use plan_items::Items;
 use service_api::Services;

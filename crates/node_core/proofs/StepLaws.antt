@@ -1,39 +1,24 @@
 -- The node after an injection and after an arrival, and what a reading answers.
-use Rattle.std.proofs.Common.{◌≡◌, ◌≢◌, ◌+◌, ◌≤◌, ◌<◌, ◌++◌, ℕ, List, [], ◌∷◌, Bool, true, false, cond, Option, Some, ap, refl, sym, ◌∙◌, subst, arith, inl, inr}
+use Rattle.std.proofs.Common.{◌≡◌, ◌≢◌, ◌+◌, ◌++◌, ℕ, List, [], ◌∷◌, Bool, true, false, cond, Option, Some, ap, refl, sym, ◌∙◌, subst, arith}
 use Rattle.std.proofs.lemmas.Bool.Decides.{nat_tests}
-use Rattle.std.specs.Prelude.{◌==◌, ◌⊎◌, Result, Ok, Err, IfOk, IfErr, None}
-use Rattle.plan_base.specs.declared.ids.Host.{Host}
+use Rattle.std.specs.Prelude.{◌==◌, Result, Ok, Err, IfOk, None}
 use Rattle.plan_base.specs.declared.ids.Dev.{Dev}
 use Rattle.plan_base.specs.declared.name.Name.{Name}
 use Rattle.plan_base.specs.declared.tree.Chunk.{Chunk}
 use Rattle.plan_base.specs.declared.tree.Packet.{Packet}
 use Rattle.typing_rules.specs.Handlers.{MayHandle}
-use Rattle.wire_bytes.specs.Fields.{IsBytes}
 use Rattle.link_window.specs.declared.window.Stamp.{Stamp}
 use Rattle.link_window.specs.declared.window.Version.{Version}
 use Rattle.link_window.specs.declared.window.Version.TheVariants.{One, Two}
 use Rattle.link_window.specs.declared.window.Took.{Took}
 use Rattle.link_window.specs.declared.window.Took.TheVariants.{Fresh}
-use Rattle.packet_frame.specs.declared.checked.Stamped.{Stamped}
 use Rattle.packet_frame.specs.declared.frame.PlainFrame.{PlainFrame}
 use Rattle.packet_frame.specs.declared.frame.PlainStamped.{PlainStamped}
-use Rattle.packet_frame.specs.declared.fault.FrameFault.{FrameFault}
-use Rattle.packet_frame.specs.Forms.{FrameFits}
-use Rattle.packet_frame.specs.Typed.{plain_of, Accepts, FrameFirst}
-use Rattle.packet_frame.specs.Stamped.{AcceptsBy, StampedFirst, stamped_plain}
-use Rattle.packet_frame.specs.Decoding.{unstamped_frame, read_by}
-use Rattle.packet_frame.proofs.OneAnswer.{first_is}
-use Rattle.packet_frame.proofs.Versions.{accepted_by, refused_by_two}
+use Rattle.packet_frame.specs.Stamped.{AcceptsBy}
+use Rattle.packet_frame.proofs.Versions.{accepted_by}
 use Rattle.spelled_frame.specs.Spelled.{what_of, MayCarry, version_of}
-use Rattle.spelled_frame.proofs.Reading.{one_accepted}
-use Rattle.service_api.specs.declared.advert.Advert.{Advert}
-use Rattle.service_api.specs.Adverts.{AdvertFits}
 use Rattle.service_api.specs.Services.{ServiceState}
 use Rattle.plan_base.specs.declared.memory.NoMemory.{NoMemory}
-use Rattle.dv_routing.specs.declared.table.Table.{Table}
-use Rattle.dv_routing.specs.Routing.{Routing, own_advert}
-use Rattle.dv_routing.specs.Stands.{Stands}
-use Rattle.dv_routing.proofs.Rows.{advert_fits}
 use Rattle.network_plan.specs.Rules.{MayName}
 use Rattle.node_model.specs.declared.acts.Act.{Act}
 use Rattle.node_model.specs.declared.acts.Act.TheVariants.{Injected, Arrived, Stale, SerialsSpent}
@@ -42,8 +27,9 @@ use Rattle.node_model.specs.State.{NodeState}
 use Rattle.node_model.specs.Node.{NodeStep, next_serial, injected_packet, visit_step, inject_step, stepped_node, mark_of, mark, takes_as, seen_then, with_seen, frame_step, only_acts, stamped_as, stamped_step, arrived_read, arrive_step}
 use Rattle.node_model.specs.Fits.{IsMarked}
 use Rattle.node_laws.proofs.Staying.{frame_stays}
-use Rattle.node_core.specs.Heard.{IsHeard}
-use Rattle.node_core.specs.Stands.{NodeStands, IsStep, MayGoOn, mark_on, own_family, own_packet, asks_within}
+use Rattle.node_parts.proofs.ReadingLaws.{goes_on}
+use Rattle.node_core.specs.Stands.{NodeStands, IsStep, mark_on, own_family, own_packet}
+use Rattle.node_parts.specs.Carried.{MayGoOn}
 use Rattle.node_core.specs.declared.node.Node.{Node}
 
 -- ---- injections
@@ -187,55 +173,6 @@ pub none_named : (v : Version) (c : Chunk) (o : Option Name) → o ≡ None → 
 none_named One c o e = e
 none_named Two c o e = none_handles c o e
 
--- ---- readings
-
--- what is read in a version is what the definition reads
-pub read_found : (v : Version) (bytes : List ℕ) (r : Result Stamped FrameFault) → IfOk r (λ x. AcceptsBy v bytes (stamped_plain x)) → IfOk r (λ x. read_by v bytes ≡ Ok (stamped_plain x))
-read_found v bytes (Ok x) h = accepted_by v bytes (stamped_plain x) h
-read_found v bytes (Err e) h = h
-
--- a frame of version 1 is read without a stamp
-pub first_accepted : (bytes : List ℕ) (x : PlainFrame) → Accepts bytes x → AcceptsBy One bytes (record { stamp = None; frame = x })
-first_accepted bytes x h = one_accepted bytes x h.spells h.typed
-
-pub first_refused : (bytes : List ℕ) (e : FrameFault) → IsBytes bytes → (e ≡ FrameFault.NoMemory) ⊎ FrameFirst e bytes → (e ≡ FrameFault.NoMemory) ⊎ (read_by One bytes ≡ Err e)
-first_refused bytes e b (inl h) = inl h
-first_refused bytes e b (inr h) = inr (ap unstamped_frame (first_is bytes e b h))
-
-second_so : (bytes : List ℕ) (e : FrameFault) → IsBytes bytes → (e ≡ FrameFault.NoMemory) ⊎ StampedFirst e bytes → (e ≡ FrameFault.NoMemory) ⊎ (read_by Two bytes ≡ Err e)
-second_so bytes e b (inl h) = inl h
-second_so bytes e b (inr h) = inr (refused_by_two bytes e b h)
-
-pub second_refused : (bytes : List ℕ) (r : Result Stamped FrameFault) → IsBytes bytes → IfErr r (λ e. (e ≡ FrameFault.NoMemory) ⊎ StampedFirst e bytes) → IfErr r (λ e. (e ≡ FrameFault.NoMemory) ⊎ (read_by Two bytes ≡ Err e))
-second_refused bytes (Ok x) b h = h
-second_refused bytes (Err e) b h = second_so bytes e b h
-
-asked_so : (x : PlainFrame) → FrameFits x → asks_within x
-asked_so (PlainFrame.Packet p) h = tt
-asked_so (PlainFrame.Advert a) h = tt
-asked_so (PlainFrame.Ask bound chunk) h = h.0
-
-pub read_within : (v : Version) (bytes : List ℕ) (r : Result Stamped FrameFault) → IfOk r (λ x. AcceptsBy v bytes (stamped_plain x)) → IfOk r (λ x. asks_within (plain_of x.frame))
-read_within v bytes (Ok x) h = asked_so (plain_of x.frame) h.fits
-read_within v bytes (Err e) h = h
-
-goes_on : (v : Version) (boot : ℕ) (bytes : List ℕ) (o : Option Stamp) (x : PlainFrame) → AcceptsBy v bytes (record { stamp = o; frame = x }) → MayGoOn (mark_of v boot) x
-goes_on One boot bytes o (PlainFrame.Packet p) h = h.read.1
-goes_on Two boot bytes o (PlainFrame.Packet p) h = tt
-goes_on v boot bytes o (PlainFrame.Advert a) h = tt
-goes_on v boot bytes o (PlainFrame.Ask bound chunk) h = tt
-
 -- what stands beside the bytes of a frame may go on from a node that reads these
 pub beside_goes_on : (v : Version) (boot : ℕ) (bytes : List ℕ) (x : PlainStamped) (y : PlainFrame) → AcceptsBy (version_of x.stamp) bytes x → v ≡ version_of x.stamp → y ≡ x.frame → MayGoOn (mark_of v boot) y
 beside_goes_on v boot bytes x y h e f = subst (MayGoOn (mark_of v boot)) (sym f) (goes_on v boot bytes x.stamp x.frame (subst (λ u. AcceptsBy u bytes x) (sym e) h))
-
--- a packet that was read may go on
-pub read_carried : (v : Version) (bytes : List ℕ) (r : Result Stamped FrameFault) → IfOk r (λ x. AcceptsBy v bytes (stamped_plain x)) → (boot : ℕ) → IfOk r (λ x. MayGoOn (mark_of v boot) (plain_of x.frame))
-read_carried v bytes (Ok x) h boot = goes_on v boot bytes x.stamp (plain_of x.frame) h
-read_carried v bytes (Err e) h boot = h
-
--- ---- adverts
-
-pub advert_keeps : (t : Table) (r : Result Advert NoMemory) → IsHeard t → ((g : Routing) → Stands g t → IfOk r (λ a. a ≡ own_advert g)) → IfOk r AdvertFits
-advert_keeps t (Ok a) k h = subst AdvertFits (sym (h k.routing k.stands)) (advert_fits k.routing k.here k.hosts.numbers k.hosts.few k.hosts.ascend)
-advert_keeps t (Err e) k h = h k.routing k.stands

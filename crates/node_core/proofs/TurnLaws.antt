@@ -6,7 +6,7 @@ use Rattle.link_window.specs.declared.window.Stamp.{Stamp}
 use Rattle.plan_base.specs.declared.tree.Packet.{Packet}
 use Rattle.plan_base.specs.declared.tree.Value.{Value}
 use Rattle.service_api.specs.declared.ctx.Ctx.{Ctx}
-use Rattle.service_api.specs.Services.{Rows, Offer, ServiceState, begun_now, made_ready, kept_services, abandoned_services, rows_at}
+use Rattle.service_api.specs.Services.{Rows, ServiceState, begun_now, made_ready, kept_services, abandoned_services, rows_at}
 use Rattle.plan_meaning.specs.declared.stop.EvalStop.TheVariants.{Raised, WorkSpent, Wrong, NoMemory}
 use Rattle.plan_meaning.specs.declared.outcome.Visit.{Visit}
 use Rattle.plan_meaning.specs.declared.sent.Sent.{Sent}
@@ -15,9 +15,10 @@ use Rattle.plan_meaning.specs.Run.{After, gave, stopped}
 use Rattle.plan_meaning.specs.Meaning.{meaning, visited_chunk}
 use Rattle.plan_meaning.specs.Visit.{IsVisit, Ends, allowance, begun_state}
 use Rattle.node_model.specs.Visits.{evaluated_packet, visit_end, visit_of, services_end, services_after}
-use Rattle.settled_visit.specs.Settles.{IsPlain, visit_settled}
+use Rattle.settled_visit.specs.Settles.{visit_settled}
 use Rattle.settled_visit.proofs.Sends.{settled_plain}
-use Rattle.node_core.specs.Turns.{closed_services, is_spent, IsResting, Carries}
+use Rattle.node_core.specs.Turns.{closed_services, is_spent, IsResting}
+use Rattle.node_parts.specs.Carried.{Carries}
 
 visit_is : (bound : ℕ) (a : After Value) (r : Visit) (new : ServiceState) → Ends allowance bound a r new → r ≡ visit_end bound a
 visit_is bound (gave v s) r new e = e.0

@@ -1,5 +1,5 @@
 -- Which state of the definition a node stands for.
-use Rattle.std.specs.Prelude.{◌≡◌, ℕ, ◌≤◌, Option}
+use Rattle.std.specs.Prelude.{◌≡◌, ℕ, Option}
 use Rattle.link_window.specs.declared.window.Stamp.{Stamp}
 use Rattle.link_window.specs.declared.window.Version.{Version}
 use Rattle.plan_base.specs.declared.name.Name.{Name}
@@ -15,8 +15,7 @@ use Rattle.dv_routing.specs.Stands.{Stands}
 use Rattle.node_model.specs.declared.acts.Acts.{Acts}
 use Rattle.node_model.specs.State.{NodeState, routing_of}
 use Rattle.node_model.specs.Node.{NodeStep, mark_of}
-use Rattle.spelled_frame.specs.Spelled.{MayCarry}
-use Rattle.node_core.specs.Windows.{AllSeen}
+use Rattle.node_parts.specs.Windows.{AllSeen}
 use Rattle.node_core.specs.declared.node.Node.{Node}
 
 -- the version of a node
@@ -57,13 +56,3 @@ own_packet here serial chunk bound handler = record { family = own_family here s
 -- a frame with this stamp, or with none
 abbrev pub with_stamp : Option Stamp → PlainFrame → PlainStamped
 with_stamp m x = record { stamp = m; frame = x }
-
--- a packet that may go on from a node whose frames bear this
-abbrev pub MayGoOn : Option Stamp → PlainFrame → Type 0
-MayGoOn m (PlainFrame.Packet p) = MayCarry m p.handler
-MayGoOn m _ = Unit {0}
-
--- the bound of an ask is at most 65,535
-abbrev pub asks_within : PlainFrame → Type 0
-asks_within (PlainFrame.Ask bound chunk) = bound ≤ 65535
-asks_within _ = Unit {0}

@@ -1,5 +1,5 @@
 -- A visit that was made, of which nothing stands yet.
-use Rattle.std.specs.Prelude.{◌≡◌, ℕ, ◌+◌, ◌≤◌, Bool, true, false, if◌then◌else◌, List, Option, None, ◌∷◌, ◌++◌, length, map, vec_len, vec_capacity, []}
+use Rattle.std.specs.Prelude.{◌≡◌, ℕ, ◌+◌, ◌≤◌, Bool, true, false, if◌then◌else◌, List, Option, None, ◌∷◌, ◌++◌, length, map, vec_len, vec_capacity}
 use Rattle.link_window.specs.declared.window.Stamp.{Stamp}
 use Rattle.plan_base.specs.declared.tree.Packet.{Packet}
 use Rattle.service_api.specs.Services.{ServiceState, kept_services, abandoned_services}
@@ -9,8 +9,6 @@ use Rattle.node_model.specs.declared.acts.Act.{Act}
 use Rattle.node_model.specs.declared.acts.Act.TheVariants.{Noted, Ended}
 use Rattle.node_model.specs.Node.{handled_acts, visit_sends}
 use Rattle.settled_visit.specs.declared.settling.Settled.{Settled}
-use Rattle.spelled_frame.specs.Spelled.{MayCarry}
-use Rattle.plan_meaning.specs.declared.sent.Sent.{Sent}
 use Rattle.node_core.specs.declared.idle_services.Turn.{Turn}
 
 -- no visit is open
@@ -33,7 +31,3 @@ pub record IsOpen (m : Option Stamp) (before : List Act) (p : Packet) (left : �
       ≡ before ++ (map Noted s.visit.notes ++ (Ended p.family s.visit.outcome s.visit.evals s.visit.left ∷ handled_acts p.family s.handled left))
   pub sends : turn.sends ≡ visit_sends m s.visit
   pub room : vec_len turn.acts + length turn.sends ≤ vec_capacity turn.acts
-
--- a packet that is sent may bear this mark
-abbrev pub Carries : Option Stamp → Sent → Type 0
-Carries m s = MayCarry m s.packet.handler

@@ -6,10 +6,10 @@ ghost use Rattle.node_model.specs.Node as spec;
 ghost use Rattle.node_model.specs.declared.acts.Act.TheVariants.{Noted, Ended};
 ghost use Rattle.spelled_frame.specs.Spelled.{MayCarry};
 ghost use Rattle.settled_visit.specs.Settles as settles;
-ghost use Rattle.node_core.specs.Turns.{Carries, IsOpen, IsResting, closed_services, is_spent as spent};
+ghost use Rattle.node_core.specs.Turns.{IsOpen, IsResting, closed_services, is_spent as spent};
+ghost use Rattle.node_parts.specs.Carried.{Carries};
 
-use crate::outgoing::visit_sendings;
-use crate::sends::{begin_acts, send_all};
+use node_parts::{begin_acts, send_all, visit_sendings};
 use chunk_types::CheckedPacket;
 use link_window::Stamp;
 use node_model::{Act, ActList, Lane, Sendings};

@@ -22,7 +22,7 @@ use Rattle.node_model.specs.declared.acts.Lane.{Lane}
 use Rattle.node_model.specs.State.{NodeState}
 use Rattle.node_core.specs.declared.node.Node.{Node}
 use Rattle.node_core.specs.Stands.{NodeStands}
-use Rattle.node_core.specs.Queued.{queued_at}
+use Rattle.node_parts.specs.Queued.{queued_at}
 use Rattle.serve_model.specs.Runs.{Running, acts_of, node_by, entries_at, with_entry, holding, marked_running, then_do, make, first_on, inject_one, inject_to, hear, frames_in, queued_on, come_back, take_back, loop_back, send_taken, take_send, repeat_send, flush_device, flush_to, turn, time_at, turns, peers_of}
 use Rattle.serve_model.specs.Texts.{lines_text}
 use Rattle.serve_model.specs.Follow.{entry_of}

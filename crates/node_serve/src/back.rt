@@ -13,7 +13,7 @@ use crate::fault::ServeFault;
 use crate::server::Server;
 use crate::steps::StepOutcome;
 use network_plan::{Event, ServeConfig};
-use node_core::are_bytes;
+use node_parts::are_bytes;
 use node_io::{Files, Sink};
 use plan_base::Dev;
 use service_api::Services;

@@ -5,7 +5,8 @@ ghost use Rattle.link_window.specs.declared.window.Version.{Version};
 ghost use Rattle.node_model.specs.Fits.{comes_within};
 
 use network_plan::{Event, LogEvent, NodeConfig};
-use node_core::{Node, Version, put_act};
+use act_text::put_act;
+use node_core::{Node, Version};
 use node_files::read_log;
 use node_model::Act;
 use plan_base::{Bytes, Dev, Host};

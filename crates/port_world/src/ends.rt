@@ -5,7 +5,7 @@ ghost use Rattle.port_world.specs.Stands.{PortStands};
 
 use crate::ports::Ports;
 use hex::encode;
-use node_core::put_number;
+use act_text::put_number;
 use plan_base::{Bytes, NoMemory};
 use remote_calls::Purse;
 use service_api::Services;

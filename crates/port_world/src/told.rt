@@ -1,7 +1,7 @@
 ghost use Rattle.std.specs.Prelude.{◌≡◌, ◌++◌, OnOk, OnErr};
 ghost use Rattle.port_world.specs.Told as spec;
 
-use node_core::put_number;
+use act_text::put_number;
 use plan_base::{Bytes, NoMemory};
 use std::alloc::Global;
 

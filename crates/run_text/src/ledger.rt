@@ -10,7 +10,7 @@ ghost use Rattle.run_ledger.specs.Stands.{Stands};
 ghost use Rattle.run_text.specs.Printed.{printed_row, all_printed};
 
 use bound_ledger::{Ledger, Row};
-use node_core::{put_family, put_number};
+use act_text::{put_family, put_number};
 use plan_base::{Bytes, Family, NoMemory};
 use std::alloc::Global;
 

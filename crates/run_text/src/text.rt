@@ -5,7 +5,7 @@ ghost use Rattle.world_model.specs.World.{entry_at};
 ghost use Rattle.world_model.specs.Texts as spec;
 
 use hex::encode;
-use node_core::{put_act_text, put_bound, put_number};
+use act_text::{put_act_text, put_bound, put_number};
 use node_model::What;
 use plan_base::{Bytes, Family, Host, NoMemory};
 use std::alloc::Global;

@@ -1,6 +1,6 @@
 use Rattle.std.proofs.Common.{sym, subst}
 use Rattle.packet_frame.specs.Typed.{plain_of}
-use Rattle.node_core.specs.Stands.{MayGoOn}
+use Rattle.node_parts.specs.Carried.{MayGoOn}
 use Rattle.node_core.proofs.node.Node.arrive.Goals as goal
 
 pub arrive_stamped-requires : goal.arrive_stamped-requires

@@ -1,5 +1,0 @@
-use Rattle.node_core.proofs.StepLaws.{advert_keeps}
-use Rattle.node_core.proofs.routes.Routes.advert.Goals as goal
-
-pub returns-clause-fits : goal.returns-clause-fits
-returns-clause-fits c = advert_keeps c.self.inside.table c.advert.result c.self.invariant c.advert.ensures

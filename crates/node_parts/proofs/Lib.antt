@@ -1,0 +1,5 @@
+pub mod Drops
+pub mod HostLaws
+pub mod ReadingLaws
+pub mod SendLaws
+pub mod WindowLaws

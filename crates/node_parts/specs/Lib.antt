@@ -1,0 +1,5 @@
+pub mod Carried
+pub mod Drops
+pub mod Heard
+pub mod Queued
+pub mod Windows

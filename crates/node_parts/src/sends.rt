@@ -1,0 +1,143 @@
+ghost use Rattle.std.specs.Prelude.{◌≡◌, ◌∷◌, ◌++◌, map, IfOk, OnOk, vec_len, vec_capacity, ◌≤◌, ◌+◌, length, [], Some, IsTrue, slice_get};
+ghost use Rattle.std.specs.Option.{option_to_list};
+ghost use Rattle.node_model.specs.declared.acts.Act.TheVariants.{Noted};
+ghost use Rattle.node_model.specs.Node as spec;
+ghost use Rattle.node_parts.specs.Drops as drops;
+
+use node_model::{Act, ActList, Lane, Sending, Sendings};
+use plan_base::Dev;
+use service_api::Notes;
+use spelled_frame::SpelledFrame;
+use std::alloc::AllocError;
+
+/// The number of frames that a device's queue holds.
+const MOST_QUEUED: u32 = link_queue::MOST_QUEUED;
+
+/// Whether a device's queue has room.
+fn lane_room(lane: &Lane) -> bool
+    ensures { result ≡ spec.lane_room lane.now }
+{
+    lane.frames.len() < MOST_QUEUED
+}
+
+/// Whether a device has given all its numbers, where the frame needs one.
+fn is_spent(lane: &Lane, frame: &SpelledFrame) -> bool
+    ensures { result ≡ spec.is_spent lane.now frame.now.stamp }
+{
+    frame.is_stamped() && lane.number == u64::MAX
+}
+
+/// Whether a device has room and a number for one more frame.
+fn queue_room(lane: &Lane, frame: &SpelledFrame) -> bool
+    ensures { result ≡ spec.queue_room (Some lane.now) frame.now }
+{
+    lane_room(lane) && !is_spent(lane, frame)
+}
+
+/// Whether a device has room and a number for one more frame.
+#[tactic(auto, unfolding(node_model::specs::Node::has_room))]
+fn has_room(lanes: &[Lane], dev: Dev, frame: &SpelledFrame) -> bool
+    ensures { result ≡ spec.has_room lanes.now dev frame.now }
+{
+    match lanes.get(dev.0 as usize) {
+        None => false,
+        Some(lane) => queue_room(lane, frame),
+    }
+}
+
+/// Puts a frame into the queue of a device that has room and a number: the frame gets the next number.
+fn add_frame(lane: &mut Lane, frame: SpelledFrame)
+    requires { IsTrue (spec.queue_room (Some lane.old) frame) }
+    ensures { lane.new ≡ spec.lane_with lane.old frame }
+{
+    let is_stamped = frame.is_stamped();
+    let _ = lane.frames.push(frame.with_number(lane.number));
+    if is_stamped {
+        lane.number += 1;
+    }
+}
+
+/// Puts a frame into the queue of a device that has room.
+#[tactic(auto, unfolding(node_model::specs::Node::has_room))]
+fn queue_frame(lanes: &mut [Lane], dev: Dev, frame: SpelledFrame)
+    requires { IsTrue (spec.has_room lanes.old dev frame) }
+    ensures { lanes.new ≡ spec.queue_push lanes.old dev frame (slice_get lanes.old dev.0) }
+{
+    add_frame(&mut lanes[dev.0 as usize], frame);
+}
+
+/// The act of a frame that isn't queued.
+fn drop_act(lanes: &[Lane], dev: Dev, dropped: Act, spent: Act) -> Act
+    ensures { result ≡ drops.drop_by (slice_get lanes.now dev.0) dropped spent }
+{
+    match lanes.get(dev.0 as usize) {
+        None => dropped,
+        Some(lane) => if lane_room(lane) { spent } else { dropped },
+    }
+}
+
+/// Queues a frame, or drops it where its device has no room or no number. Takes no memory.
+#[tactic(auto, unfolding(node_model::specs::Node::send_act, node_model::specs::Node::send_queues), using(crate::proofs::Drops::drop_is))]
+pub fn send_one(lanes: &mut [Lane], sending: Sending) -> Act
+    ensures act { result ≡ spec.send_act lanes.old sending }
+    ensures lanes { lanes.new ≡ spec.send_queues lanes.old sending }
+{
+    let Sending {
+        dev,
+        frame,
+        queued,
+        dropped,
+        spent,
+    } = sending;
+    if has_room(lanes, dev, &frame) {
+        queue_frame(lanes, dev, frame);
+        queued
+    } else {
+        drop_act(lanes, dev, dropped, spent)
+    }
+}
+
+/// Queues frames one after the other, and adds their acts. Takes no memory.
+#[tactic(auto, using(crate::proofs::SendLaws::sends_acts_none, crate::proofs::SendLaws::sends_queues_none, crate::proofs::SendLaws::sends_acts_more, crate::proofs::SendLaws::sends_queues_more))]
+pub fn send_all(acts: &mut Vec<Act>, lanes: &mut [Lane], sends: Sendings)
+    requires { vec_len acts.old + length sends ≤ vec_capacity acts.old }
+    ensures acts { acts.new.items ≡ acts.old.items ++ spec.sends_acts lanes.old sends }
+    ensures lanes { lanes.new ≡ spec.sends_queues lanes.old sends }
+{
+    for sending in sends.into_vec() {
+        let act = send_one(lanes, sending);
+        acts.push_reserved(act);
+    }
+}
+
+/// Adds the notes of a visit.
+fn note_all(acts: &mut Vec<Act>, notes: Notes) -> Result<(), AllocError>
+    ensures { OnOk result (acts.new.items ≡ acts.old.items ++ map Noted notes) }
+{
+    for note in notes.into_vec() {
+        acts.push(Act::Noted(note))?;
+    }
+    Ok(())
+}
+
+/// What a step lists: some acts, the notes of a visit, its end and the act of its handler, if there is one, with room for its
+/// sends.
+pub fn begin_acts(
+    before: ActList,
+    notes: Notes,
+    end: Act,
+    handled: Option<Act>,
+    sends: usize,
+) -> Result<Vec<Act>, AllocError>
+    ensures acts { IfOk result (λ acts. acts.items ≡ before ++ (map Noted notes ++ (end ∷ option_to_list handled))) }
+    ensures room { IfOk result (λ acts. vec_len acts + sends ≤ vec_capacity acts) }
+{
+    let mut acts = before.into_vec();
+    note_all(&mut acts, notes)?;
+    acts.push(end)?;
+    if let Some(act) = handled {
+        acts.push(act)?;
+    }
+    acts.reserve(sends)?;
+    Ok(acts)
+}
