@@ -23,7 +23,7 @@ use Rattle.eval_steps.specs.declared.stack_frame.Mode.{Mode}
 use Rattle.eval_steps.specs.declared.stack_frame.Mode.TheVariants as mode
 use Rattle.eval_flow.specs.declared.here.Here.{Here}
 use Rattle.eval_flow.specs.declared.here.Binding.{Binding}
-use Rattle.eval_flow.specs.declared.measure.ProgramSize.{ProgramSize}
+use Rattle.eval_flow.specs.declared.size.ProgramSize.{ProgramSize}
 use Rattle.eval_flow.specs.Turns.{IsAt, IsPlaced, Stands, Turned, under}
 use Rattle.eval_steps.specs.declared.next.Next.TheVariants as next
 use Rattle.eval_flow.specs.declared.rest.Flow.{Flow}

@@ -16,7 +16,7 @@ use Rattle.eval_steps.specs.declared.stack_frame.Activation.{Activation}
 use Rattle.eval_steps.specs.declared.stack_frame.Mode.TheVariants as mode
 use Rattle.eval_flow.specs.declared.here.Here.{Here}
 use Rattle.eval_flow.specs.declared.here.Binding.{Binding}
-use Rattle.eval_flow.specs.declared.measure.ProgramSize.{ProgramSize}
+use Rattle.eval_flow.specs.declared.size.ProgramSize.{ProgramSize}
 use Rattle.plan_base.specs.declared.name.Name.{Name}
 use Rattle.std.specs.Str.{bytes_eq}
 use Rattle.eval_flow.specs.declared.rest.Rest.{Rest}

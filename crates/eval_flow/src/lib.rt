@@ -3,10 +3,10 @@
 #![tactic(auto)]
 
 mod back;
-mod begin;
+mod opening;
 mod here;
-mod measure;
-mod numbers;
+mod size;
+mod integers;
 mod operators;
 mod packed;
 mod place;
@@ -15,9 +15,9 @@ mod row;
 mod turn;
 
 pub use back::{args_back, body_back, bound_back, called_back, chunk_back, ended_by_value, give, is_bound, last_back, part_back, stepped_back, visited_back};
-pub use begin::{begin, leaf_number, number, pack_chunk, variable};
+pub use opening::{begin, leaf_number, number, pack_chunk, variable};
 pub use here::{Binding, Here};
-pub use measure::{ProgramSize, measure, size_of};
+pub use size::{ProgramSize, measure, size_of};
 pub use operators::{numbers, operands_back};
 pub use packed::pay_packed;
 pub use place::{enters, open_code};

@@ -16,7 +16,7 @@ ghost use Rattle.eval_steps.specs.Nexts.{begins, part_gave};
 ghost use Rattle.eval_flow.specs.Direct.{Flows, IsNumber, Lasts, Spends};
 
 use crate::back::ended_by_value;
-use crate::numbers::{ended_by_number, ended_by_test, number_given, order_given};
+use crate::integers::{ended_by_number, ended_by_test, number_given, order_given};
 use crate::rest::{Flow, inside};
 use eval_steps::behind_one;
 use plan_base::{Op, Value};

@@ -6,7 +6,7 @@ use Rattle.eval_steps.specs.Leads.{Leads}
 use Rattle.eval_steps.specs.Nexts.{begins}
 use Rattle.eval_flow.proofs.Backs.{flows_from}
 use Rattle.eval_flow.proofs.Beginning.{gives_name}
-use Rattle.eval_flow.proofs.begin.variable.Goals as goal
+use Rattle.eval_flow.proofs.opening.variable.Goals as goal
 
 pub returns-in_ok-copy-in-Some-clause-flows : goal.returns-in_ok-copy-in-Some-clause-flows
 returns-in_ok-copy-in-Some-clause-flows c codes n =

@@ -1,7 +1,7 @@
 use Rattle.std.proofs.Common.{refl}
 use Rattle.plan_meaning.specs.State.{joined_state}
 use Rattle.eval_flow.proofs.Hot.{weighs_two}
-use Rattle.eval_flow.proofs.numbers.ended_by_test.Goals as goal
+use Rattle.eval_flow.proofs.integers.ended_by_test.Goals as goal
 
 pub returns-clause-flows : goal.returns-clause-flows
 returns-clause-flows c codes code seen at m =

@@ -4,7 +4,7 @@ use Rattle.plan_meaning.specs.State.{joined_state}
 use Rattle.eval_flow.specs.Direct.{spot}
 use Rattle.eval_flow.proofs.Backs.{flows_from}
 use Rattle.eval_flow.proofs.Hot.{number_gives}
-use Rattle.eval_flow.proofs.begin.number.Goals as goal
+use Rattle.eval_flow.proofs.opening.number.Goals as goal
 
 pub returns-clause-flows : goal.returns-clause-flows
 returns-clause-flows c codes m =

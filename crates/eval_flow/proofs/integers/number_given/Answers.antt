@@ -1,7 +1,7 @@
 use Rattle.std.proofs.Common.{◌≡◌, arith, w64, to_z, of_z}
 use Rattle.std.proofs.lemmas.Int.{to_z-of_z}
 use Rattle.eval_flow.proofs.Counted.{number_all}
-use Rattle.eval_flow.proofs.numbers.number_given.Goals as goal
+use Rattle.eval_flow.proofs.integers.number_given.Goals as goal
 
 pub returns-in-Some : goal.returns-in-Some
 returns-in-Some c =

@@ -2,7 +2,7 @@ use Rattle.std.proofs.Common.{refl, w64}
 use Rattle.std.proofs.lemmas.Int.{to_z-of_z}
 use Rattle.plan_meaning.specs.State.{joined_state}
 use Rattle.eval_flow.proofs.Hot.{weighs_nine}
-use Rattle.eval_flow.proofs.numbers.ended_by_number.Goals as goal
+use Rattle.eval_flow.proofs.integers.ended_by_number.Goals as goal
 
 pub returns-clause-flows : goal.returns-clause-flows
 returns-clause-flows c codes code seen at m =

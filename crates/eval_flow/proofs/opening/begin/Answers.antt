@@ -2,7 +2,7 @@ use Rattle.plan_meaning.specs.State.{joined_state}
 use Rattle.eval_flow.specs.Direct.{spot}
 use Rattle.eval_flow.proofs.Beginning.{calls_bare}
 use Rattle.eval_steps.proofs.Gathering.{carries_from}
-use Rattle.eval_flow.proofs.begin.begin.Goals as goal
+use Rattle.eval_flow.proofs.opening.begin.Goals as goal
 
 pub begin_call-requires-clause-safe : goal.begin_call-requires-clause-safe
 begin_call-requires-clause-safe g c =
