@@ -3,24 +3,24 @@
 #![tactic(auto)]
 
 mod back;
-mod opening;
 mod here;
-mod size;
 mod integers;
+mod opening;
 mod operators;
 mod packed;
 mod place;
 mod rest;
 mod row;
+mod size;
 mod turn;
 
 pub use back::{args_back, body_back, bound_back, called_back, chunk_back, ended_by_value, give, is_bound, last_back, part_back, stepped_back, visited_back};
-pub use opening::{begin, leaf_number, number, pack_chunk, variable};
 pub use here::{Binding, Here};
-pub use size::{ProgramSize, measure, size_of};
+pub use opening::{begin, leaf_number, number, pack_chunk, variable};
 pub use operators::{numbers, operands_back};
 pub use packed::pay_packed;
 pub use place::{enters, open_code};
 pub use rest::{Flow, Rest, inside, pause, pause_in, stack_rest, stopped_in};
 pub use row::Row;
+pub use size::{ProgramSize, measure, size_of};
 pub use turn::Turn;
