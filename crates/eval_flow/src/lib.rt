@@ -14,7 +14,10 @@ mod row;
 mod size;
 mod turn;
 
-pub use back::{args_back, body_back, bound_back, called_back, chunk_back, ended_by_value, give, is_bound, last_back, part_back, stepped_back, visited_back};
+pub use back::{
+    args_back, body_back, bound_back, called_back, chunk_back, ended_by_value, give, is_bound,
+    last_back, part_back, stepped_back, visited_back,
+};
 pub use here::{Binding, Here};
 pub use opening::{begin, leaf_number, number, pack_chunk, variable};
 pub use operators::{numbers, operands_back};

@@ -3,8 +3,8 @@ ghost use Rattle.std.specs.Fmt.{decimal};
 ghost use Rattle.fleet_audit.specs.Texts as spec;
 
 use crate::verdict::Verdict;
-use bound_ledger::Row;
 use act_text::{put_family, put_number};
+use bound_ledger::Row;
 use plan_base::{Bytes, Family, NoMemory};
 use std::alloc::Global;
 

@@ -3,9 +3,9 @@ ghost use Rattle.hex.specs.Hex.{encode_lower};
 ghost use Rattle.log_gather.specs.Texts as spec;
 
 use crate::counting::Counting;
+use act_text::put_number;
 use frag_chunks::{Gather, Held};
 use hex::encode;
-use act_text::put_number;
 use plan_base::{Bytes, NoMemory, Value};
 use plan_printer::print_value;
 use std::alloc::Global;

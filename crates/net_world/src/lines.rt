@@ -6,8 +6,8 @@ ghost use Rattle.world_model.specs.World as spec;
 ghost use Rattle.world_model.specs.declared.lines.Line.TheVariants as line;
 
 use node_core::Version;
-use node_parts::read_as;
 use node_model::ActList;
+use node_parts::read_as;
 use packet_frame::{Frame, FrameFault};
 use plan_base::{Bytes, Host, NoMemory};
 use plan_items::Items;

@@ -9,10 +9,10 @@ ghost use Rattle.settled_visit.specs.Settles as settles;
 ghost use Rattle.node_core.specs.Turns.{IsOpen, IsResting, closed_services, is_spent as spent};
 ghost use Rattle.node_parts.specs.Carried.{Carries};
 
-use node_parts::{begin_acts, send_all, visit_sendings};
 use chunk_types::CheckedPacket;
 use link_window::Stamp;
 use node_model::{Act, ActList, Lane, Sendings};
+use node_parts::{begin_acts, send_all, visit_sendings};
 use plan_base::{Family, Name, NoMemory};
 use plan_eval::visit;
 use plan_items::Items;

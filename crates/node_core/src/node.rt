@@ -20,11 +20,14 @@ ghost use Rattle.node_core.specs.Stands.{NodeStands, IsStep, version_of, mark_on
 ghost use Rattle.node_parts.specs.Carried.{MayGoOn, asks_within};
 
 use crate::idle_services::IdleServices;
-use node_parts::{NeighbourList, Routes, advert_sendings, code_of, count_frames, has_frame, judge, note, open_lanes, open_windows, packet_sending, read_as, send_all, send_one, take_first, what_of};
 use chunk_types::{CheckedChunk, CheckedPacket};
 use link_window::{Stamp, Took, Version, Window};
 use network_plan::{Event, NodeConfig};
 use node_model::{Act, ActList, Acts, Lane, Reason};
+use node_parts::{
+    NeighbourList, Routes, advert_sendings, code_of, count_frames, has_frame, judge, note,
+    open_lanes, open_windows, packet_sending, read_as, send_all, send_one, take_first, what_of,
+};
 use packet_frame::{Frame, FrameFault};
 use plan_base::{Dev, Family, Host, Name, NoMemory};
 use plan_copies::copy_handler;

@@ -4,8 +4,8 @@ ghost use Rattle.std.specs.Prelude.{◌≡◌, true};
 ghost use Rattle.link_window.specs.declared.window.Version.{Version};
 ghost use Rattle.node_model.specs.Fits.{comes_within};
 
-use network_plan::{Event, LogEvent, NodeConfig};
 use act_text::put_act;
+use network_plan::{Event, LogEvent, NodeConfig};
 use node_core::{Node, Version};
 use node_files::read_log;
 use node_model::Act;

@@ -15,7 +15,12 @@ ghost use Rattle.eval_steps.specs.declared.next.Next.TheVariants as next;
 ghost use Rattle.eval_steps.specs.Nexts.{begins, call_of, next_step};
 ghost use Rattle.eval_flow.specs.Direct.{spot, IsHere, Flows, Bodies, Enters, Advances, Grows, Goes, Lasts, RowLasts, Rows, Spends, Turns, named_spot, row_gave};
 
-use eval_flow::{Binding, Flow, Here, Row, Turn, args_back, begin, body_back, bound_back, called_back, chunk_back, ended_by_value, give, inside, is_bound, last_back, leaf_number, number, numbers, open_code, operands_back, pack_chunk, part_back, pause, pause_in, pay_packed, stepped_back, stopped_in, variable, visited_back};
+use eval_flow::{
+    Binding, Flow, Here, Row, Turn, args_back, begin, body_back, bound_back, called_back,
+    chunk_back, ended_by_value, give, inside, is_bound, last_back, leaf_number, number, numbers,
+    open_code, operands_back, pack_chunk, part_back, pause, pause_in, pay_packed, stepped_back,
+    stopped_in, variable, visited_back,
+};
 use eval_steps::{Codes, Next, StackFrame, begin_call, part_at, part_or_self};
 use plan_base::{Chunk, Expr, Exprs, Fun, Name, NoMemory, Op, Program, Value, Values};
 use plan_items::{Items, Shared};

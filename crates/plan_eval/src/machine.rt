@@ -13,8 +13,8 @@ ghost use Rattle.plan_eval.specs.Tasks.{Performs, task_step};
 ghost use Rattle.eval_steps.specs.Stack.{Spot, spot_in, ended_frame, all_ended, AreLinked, stands_for};
 ghost use Rattle.eval_flow.specs.Turns.{Stands, Turned, load};
 
-use eval_flow::{Flow, Here, ProgramSize, size_of, stack_rest};
 use crate::task::{Task, perform};
+use eval_flow::{Flow, Here, ProgramSize, size_of, stack_rest};
 use eval_steps::{Activation, Activations, Codes, Mode, expr_from};
 use plan_base::{Exn, Value};
 use plan_items::Items;

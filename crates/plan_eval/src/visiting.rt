@@ -13,8 +13,8 @@ ghost use Rattle.visit_state.specs.Meets.{Meets};
 ghost use Rattle.eval_flow.specs.Turns.{entry};
 
 use crate::machine::run;
-use eval_flow::{enters, measure};
 use chunk_types::CheckedPacket;
+use eval_flow::{enters, measure};
 use eval_steps::{Activation, Activations, Codes};
 use plan_base::{Chunk, Family, NoMemory, Value};
 use plan_copies::copy_values;

@@ -4,8 +4,8 @@ ghost use Rattle.port_world.specs.Texts as spec;
 ghost use Rattle.port_world.specs.Stands.{PortStands};
 
 use crate::ports::Ports;
-use hex::encode;
 use act_text::put_number;
+use hex::encode;
 use plan_base::{Bytes, NoMemory};
 use remote_calls::Purse;
 use service_api::Services;

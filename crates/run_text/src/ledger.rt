@@ -9,8 +9,8 @@ ghost use Rattle.bound_ledger.specs.Rows.{OneEach};
 ghost use Rattle.run_ledger.specs.Stands.{Stands};
 ghost use Rattle.run_text.specs.Printed.{printed_row, all_printed};
 
-use bound_ledger::{Ledger, Row};
 use act_text::{put_family, put_number};
+use bound_ledger::{Ledger, Row};
 use plan_base::{Bytes, Family, NoMemory};
 use std::alloc::Global;
 

@@ -4,8 +4,8 @@ ghost use Rattle.node_model.specs.Texts.{head_text, bound_text};
 ghost use Rattle.world_model.specs.World.{entry_at};
 ghost use Rattle.world_model.specs.Texts as spec;
 
-use hex::encode;
 use act_text::{put_act_text, put_bound, put_number};
+use hex::encode;
 use node_model::What;
 use plan_base::{Bytes, Family, Host, NoMemory};
 use std::alloc::Global;
