@@ -1,7 +1,6 @@
 //! Visits: the evaluation of a packet's chunk, by recursion to a depth and on a stack.
 #![tactic(auto)]
 
-mod direct;
 mod machine;
 mod task;
 mod visiting;

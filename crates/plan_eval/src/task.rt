@@ -8,7 +8,7 @@ ghost use Rattle.eval_steps.specs.Stack.{resume};
 ghost use Rattle.eval_flow.specs.Direct.{spot, IsHere, Flows, Grows, Lasts};
 ghost use Rattle.plan_eval.specs.Tasks.{Performs, task_step};
 
-use crate::direct::{evaluate, proceed};
+use eval_direct::{evaluate, proceed};
 use eval_flow::{Flow, Here};
 use eval_steps::{Codes, StackFrame, frame_given, frame_raised};
 use plan_base::{Exn, Expr, Value};

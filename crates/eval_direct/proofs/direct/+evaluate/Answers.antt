@@ -30,7 +30,7 @@ use Rattle.eval_steps.proofs.Delivering.{visited_on}
 use Rattle.eval_flow.proofs.Waiting.{nothing_begun_waits, waits_inside}
 use Rattle.eval_flow.proofs.Backs.{flows_from, enters_from}
 use Rattle.eval_flow.proofs.Diving.{grown_get, here_grown, grows_on, grows_none, deeper_here, opened_paused, opened_safe, part_safe, body_leads, body_binds, bodies_from}
-use Rattle.plan_eval.proofs.direct.+evaluate.Goals as goal
+use Rattle.eval_direct.proofs.direct.+evaluate.Goals as goal
 
 -- ---- an expression
 

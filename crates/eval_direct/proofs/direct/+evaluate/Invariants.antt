@@ -3,7 +3,7 @@ use Rattle.plan_meaning.specs.State.{joined_state}
 use Rattle.eval_flow.specs.Direct.{spot, IsHere, Grows, pending}
 use Rattle.eval_steps.specs.Leads.{Leads}
 use Rattle.eval_steps.specs.Nexts.{begins, next_step}
-use Rattle.plan_eval.proofs.direct.+evaluate.Given as goal
+use Rattle.eval_direct.proofs.direct.+evaluate.Given as goal
 
 abbrev pub decreases-evaluate : goal.decreases-evaluate
 decreases-evaluate g l = 9 * l.state.now.work
