@@ -1,9 +1,9 @@
 -- A table that stands for the adverts heard keeps on doing so, and answers by them.
 use Rattle.std.proofs.Common.{◌≡◌, ◌≢◌, ℕ, zero, suc, ◌+◌, ◌≤◌, ◌<◌, Bool, true, false, cond, eqb, ◌||◌, Option, Some, None, List, [], ◌∷◌, length, drop, get_or, refl, sym, ap, subst, ◌∙◌, arith}
-use Rattle.std.specs.Prelude.{map, slice_get}
+use Rattle.std.specs.Prelude.{map, slice_index_or, nat_lt}
 use Rattle.std.proofs.lemmas.Bool.{false≢true}
 use Rattle.std.proofs.lemmas.List.{drop_all}
-use Rattle.std.proofs.lemmas.Bool.Decides.{Decides-eqb}
+use Rattle.std.proofs.lemmas.Bool.Decides.{Decides-eqb, nat_tests}
 use Rattle.plan_base.specs.declared.ids.Host.{Host}
 use Rattle.plan_base.specs.declared.ids.Dev.{Dev}
 use Rattle.service_api.specs.declared.router.RouteRow.{RouteRow}
@@ -124,19 +124,30 @@ known_heard r d x = split (is_among r.hosts x) refl
     split false h = known_none r d x r.hosts h ∙ sym (heard_outside r.hosts x d r.heard h)
 
 -- each entry is that of its host
-own_entry : (r : Routing) (d : Dev) (hs : List Host) (at : ℕ) (k : Known) → slice_get (map (known_of r d) hs) at ≡ Some k → k ≡ known_of r d k.host
-own_entry r d [] at k e = cc
-own_entry r d (h ∷ hs) zero k e = let s : known_of r d h ≡ k = cc in sym s ∙ ap (λ (z : Known). known_of r d z.host) s
-own_entry r d (h ∷ hs) (suc at) k e = own_entry r d hs at k e
+own_entry : (r : Routing) (d : Dev) (hs : List Host) (at : ℕ) (o : Known) → at < length (map (known_of r d) hs)
+    → slice_index_or (map (known_of r d) hs) at o ≡ known_of r d (slice_index_or (map (known_of r d) hs) at o).host
+own_entry r d [] at o h = absurd (omega arith)
+own_entry r d (x ∷ hs) zero o h = refl
+own_entry r d (x ∷ hs) (suc at) o h = own_entry r d hs at o (omega arith)
+
+inside : (i n : ℕ) → true ≡ nat_lt i n → i < n
+inside i n e = grind (arith, nat_tests)
 
 -- an entry before all that is known changes nothing, where it is one of it
-pub known_near : (r : Routing) (d : Dev) (ks : List Known) (at : ℕ) (k : Known) (x : Host) → ks ≡ map (known_of r d) r.hosts → slice_get ks at ≡ Some k → known_cost (k ∷ ks) x ≡ known_cost ks x
-known_near r d ks at k x e there = split (eqb k.host.0 x.0) refl
+pub known_near : (r : Routing) (d : Dev) (ks : List Known) (at : ℕ) (o : Known) (x : Host) → ks ≡ map (known_of r d) r.hosts → true ≡ nat_lt at (length ks) → known_cost (slice_index_or ks at o ∷ ks) x ≡ known_cost ks x
+known_near r d ks at o x e there = split (eqb (slice_index_or ks at o).host.0 x.0) refl
   where
+    k : Known
+    k = slice_index_or ks at o
+
+    within : at < length (map (known_of r d) r.hosts)
+    within = subst (λ (l : List Known). at < length l) e (inside at (length ks) there)
+
+    is : k ≡ known_of r d k.host
+    is = subst (λ (l : List Known). slice_index_or l at o ≡ known_of r d (slice_index_or l at o).host) (sym e) (own_entry r d r.hosts at o within)
+
     split : (t : Bool) → t ≡ eqb k.host.0 x.0 → cond t k.least (known_cost ks x) ≡ known_cost ks x
-    split true h =
-        let is = own_entry r d r.hosts at k (ap (λ l. slice_get l at) (sym e) ∙ there) in
-        ap (λ (z : Known). z.least) is ∙ (ap (λ y. heard_cost r.hosts y d r.heard) (same_host k.host x (sym h)) ∙ (sym (known_heard r d x) ∙ ap (λ l. known_cost l x) (sym e)))
+    split true h = ap (λ (z : Known). z.least) is ∙ (ap (λ y. heard_cost r.hosts y d r.heard) (same_host k.host x (sym h)) ∙ (sym (known_heard r d x) ∙ ap (λ l. known_cost l x) (sym e)))
     split false h = refl
 
 not_same : (a b : ℕ) → a ≢ b → eqb a b ≡ false
