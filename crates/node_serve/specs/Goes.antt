@@ -31,11 +31,11 @@ pub record IsToPeer (cfg : ServeConfig) (d : Dev) : Type 0 where
   pub peer : HasPeer (peers_of cfg) d
 
 -- turns can be made: the node is serving by its rules, and there is room for what its link hears
-pub record CanTurn (cfg : ServeConfig) (d : Desk) (room : List ℕ) : Type 0 where
+pub record CanTurn (cfg : ServeConfig) (d : Desk) (buffer : List ℕ) : Type 0 where
   pub writing : IsTrue d.files.writing
   pub bound : d.link.bound ≡ peers_of cfg
   pub keeps : KeepsServe cfg
-  pub room : length room ≡ 16513
+  pub room : length buffer ≡ 16513
 
 -- a call went on from a run as this action does
 pub record Goes {S T : Type 0} (stands : S → ServiceState) (cfg : ServeConfig) (act : Action) (server after : Server S)
@@ -61,10 +61,10 @@ pub record GoesUnheard {S T : Type 0} (stands : S → ServiceState) (cfg : Serve
 
 -- what the link heard arrived; a call that failed may have used no arrival
 pub record GoesHearing {S T : Type 0} (stands : S → ServiceState) (cfg : ServeConfig) (server after : Server S)
-    (old new : Desk) (room room_new : List ℕ) (result : Result T ServeFault) : Type 0 where
+    (old new : Desk) (buffer buffer_new : List ℕ) (result : Result T ServeFault) : Type 0 where
   pub goes : Goes stands cfg (hear (next_heard (peers_of cfg) old.link.script)) server after old new result
   pub script : IsTrue old.link.observable → UsesOne old.link.script new.link.script result
-  pub room : length room_new ≡ length room
+  pub room : length buffer_new ≡ length buffer
 
 -- a turn was made at the time that the clock told, with what the link heard; a failed one may have used no arrival
 pub record GoesTurn {S T : Type 0} (stands : S → ServiceState) (cfg : ServeConfig) (number : ℕ) (server after : Server S)
