@@ -2,6 +2,7 @@
 
 ghost use Rattle.std.specs.Prelude.{◌≡◌, ◌≢◌, ◌+◌, ◌≤◌, min, IsTrue, IfOk, IfErr, Some, MatchResult};
 ghost use Rattle.std.specs.List.{list_all};
+ghost use Rattle.plan_base.specs.declared.tree.Chunk.{Chunk as Packed};
 ghost use Rattle.plan_base.specs.Sizes.{chunk_weight, code_size};
 ghost use Rattle.plan_base.specs.WellFormed.{IsWellFormedChunk, ChunkHasTypes, well_formed_value, value_has_types};
 ghost use Rattle.typing_rules.specs.Typing.{IsTypedChunk};

@@ -1,9 +1,9 @@
-ghost use Rattle.std.specs.Prelude.{◌≡◌, ◌++◌, ◌+◌, ◌≤◌, ◌<◌, ◌^◌, length, IfOk};
+ghost use Rattle.std.specs.Prelude.{◌≡◌, ◌++◌, ◌+◌, ◌≤◌, ◌<◌, ◌^◌, ◌∷◌, [], length, IsTrue, IfOk};
 ghost use Rattle.std.specs.List.{flat_map};
-ghost use Rattle.std.specs.Int.{w32, w64, to_be_bytes};
+ghost use Rattle.std.specs.Int.{w16, w32, w64, to_be_bytes};
 ghost use Rattle.chunk_spelling.specs.Values.{chunk_bytes};
 ghost use Rattle.chunk_spelling.specs.Spelling.{a_whole_chunk};
-ghost use Rattle.packet_frame.specs.Bytes.{head_bytes, row_bytes};
+ghost use Rattle.packet_frame.specs.Bytes.{head_bytes, row_bytes, rows_bytes, packet_bytes, frame_bytes};
 ghost use Rattle.packet_frame.specs.Forms.{FrameFits};
 ghost use Rattle.packet_frame.specs.Frames.{SpellsFrame};
 ghost use Rattle.packet_frame.specs.declared.frame.PlainFrame.{PlainFrame as Plain};

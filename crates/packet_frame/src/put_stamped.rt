@@ -81,7 +81,10 @@ fn put_handled(
 {
     let chunk = spellable(packet.chunk());
     let route = packet.route();
-    let size = 44 + route.as_slice().len() as u32 + name.as_slice().len() as u32 + size_of(packet.chunk());
+    let size = 44
+        + route.as_slice().len() as u32
+        + name.as_slice().len() as u32
+        + size_of(packet.chunk());
     let mut out = Out::with_room(alloc, size)?;
     put_stamped_head(4, s, &mut out);
     put_way(packet.family(), packet.dest(), &mut out);
