@@ -8,6 +8,7 @@ mod ill;
 mod laws;
 mod shape;
 mod typed_chunk;
+mod weighed;
 
 pub use checked_packet::CheckedPacket;
 pub use fault::{ChunkFault, Ill};

@@ -1,32 +1,38 @@
 //! Chunks that are typed.
 
-ghost use Rattle.std.specs.Prelude.{◌≡◌, ◌≢◌, ◌+◌, ◌≤◌, IsTrue, IfOk, IfErr, Some, MatchResult};
+ghost use Rattle.std.specs.Prelude.{◌≡◌, ◌≢◌, ◌+◌, ◌≤◌, min, IsTrue, IfOk, IfErr, Some, MatchResult};
 ghost use Rattle.std.specs.List.{list_all};
 ghost use Rattle.plan_base.specs.declared.tree.Chunk.{Chunk as Packed};
-ghost use Rattle.plan_base.specs.Sizes.{chunk_weight};
+ghost use Rattle.plan_base.specs.Sizes.{chunk_weight, code_size};
 ghost use Rattle.plan_base.specs.WellFormed.{IsWellFormedChunk, ChunkHasTypes, well_formed_value, value_has_types};
 ghost use Rattle.typing_rules.specs.Typing.{IsTypedChunk};
 ghost use Rattle.chunk_types.specs.Chunks as spec;
 ghost use Rattle.chunk_types.specs.Chunks.{IsCheckedChunk};
 
 use crate::fault::ChunkFault;
-use crate::ill::{ill_call, illness_by, is_small};
+use crate::ill::{ill_call, illness_by};
+use crate::weighed::{is_small_with, weight_with};
 use plan_base::{Chunk, Name, NoMemory, Values};
 use plan_copies::Copied;
+use plan_sizes::code_size;
 use plan_types::Checked;
 use std::alloc::Global;
 use std::marker::Model;
 
-/// A chunk that is typed, which contracts see as that chunk.
+/// A chunk that is typed, which contracts see as that chunk. The size of its program stands beside it, so that it is measured
+/// once.
 #[derive(Drop)]
 pub struct CheckedChunk {
     chunk: Chunk,
+    size: u64,
 }
 
 impl Model for CheckedChunk {
     ghost use Rattle.plan_base.specs.declared.tree.Chunk.{Chunk};
     ghost use Rattle.plan_base.specs.contracts.tree.Chunk as whole;
     ghost use Rattle.chunk_types.specs.Chunks.{IsCheckedChunk};
+    ghost use Rattle.std.specs.Prelude.{◌≡◌, min};
+    ghost use Rattle.plan_base.specs.Sizes.{code_size};
 
     ghost Value = { Chunk };
 
@@ -34,7 +40,8 @@ impl Model for CheckedChunk {
 
     ghost view = { λ k. k.chunk };
 
-    ghost invariant = { λ k. IsCheckedChunk k.chunk };
+    ghost invariant = { λ k. IsCheckedChunk k.chunk
+        × (k.size ≡ min (code_size k.chunk.code) 18446744073709551615) };
 }
 
 impl CheckedChunk {
@@ -44,7 +51,22 @@ impl CheckedChunk {
         requires { IsCheckedChunk chunk }
         ensures { result ≡ chunk }
     {
-        CheckedChunk { chunk }
+        let size = code_size(chunk.code.get());
+        CheckedChunk { chunk, size }
+    }
+
+    /// The bytes of its program's marshalled form, or 2^64 - 1 where there are more. Takes no memory.
+    pub fn program_size(&self) -> u64
+        ensures { result ≡ min (code_size self.now.code) 18446744073709551615 }
+    {
+        self.size
+    }
+
+    /// The bytes of its marshalled form, or 2^64 - 1 where there are more. Takes no memory.
+    pub fn weight(&self) -> u64
+        ensures { result ≡ min (chunk_weight self.now) 18446744073709551615 }
+    {
+        weight_with(self.size, &self.chunk)
     }
 
     /// The chunk. Takes no memory.
@@ -77,7 +99,10 @@ impl CheckedChunk {
         ensures { IfOk result (λ k. k ≡ self.now) }
     {
         let chunk = self.chunk.copy(alloc)?;
-        Ok(CheckedChunk { chunk })
+        Ok(CheckedChunk {
+            chunk,
+            size: self.size,
+        })
     }
 }
 
@@ -99,7 +124,8 @@ pub fn check_chunk(
     if let Some(ill) = illness_by(alloc, &chunk, known)? {
         return Err(ChunkFault::Ill(ill));
     }
-    Ok(CheckedChunk { chunk })
+    let size = code_size(chunk.code.get());
+    Ok(CheckedChunk { chunk, size })
 }
 
 /// The chunk of a typed program with that entry and those arguments. Else what comes first that is wrong:
@@ -126,8 +152,9 @@ pub fn chunk_of(
         entry: entry.copy(alloc)?,
         args,
     };
-    if !is_small(&chunk) {
+    let size = code_size(chunk.code.get());
+    if !is_small_with(size, &chunk) {
         return Err(ChunkFault::TooLarge);
     }
-    Ok(CheckedChunk { chunk })
+    Ok(CheckedChunk { chunk, size })
 }

@@ -25,5 +25,5 @@ pub use packed::pay_packed;
 pub use place::{enters, open_code};
 pub use rest::{Flow, Rest, inside, pause, pause_in, stack_rest, stopped_in};
 pub use row::Row;
-pub use size::{ProgramSize, measure, size_of};
+pub use size::{ProgramSize, size_of};
 pub use turn::Turn;

@@ -16,7 +16,7 @@ pub struct ProgramSize {
 }
 
 /// Measures a program.
-pub fn measure(code: &Shared<Program>, number: usize) -> ProgramSize
+fn measure(code: &Shared<Program>, number: usize) -> ProgramSize
     ensures number { result.number ≡ number }
     ensures size { result.size ≡ min (code_size code.now) 18446744073709551615 }
 {

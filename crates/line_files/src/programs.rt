@@ -16,8 +16,7 @@ use crate::numbers::number;
 use crate::words::{Words, allow, is};
 use chunk_types::{CheckedChunk, ChunkFault, chunk_of};
 use link_window::Version;
-use plan_base::{Bytes, Chunk, Fun, Name, NameFault, Values};
-use plan_sizes::chunk_weight;
+use plan_base::{Bytes, Fun, Name, NameFault, Values};
 use plan_types::Checked;
 use program_text::{TextFault, read_args, read_program};
 use std::alloc::{AllocError, Global};
@@ -172,10 +171,10 @@ pub fn call(
 
 /// The sum of the weights of all injected chunks with one chunk more. Reason: `TooMany` where it passes 16,777,216.
 #[tactic(auto, unfolding(crate::specs::Programs::weighed_sum))]
-pub fn add_weight(sum: u64, chunk: &Chunk) -> Result<u64, LineReason>
+pub fn add_weight(sum: u64, chunk: &CheckedChunk) -> Result<u64, LineReason>
     ensures { Tells (λ n. n) result (spec.weighed_sum sum chunk.now) }
 {
-    let weight = chunk_weight(chunk).saturating_add(1).saturating_add(sum);
+    let weight = chunk.weight().saturating_add(1).saturating_add(sum);
     allow(weight <= 16_777_216, LineReason::TooMany)?;
     Ok(weight)
 }

@@ -35,7 +35,7 @@ use plan_items::Items;
 use plan_types::Checked;
 use remote_calls::default_route;
 use service_api::{Advert, Ctx, Hop, Services};
-use spelled_frame::SpelledFrame;
+use spelled_frame::{SpelledFrame, with_handler};
 use std::alloc::Global;
 
 /// A node: its host, its version, the moment at which it began, its neighbours by device, its routes, its services, for each
@@ -108,18 +108,6 @@ fn leads_to(links: &[(Host, Dev)], dev: Dev, host: Host) -> bool
     match neighbour_on(links, dev) {
         None => false,
         Some(there) => there.0 == host.0,
-    }
-}
-
-/// The packet with this handler, if there is one. Conditions: it has none, and the handler may handle. Takes no memory.
-fn with_handler(packet: CheckedPacket, handler: Option<Name>) -> CheckedPacket
-    requires plain { packet.handler ≡ None }
-    requires handler { MayHandle packet.chunk handler }
-    ensures { result ≡ record packet { handler = handler } }
-{
-    match handler {
-        None => packet,
-        Some(name) => packet.handled_by(name),
     }
 }
 

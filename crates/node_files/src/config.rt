@@ -333,7 +333,7 @@ impl ConfigReading {
         let turn = number(words, 1, 1_000_000)?;
         expect(words, b"inject")?;
         let (chunk, bound, handler) = injection(alloc, self.version, program, words)?;
-        let weight = add_weight(self.weight, chunk.chunk())?;
+        let weight = add_weight(self.weight, &chunk)?;
         self.at.add(Inject {
             turn,
             bound,

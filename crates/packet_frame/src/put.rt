@@ -12,7 +12,6 @@ use chunk_ranges::may_be_spelled;
 use chunk_types::{CheckedChunk, CheckedPacket};
 use chunk_writer::{put_chunk, put_name};
 use plan_base::{Bytes, Chunk, Family, Host, NoMemory};
-use plan_sizes::chunk_weight;
 use service_api::{Advert, AdvertRow};
 use std::alloc::Global;
 use wire_bytes::Out;
@@ -51,12 +50,12 @@ pub fn put_rows(rows: &[AdvertRow], out: &mut Out)
 
 /// The number of bytes of a chunk. Condition: it keeps the limits of its spelling.
 #[tactic(auto, using(crate::proofs::Sizes::chunk_small, spelling_sizes::proofs::LengthLaws::chunk_length))]
-pub fn size_of(c: &Chunk) -> u32
+pub fn size_of(c: &CheckedChunk) -> u32
     requires { a_whole_chunk.Fits c.now }
     ensures size { result ≡ length (chunk_bytes c.now) }
     ensures small { result ≤ 16383 }
 {
-    chunk_weight(c) as u32
+    c.weight() as u32
 }
 
 /// Puts a chunk. Conditions: it keeps the limits of its spelling, and the bytes have room.
@@ -116,7 +115,7 @@ pub fn put_packet(alloc: Global, packet: &CheckedPacket, new_bound: u32) -> Resu
 {
     let chunk = spellable(packet.chunk());
     let route = packet.route();
-    let size = 27 + route.as_slice().len() as u32 + size_of(chunk);
+    let size = 27 + route.as_slice().len() as u32 + size_of(packet.chunk());
     let mut out = Out::with_room(alloc, size)?;
     put_head(1, &mut out);
     put_way(packet.family(), packet.dest(), &mut out);
@@ -133,7 +132,7 @@ pub fn put_ask(alloc: Global, bound: u32, c: &CheckedChunk) -> Result<Bytes, NoM
     ensures { IfOk result (λ b. SpellsFrame b (Plain.Ask bound c.now)) }
 {
     let chunk = spellable(c);
-    let mut out = Out::with_room(alloc, 10 + size_of(chunk))?;
+    let mut out = Out::with_room(alloc, 10 + size_of(c))?;
     put_head(3, &mut out);
     out.put_u32(bound);
     put_carried(chunk, &mut out);

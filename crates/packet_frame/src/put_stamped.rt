@@ -56,7 +56,7 @@ fn put_plain2(
 {
     let chunk = spellable(packet.chunk());
     let route = packet.route();
-    let size = 43 + route.as_slice().len() as u32 + size_of(chunk);
+    let size = 43 + route.as_slice().len() as u32 + size_of(packet.chunk());
     let mut out = Out::with_room(alloc, size)?;
     put_stamped_head(1, s, &mut out);
     put_way(packet.family(), packet.dest(), &mut out);
@@ -81,7 +81,10 @@ fn put_handled(
 {
     let chunk = spellable(packet.chunk());
     let route = packet.route();
-    let size = 44 + route.as_slice().len() as u32 + name.as_slice().len() as u32 + size_of(chunk);
+    let size = 44
+        + route.as_slice().len() as u32
+        + name.as_slice().len() as u32
+        + size_of(packet.chunk());
     let mut out = Out::with_room(alloc, size)?;
     put_stamped_head(4, s, &mut out);
     put_way(packet.family(), packet.dest(), &mut out);

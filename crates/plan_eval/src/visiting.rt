@@ -1,8 +1,9 @@
 //! The visit of a packet.
-ghost use Rattle.std.specs.Prelude.{◌≡◌, ◌↔◌, ◌+◌, ◌≤◌, ◌∷◌, [], length, All, IfOk, OnOk, IsSome, Some};
+ghost use Rattle.std.specs.Prelude.{◌≡◌, ◌↔◌, ◌+◌, ◌≤◌, ◌∷◌, [], length, All, IfOk, OnOk, IsSome, Some, min};
 ghost use Rattle.plan_base.specs.declared.tree.Fun.{Fun as AFun};
 ghost use Rattle.typing_rules.specs.TypingOrder.{fun_of};
 ghost use Rattle.service_api.specs.Services.{AreGoodRows, IsGoodChunk};
+ghost use Rattle.plan_base.specs.Sizes.{code_size};
 ghost use Rattle.plan_meaning.specs.Visit.{IsVisit, IsGoodEnd, NoteHasTypes, allowance, bounds, spent_visit};
 ghost use Rattle.plan_meaning.specs.declared.outcome.Outcome.TheVariants as outcome;
 ghost use Rattle.plan_meaning.specs.State.{joined_state};
@@ -14,7 +15,7 @@ ghost use Rattle.eval_flow.specs.Turns.{entry};
 
 use crate::machine::run;
 use chunk_types::CheckedPacket;
-use eval_flow::{enters, measure};
+use eval_flow::{ProgramSize, enters};
 use eval_steps::{Activation, Activations, Codes};
 use plan_base::{Chunk, Family, NoMemory, Value};
 use plan_copies::copy_values;
@@ -66,9 +67,11 @@ fn first_activation(alloc: Global, chunk: &Chunk, fun: usize) -> Result<Activati
 fn run_chunk<S: Services>(
     alloc: Global,
     chunk: &Chunk,
+    size: u64,
     state: &mut State,
     svc: &mut S,
 ) -> Result<Value, EvalStop>
+    requires size { size ≡ min (code_size chunk.now.code) 18446744073709551615 }
     requires open { IsSome (S.stands svc.old).begun }
     requires safe { IsSafe (visited_chunk meaning chunk.now
         (joined_state state.old (S.stands svc.old))).asks }
@@ -84,7 +87,7 @@ fn run_chunk<S: Services>(
     }
     let codes = first_codes(alloc, chunk)?;
     let activations = first_activation(alloc, chunk, fun)?;
-    let first = measure(&chunk.code, 0);
+    let first = ProgramSize { number: 0, size };
     run(alloc, codes, first, activations, state, svc)
 }
 
@@ -92,11 +95,13 @@ fn run_chunk<S: Services>(
 fn visit_chunk<S: Services>(
     alloc: Global,
     chunk: &Chunk,
+    size: u64,
     family: Family,
     bound: u32,
     svc: &mut S,
     ctx: &Ctx,
 ) -> Result<Visit, NoMemory>
+    requires size { size ≡ min (code_size chunk.now.code) 18446744073709551615 }
     requires good { IsGoodChunk chunk.now }
     requires bound { ctx.now.purse ≡ bound }
     requires small { bound ≤ 65535 }
@@ -109,7 +114,7 @@ fn visit_chunk<S: Services>(
 {
     let around = ctx.copy(alloc)?;
     let mut state = State::new(alloc, around, family, ALLOWANCE);
-    match run_chunk(alloc, chunk, &mut state, svc) {
+    match run_chunk(alloc, chunk, size, &mut state, svc) {
         Ok(v) => Ok(state.into_visit(Outcome::Value(v))),
         Err(EvalStop::Raised(x)) => Ok(state.into_visit(Outcome::Raised(x))),
         Err(EvalStop::WorkSpent) => Ok(visit_without_effect(alloc, bound)),
@@ -122,11 +127,13 @@ fn visit_chunk<S: Services>(
 fn visit_by_laws<S: Services>(
     alloc: Global,
     chunk: &Chunk,
+    size: u64,
     family: Family,
     bound: u32,
     svc: &mut S,
     ctx: &Ctx,
 ) -> Result<Visit, NoMemory>
+    requires size { size ≡ min (code_size chunk.now.code) 18446744073709551615 }
     requires good { IsGoodChunk chunk.now }
     requires bound { ctx.now.purse ≡ bound }
     requires small { bound ≤ 65535 }
@@ -146,7 +153,7 @@ fn visit_by_laws<S: Services>(
     ensures offer { (S.stands svc.new).offer ≡ (S.stands svc.old).offer }
     ensures begun { (S.stands svc.new).begun ≡ (S.stands svc.old).begun }
 {
-    visit_chunk(alloc, chunk, family, bound, svc, ctx)
+    visit_chunk(alloc, chunk, size, family, bound, svc, ctx)
 }
 
 /// What the visit of a packet ends with, on a stack of its own: nothing recurses over expressions, calls or evals.
@@ -183,5 +190,14 @@ pub fn visit<S: Services>(
     ensures begun { (S.stands svc.new).begun ≡ (S.stands svc.old).begun }
     ensures still { IsSome (S.stands svc.new).begun }
 {
-    visit_by_laws(alloc, p.chunk().chunk(), p.family(), p.bound(), svc, ctx)
+    let size = p.chunk().program_size();
+    visit_by_laws(
+        alloc,
+        p.chunk().chunk(),
+        size,
+        p.family(),
+        p.bound(),
+        svc,
+        ctx,
+    )
 }

@@ -35,7 +35,7 @@ fn inject(alloc: Global, reading: &mut Reading, words: &mut Words<'_>) -> Result
     ensures { Leaves result reading.new (inject_line words.old reading.old) }
 {
     let (host, chunk, bound, handler) = read_injection(alloc, reading, words)?;
-    let weight = add_weight(reading.weight, chunk.chunk())?;
+    let weight = add_weight(reading.weight, &chunk)?;
     let boxed = Boxed::new(alloc, chunk)?;
     reading
         .events

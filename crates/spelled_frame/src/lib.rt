@@ -3,4 +3,4 @@
 
 mod spelled;
 
-pub use spelled::{SpelledFrame, What};
+pub use spelled::{SpelledFrame, What, with_handler};

@@ -100,7 +100,7 @@ fn advert_bytes(alloc: Global, advert: &Advert, mark: Option<Stamp>) -> Result<B
 }
 
 /// The packet with this handler, if there is one. Conditions: it has none, and the handler may handle. Takes no memory.
-fn with_handler(packet: CheckedPacket, handler: Option<Name>) -> CheckedPacket
+pub fn with_handler(packet: CheckedPacket, handler: Option<Name>) -> CheckedPacket
     requires plain { packet.handler ≡ None }
     requires handler { MayHandle packet.chunk handler }
     ensures { result ≡ record packet { handler = handler } }

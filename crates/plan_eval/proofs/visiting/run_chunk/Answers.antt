@@ -18,7 +18,7 @@ returns-then-not-enters-clause-meets g c = λ other.
 
 pub run-requires-clause-sized : goal.run-requires-clause-sized
 run-requires-clause-sized g c =
-    record { program = c.args.chunk.now.code; there = rw (c.in_ok-codes.ensures, c.measure-first.ensures.number) refl; is = c.measure-first.ensures.size }
+    record { program = c.args.chunk.now.code; there = rw c.in_ok-codes.ensures refl; is = c.requires.size }
 
 pub run-requires-clause-linked : goal.run-requires-clause-linked
 run-requires-clause-linked g c =
