@@ -1,4 +1,5 @@
-//! The commands over the forms in memory of what lies outside, with each call of an object failing in turn; and these forms.
+//! The commands over the forms in memory of what lies outside, with each call of an object failing in turn; these forms; and
+//! the adapters over the real outside, each once.
 #![tactic(auto)]
 
 #[cfg(test)]
@@ -7,6 +8,8 @@ mod calls;
 mod fleets;
 #[cfg(test)]
 mod forms;
+#[cfg(test)]
+mod live;
 #[cfg(test)]
 mod objects;
 #[cfg(test)]

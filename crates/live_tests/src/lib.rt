@@ -1,5 +1,0 @@
-//! The adapters over the real outside, each once.
-#![tactic(auto)]
-
-#[cfg(test)]
-mod live;
