@@ -1,4 +1,4 @@
-ghost use Rattle.std.specs.Prelude.{◌≡◌, ◌+◌, ◌≤◌, ◌++◌, codes, length, OnOk, OnErr};
+ghost use Rattle.std.specs.Prelude.{◌≡◌, ◌+◌, ◌≤◌, [], ◌++◌, codes, length, OnOk, OnErr};
 ghost use Rattle.std.specs.Fmt.{decimal};
 ghost use Rattle.printed_forms.specs.Printed.{value_text};
 ghost use Rattle.packet_frame.specs.Reasons.{reason_text};
@@ -55,16 +55,25 @@ fn put_last(out: &mut Bytes, word: &[u8], n: u32) -> Result<(), NoMemory>
     Ok(())
 }
 
-/// What a visit left, at the end of its line.
-fn put_rest(out: &mut Bytes, evals: u32, left: u32) -> Result<(), NoMemory>
-    ensures { OnOk result (out.new ≡ out.old ++ (spec.rest_text evals left ++ codes "\n")) }
+/// What a visit left, and the end of its line, before no text.
+fn write_rest(text: &mut ShortText, evals: u32, left: u32)
+    requires { text.old ≡ [] }
+    ensures text { text.new ≡ spec.rest_text evals left ++ codes "\n" }
+    ensures room { length text.new ≤ 54 }
 {
-    let mut text = ShortText::new();
     text.byte(b'\n');
     text.number(u64::from(left));
     text.word(b" left ");
     text.number(u64::from(evals));
     text.word(b" evals ");
+}
+
+/// What a visit left, at the end of its line.
+fn put_rest(out: &mut Bytes, evals: u32, left: u32) -> Result<(), NoMemory>
+    ensures { OnOk result (out.new ≡ out.old ++ (spec.rest_text evals left ++ codes "\n")) }
+{
+    let mut text = ShortText::new();
+    write_rest(&mut text, evals, left);
     text.put(out)?;
     Ok(())
 }
@@ -166,7 +175,49 @@ fn put_end(
     Ok(())
 }
 
+/// The line of a visit that ended with a value.
+#[tactic(auto, using(plan_printer::proofs::ValueLaws::value_text_out, plan_base::specs::Trees::trees))]
 fn put_ended(
+    alloc: Global,
+    out: &mut Bytes,
+    event: u64,
+    host: Host,
+    f: Family,
+    value: &Value,
+    evals: u32,
+    left: u32,
+) -> Result<(), NoMemory>
+    ensures { OnOk result (out.new ≡ out.old ++ line_of event (spec.head_text (codes "value") host ++ (codes " " ++ (spec.family_text f ++ (codes " " ++ (value_text value.now ++ spec.rest_text evals left)))))) }
+{
+    match value {
+        Value::Unit => put_done(out, event, host, f, evals, left)?,
+        _ => put_given(alloc, out, event, host, f, value, evals, left)?,
+    }
+    Ok(())
+}
+
+/// The line of a visit without a value. (So end most, so its line is written in one piece.)
+fn put_done(
+    out: &mut Bytes,
+    event: u64,
+    host: Host,
+    f: Family,
+    evals: u32,
+    left: u32,
+) -> Result<(), NoMemory>
+    ensures { OnOk result (out.new ≡ out.old ++ line_of event (spec.head_text (codes "value") host ++ (codes " " ++ (spec.family_text f ++ (codes " " ++ (codes "()" ++ spec.rest_text evals left)))))) }
+{
+    let mut text = ShortText::new();
+    write_rest(&mut text, evals, left);
+    text.word(b" ()");
+    text.family(f);
+    text.byte(b' ');
+    text.head(event, b"value", host);
+    text.put(out)?;
+    Ok(())
+}
+
+fn put_given(
     alloc: Global,
     out: &mut Bytes,
     event: u64,
