@@ -49,7 +49,7 @@ fn give_named_value(alloc: Global, here: &Here<'_>, e: &Expr, name: &Name) -> Re
 }
 
 /// What a name stands for.
-#[tactic(auto, using(crate::proofs::Beginning::gives_name, crate::proofs::Beginning::no_name, plan_base::specs::Trees::trees))]
+#[tactic(auto, using(crate::proofs::Beginning::gives_name, crate::proofs::Beginning::no_name))]
 pub fn variable(
     alloc: Global,
     here: &Here<'_>,
@@ -64,7 +64,6 @@ pub fn variable(
     ensures lasts { Lasts 3 state.old.work result state.new.work }
 {
     match named_value(here, name) {
-        Some(Value::Int(n)) => ended_by_number(*n, state),
         Some(value) => ended_by_value(alloc, value.copy(alloc)?, state),
         None => Err(EvalStop::Wrong),
     }

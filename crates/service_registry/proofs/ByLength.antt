@@ -65,8 +65,17 @@ pub long_other : (name : List ℕ) → length name ≢ 3 → length name ≢ 5 �
     → service_named all_services name ≡ None
 long_other name a b c d e f g h i =
     let n = length name in
-    let none : as_long (length name) all_services ≡ [] =
-    skip ThisHost _ n e (skip ThisHostIs _ n g (skip GetRb _ n b (skip GetSource _ n f (skip GetNeighbors _ n i (skip GetDist _ n d (skip NextHop _ n d (skip Put _ n a (skip Get _ n a (skip Remove _ n c (skip GenerateKey _ n h (skip Print _ n b (skip Deliver [] n d refl)))))))))))) in
-    by_length all_services name (length name) refl ∙ ap (λ ss. service_named ss name) none
-
-pub ruleset by_lengths = (long_3, long_5, long_6, long_7, long_8, long_9, long_10, long_11, long_12, long_other)
+    let none_12 = skip Deliver ([]) n d refl in
+    let none_11 = skip Print (Deliver ∷ []) n b none_12 in
+    let none_10 = skip GenerateKey (Print ∷ Deliver ∷ []) n h none_11 in
+    let none_9 = skip Remove (GenerateKey ∷ Print ∷ Deliver ∷ []) n c none_10 in
+    let none_8 = skip Get (Remove ∷ GenerateKey ∷ Print ∷ Deliver ∷ []) n a none_9 in
+    let none_7 = skip Put (Get ∷ Remove ∷ GenerateKey ∷ Print ∷ Deliver ∷ []) n a none_8 in
+    let none_6 = skip NextHop (Put ∷ Get ∷ Remove ∷ GenerateKey ∷ Print ∷ Deliver ∷ []) n d none_7 in
+    let none_5 = skip GetDist (NextHop ∷ Put ∷ Get ∷ Remove ∷ GenerateKey ∷ Print ∷ Deliver ∷ []) n d none_6 in
+    let none_4 = skip GetNeighbors (GetDist ∷ NextHop ∷ Put ∷ Get ∷ Remove ∷ GenerateKey ∷ Print ∷ Deliver ∷ []) n i none_5 in
+    let none_3 = skip GetSource (GetNeighbors ∷ GetDist ∷ NextHop ∷ Put ∷ Get ∷ Remove ∷ GenerateKey ∷ Print ∷ Deliver ∷ []) n f none_4 in
+    let none_2 = skip GetRb (GetSource ∷ GetNeighbors ∷ GetDist ∷ NextHop ∷ Put ∷ Get ∷ Remove ∷ GenerateKey ∷ Print ∷ Deliver ∷ []) n b none_3 in
+    let none_1 = skip ThisHostIs (GetRb ∷ GetSource ∷ GetNeighbors ∷ GetDist ∷ NextHop ∷ Put ∷ Get ∷ Remove ∷ GenerateKey ∷ Print ∷ Deliver ∷ []) n g none_2 in
+    let none_0 = skip ThisHost (ThisHostIs ∷ GetRb ∷ GetSource ∷ GetNeighbors ∷ GetDist ∷ NextHop ∷ Put ∷ Get ∷ Remove ∷ GenerateKey ∷ Print ∷ Deliver ∷ []) n e none_1 in
+    by_length all_services name n refl ∙ ap (λ ss. service_named ss name) none_0

@@ -5,7 +5,6 @@ use Rattle.plan_base.specs.declared.tree.Ty.{Ty}
 use Rattle.plan_base.specs.declared.tree.Ty.TheVariants as ty
 use Rattle.plan_base.specs.declared.tree.Svc.{Svc}
 use Rattle.service_api.specs.declared.scheme.SchemeTy.{SchemeTy}
-use Rattle.service_api.specs.declared.scheme.SchemeTy.TheVariants.{Any, Is}
 use Rattle.service_api.specs.declared.scheme.Scheme.{Scheme}
 use Rattle.service_api.specs.Schemes.{AllStandFor, IsInstance, instance}
 use Rattle.service_api.proofs.InstanceLaws.{found_is, is_found}

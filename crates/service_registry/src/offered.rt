@@ -82,7 +82,7 @@ fn service_of_seven(name: &Name) -> Option<Service>
 }
 
 /// The service of the name: it is compared with those names alone that are as long.
-#[tactic(auto, using(crate::proofs::ByLength::by_lengths))]
+#[tactic(auto, using(crate::proofs::ByLength::long_other))]
 fn service_of_name(name: &Name) -> Option<Service>
     ensures { result ≡ spec.service_named spec.all_services name.now }
 {

@@ -1,6 +1,4 @@
 use Rattle.std.proofs.Common.{rules}
-use Rattle.plan_base.specs.Trees.{trees}
-use Rattle.plan_base.specs.declared.tree.Value as value
 use Rattle.plan_meaning.specs.State.{joined_state}
 use Rattle.plan_meaning.specs.Run.{weighed_value}
 use Rattle.eval_flow.specs.Direct.{spot}
@@ -9,12 +7,6 @@ use Rattle.eval_steps.specs.Nexts.{begins}
 use Rattle.eval_flow.proofs.Backs.{flows_from}
 use Rattle.eval_flow.proofs.Beginning.{gives_name}
 use Rattle.eval_flow.proofs.opening.variable.Goals as goal
-
-pub returns-in-Some-Int-clause-flows : goal.returns-in-Some-Int-clause-flows
-returns-in-Some-Int-clause-flows c codes m =
-    let leads : Leads (begins c.args.here.now.code.now c.args.here.now.fun (spot c.args.here.now c.args.e.now) (joined_state c.args.state.now m)) (weighed_value (value.Int c.in-Some-Int.n) (joined_state c.args.state.now m)) = search (rules, gives_name, trees) in
-    flows_from codes c.args.here.now.code.now c.args.here.now.fun (spot c.args.here.now c.args.e.now) _ _ c.ended_by_number.result (joined_state c.ended_by_number.new.state m) leads
-    (c.ended_by_number.ensures.flows codes c.args.here.now.code.now c.args.here.now.fun (spot c.args.here.now c.args.e.now) m)
 
 pub returns-in_ok-copy-in-Some-clause-flows : goal.returns-in_ok-copy-in-Some-clause-flows
 returns-in_ok-copy-in-Some-clause-flows c codes n =

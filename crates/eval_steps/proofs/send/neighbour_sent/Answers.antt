@@ -1,5 +1,4 @@
 use Rattle.std.proofs.Common.{◌≡◌, Err}
-use Rattle.plan_meaning.specs.State.{joined_state}
 use Rattle.eval_steps.proofs.send.neighbour_sent.Goals as goal
 
 pub returns-in-Ok-clause-sends : goal.returns-in-Ok-clause-sends
