@@ -1,6 +1,8 @@
 //! The text of what a node does.
 #![tactic(auto)]
 
+mod short;
 mod text;
 
-pub use text::{put_act, put_act_text, put_bound, put_family, put_number};
+pub use short::ShortText;
+pub use text::{put_act, put_act_line, put_family, put_number};

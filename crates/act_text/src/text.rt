@@ -1,9 +1,11 @@
-ghost use Rattle.std.specs.Prelude.{◌≡◌, ◌++◌, codes, OnOk, OnErr};
+ghost use Rattle.std.specs.Prelude.{◌≡◌, ◌+◌, ◌≤◌, [], ◌++◌, codes, length, OnOk, OnErr};
 ghost use Rattle.std.specs.Fmt.{decimal};
 ghost use Rattle.printed_forms.specs.Printed.{value_text};
 ghost use Rattle.packet_frame.specs.Reasons.{reason_text};
 ghost use Rattle.node_model.specs.Texts as spec;
+ghost use Rattle.act_text.specs.Lines.{line_of, front_of};
 
+use crate::ShortText;
 use frame_text::put_reason;
 use itoa::Buffer;
 use node_model::{Act, Reason, Took, What};
@@ -30,91 +32,125 @@ pub fn put_number(out: &mut Bytes, n: u64) -> Result<(), NoMemory>
     Ok(())
 }
 
-/// The head of a line.
-fn put_head(out: &mut Bytes, word: &[u8], host: Host) -> Result<(), NoMemory>
-    ensures { OnOk result (out.new ≡ out.old ++ spec.head_text word.now host) }
-{
-    out.add_all(word)?;
-    out.add_all(b" @")?;
-    put_number(out, u64::from(host.0))?;
-    Ok(())
-}
-
 /// Appends a family: its source and its serial number. Where memory is refused, a part of it may stand behind `out`.
 pub fn put_family(out: &mut Bytes, f: Family) -> Result<(), NoMemory>
     ensures { OnOk result (out.new ≡ out.old ++ spec.family_text f) }
 {
-    put_number(out, u64::from(f.source.0))?;
-    out.add(b'.')?;
-    put_number(out, f.serial)?;
+    let mut text = ShortText::new();
+    text.family(f);
+    text.put(out)?;
     Ok(())
 }
 
-/// Appends a family with its bound. Where memory is refused, a part of it may stand behind `out`.
-pub fn put_bound(out: &mut Bytes, f: Family, bound: u32) -> Result<(), NoMemory>
-    ensures { OnOk result (out.new ≡ out.old ++ spec.bound_text f bound) }
+/// A number at the end of a line.
+fn put_last(out: &mut Bytes, word: &[u8], n: u32) -> Result<(), NoMemory>
+    requires { length word.now ≤ 100 }
+    ensures { OnOk result (out.new ≡ out.old ++ (word.now ++ (decimal n ++ codes "\n"))) }
 {
-    out.add(b' ')?;
-    put_family(out, f)?;
-    out.add_all(b" bound ")?;
-    put_number(out, u64::from(bound))?;
+    let mut text = ShortText::new();
+    text.byte(b'\n');
+    text.number(u64::from(n));
+    text.word(word);
+    text.put(out)?;
     Ok(())
 }
 
-/// A device.
-fn put_device(out: &mut Bytes, dev: Dev) -> Result<(), NoMemory>
-    ensures { OnOk result (out.new ≡ out.old ++ spec.device_text dev) }
+/// What a visit left, and the end of its line, before no text.
+fn write_rest(text: &mut ShortText, evals: u32, left: u32)
+    requires { text.old ≡ [] }
+    ensures text { text.new ≡ spec.rest_text evals left ++ codes "\n" }
+    ensures room { length text.new ≤ 54 }
 {
-    out.add_all(b" %")?;
-    put_number(out, u64::from(dev.0))?;
-    Ok(())
+    text.byte(b'\n');
+    text.number(u64::from(left));
+    text.word(b" left ");
+    text.number(u64::from(evals));
+    text.word(b" evals ");
 }
 
-/// What a visit left.
+/// What a visit left, at the end of its line.
 fn put_rest(out: &mut Bytes, evals: u32, left: u32) -> Result<(), NoMemory>
-    ensures { OnOk result (out.new ≡ out.old ++ spec.rest_text evals left) }
+    ensures { OnOk result (out.new ≡ out.old ++ (spec.rest_text evals left ++ codes "\n")) }
 {
-    out.add_all(b" evals ")?;
-    put_number(out, u64::from(evals))?;
-    out.add_all(b" left ")?;
-    put_number(out, u64::from(left))?;
+    let mut text = ShortText::new();
+    write_rest(&mut text, evals, left);
+    text.put(out)?;
+    Ok(())
+}
+
+/// The front of a line: its event, its head and a family.
+fn put_front(
+    out: &mut Bytes,
+    event: u64,
+    word: &[u8],
+    host: Host,
+    f: Family,
+) -> Result<(), NoMemory>
+    requires { length word.now ≤ 100 }
+    ensures { OnOk result (out.new ≡ out.old ++ front_of event word.now host f) }
+{
+    let mut text = ShortText::new();
+    text.byte(b' ');
+    text.family(f);
+    text.byte(b' ');
+    text.head(event, word, host);
+    text.put(out)?;
     Ok(())
 }
 
 /// A note.
-fn put_note(alloc: Global, out: &mut Bytes, host: Host, note: &Note) -> Result<(), NoMemory>
-    ensures { OnOk result (out.new ≡ out.old ++ spec.note_text host note.now) }
+fn put_note(
+    alloc: Global,
+    out: &mut Bytes,
+    event: u64,
+    host: Host,
+    note: &Note,
+) -> Result<(), NoMemory>
+    ensures { OnOk result (out.new ≡ out.old ++ line_of event (spec.note_text host note.now)) }
 {
     match note {
-        Note::Print(value) => put_print(alloc, out, host, value)?,
-        Note::Port(port, value) => put_port(alloc, out, host, *port, value)?,
+        Note::Print(value) => put_print(alloc, out, event, host, value)?,
+        Note::Port(port, value) => put_port(alloc, out, event, host, *port, value)?,
     }
     Ok(())
 }
 
-fn put_print(alloc: Global, out: &mut Bytes, host: Host, value: &Value) -> Result<(), NoMemory>
-    ensures { OnOk result (out.new ≡ out.old ++ (spec.head_text (codes "print") host ++ (codes " " ++ value_text value.now))) }
+fn put_print(
+    alloc: Global,
+    out: &mut Bytes,
+    event: u64,
+    host: Host,
+    value: &Value,
+) -> Result<(), NoMemory>
+    ensures { OnOk result (out.new ≡ out.old ++ line_of event (spec.head_text (codes "print") host ++ (codes " " ++ value_text value.now))) }
 {
-    put_head(out, b"print", host)?;
-    out.add(b' ')?;
+    let mut text = ShortText::new();
+    text.byte(b' ');
+    text.head(event, b"print", host);
+    text.put(out)?;
     print_value(alloc, value, out)?;
+    out.add(b'\n')?;
     Ok(())
 }
 
 fn put_port(
     alloc: Global,
     out: &mut Bytes,
+    event: u64,
     host: Host,
     port: u16,
     value: &Value,
 ) -> Result<(), NoMemory>
-    ensures { OnOk result (out.new ≡ out.old ++ (spec.head_text (codes "port") host ++ (codes " " ++ (decimal port ++ (codes " " ++ value_text value.now))))) }
+    ensures { OnOk result (out.new ≡ out.old ++ line_of event (spec.head_text (codes "port") host ++ (codes " " ++ (decimal port ++ (codes " " ++ value_text value.now))))) }
 {
-    put_head(out, b"port", host)?;
-    out.add(b' ')?;
-    put_number(out, u64::from(port))?;
-    out.add(b' ')?;
+    let mut text = ShortText::new();
+    text.byte(b' ');
+    text.number(u64::from(port));
+    text.byte(b' ');
+    text.head(event, b"port", host);
+    text.put(out)?;
     print_value(alloc, value, out)?;
+    out.add(b'\n')?;
     Ok(())
 }
 
@@ -122,37 +158,78 @@ fn put_port(
 fn put_end(
     alloc: Global,
     out: &mut Bytes,
+    event: u64,
     host: Host,
     f: Family,
     outcome: &Outcome,
     evals: u32,
     left: u32,
 ) -> Result<(), NoMemory>
-    ensures { OnOk result (out.new ≡ out.old ++ spec.end_text host f outcome.now evals left) }
+    ensures { OnOk result (out.new ≡ out.old ++ line_of event (spec.end_text host f outcome.now evals left)) }
 {
     match outcome {
-        Outcome::Value(value) => put_ended(alloc, out, host, f, value, evals, left)?,
-        Outcome::Raised(x) => put_raised(out, host, f, x.0.as_slice(), evals, left)?,
-        Outcome::WorkSpent => put_spent(out, host, f, left)?,
+        Outcome::Value(value) => put_ended(alloc, out, event, host, f, value, evals, left)?,
+        Outcome::Raised(x) => put_raised(out, event, host, f, x.0.as_slice(), evals, left)?,
+        Outcome::WorkSpent => put_spent(out, event, host, f, left)?,
     }
     Ok(())
 }
 
+/// The line of a visit that ended with a value.
+#[tactic(auto, using(plan_printer::proofs::ValueLaws::value_text_out, plan_base::specs::Trees::trees))]
 fn put_ended(
     alloc: Global,
     out: &mut Bytes,
+    event: u64,
     host: Host,
     f: Family,
     value: &Value,
     evals: u32,
     left: u32,
 ) -> Result<(), NoMemory>
-    ensures { OnOk result (out.new ≡ out.old ++ (spec.head_text (codes "value") host ++ (codes " " ++ (spec.family_text f ++ (codes " " ++ (value_text value.now ++ spec.rest_text evals left)))))) }
+    ensures { OnOk result (out.new ≡ out.old ++ line_of event (spec.head_text (codes "value") host ++ (codes " " ++ (spec.family_text f ++ (codes " " ++ (value_text value.now ++ spec.rest_text evals left)))))) }
 {
-    put_head(out, b"value", host)?;
-    out.add(b' ')?;
-    put_family(out, f)?;
-    out.add(b' ')?;
+    match value {
+        Value::Unit => put_done(out, event, host, f, evals, left)?,
+        _ => put_given(alloc, out, event, host, f, value, evals, left)?,
+    }
+    Ok(())
+}
+
+/// The line of a visit without a value. (So end most, so its line is written in one piece.)
+fn put_done(
+    out: &mut Bytes,
+    event: u64,
+    host: Host,
+    f: Family,
+    evals: u32,
+    left: u32,
+) -> Result<(), NoMemory>
+    ensures { OnOk result (out.new ≡ out.old ++ line_of event (spec.head_text (codes "value") host ++ (codes " " ++ (spec.family_text f ++ (codes " " ++ (codes "()" ++ spec.rest_text evals left)))))) }
+{
+    let mut text = ShortText::new();
+    write_rest(&mut text, evals, left);
+    text.word(b" ()");
+    text.family(f);
+    text.byte(b' ');
+    text.head(event, b"value", host);
+    text.put(out)?;
+    Ok(())
+}
+
+fn put_given(
+    alloc: Global,
+    out: &mut Bytes,
+    event: u64,
+    host: Host,
+    f: Family,
+    value: &Value,
+    evals: u32,
+    left: u32,
+) -> Result<(), NoMemory>
+    ensures { OnOk result (out.new ≡ out.old ++ line_of event (spec.head_text (codes "value") host ++ (codes " " ++ (spec.family_text f ++ (codes " " ++ (value_text value.now ++ spec.rest_text evals left)))))) }
+{
+    put_front(out, event, b"value", host, f)?;
     print_value(alloc, value, out)?;
     put_rest(out, evals, left)?;
     Ok(())
@@ -160,57 +237,56 @@ fn put_ended(
 
 fn put_raised(
     out: &mut Bytes,
+    event: u64,
     host: Host,
     f: Family,
     name: &[u8],
     evals: u32,
     left: u32,
 ) -> Result<(), NoMemory>
-    ensures { OnOk result (out.new ≡ out.old ++ (spec.head_text (codes "raised") host ++ (codes " " ++ (spec.family_text f ++ (codes " " ++ (name.now ++ spec.rest_text evals left)))))) }
+    ensures { OnOk result (out.new ≡ out.old ++ line_of event (spec.head_text (codes "raised") host ++ (codes " " ++ (spec.family_text f ++ (codes " " ++ (name.now ++ spec.rest_text evals left)))))) }
 {
-    put_head(out, b"raised", host)?;
-    out.add(b' ')?;
-    put_family(out, f)?;
-    out.add(b' ')?;
+    put_front(out, event, b"raised", host, f)?;
     out.add_all(name)?;
     put_rest(out, evals, left)?;
     Ok(())
 }
 
-fn put_spent(out: &mut Bytes, host: Host, f: Family, left: u32) -> Result<(), NoMemory>
-    ensures { OnOk result (out.new ≡ out.old ++ (spec.head_text (codes "spent") host ++ (codes " " ++ (spec.family_text f ++ (codes " left " ++ decimal left))))) }
+fn put_spent(out: &mut Bytes, event: u64, host: Host, f: Family, left: u32) -> Result<(), NoMemory>
+    ensures { OnOk result (out.new ≡ out.old ++ line_of event (spec.head_text (codes "spent") host ++ (codes " " ++ (spec.family_text f ++ (codes " left " ++ decimal left))))) }
 {
-    put_head(out, b"spent", host)?;
-    out.add(b' ')?;
-    put_family(out, f)?;
-    out.add_all(b" left ")?;
-    put_number(out, u64::from(left))?;
+    let mut text = ShortText::new();
+    text.byte(b'\n');
+    text.number(u64::from(left));
+    text.word(b" left ");
+    text.family(f);
+    text.byte(b' ');
+    text.head(event, b"spent", host);
+    text.put(out)?;
     Ok(())
 }
 
 /// A handler that is called, with the bound that it has.
 fn put_handled(
     out: &mut Bytes,
+    event: u64,
     host: Host,
     f: Family,
     name: &[u8],
     bound: u32,
 ) -> Result<(), NoMemory>
-    ensures { OnOk result (out.new ≡ out.old ++ (spec.head_text (codes "handler") host ++ (codes " " ++ (spec.family_text f ++ (codes " " ++ (name.now ++ (codes " bound " ++ decimal bound))))))) }
+    ensures { OnOk result (out.new ≡ out.old ++ line_of event (spec.head_text (codes "handler") host ++ (codes " " ++ (spec.family_text f ++ (codes " " ++ (name.now ++ (codes " bound " ++ decimal bound))))))) }
 {
-    put_head(out, b"handler", host)?;
-    out.add(b' ')?;
-    put_family(out, f)?;
-    out.add(b' ')?;
+    put_front(out, event, b"handler", host, f)?;
     out.add_all(name)?;
-    out.add_all(b" bound ")?;
-    put_number(out, u64::from(bound))?;
+    put_last(out, b" bound ", bound)?;
     Ok(())
 }
 
 /// The word of a reason.
 fn reason_word(reason: Reason) -> &'static [u8]
-    ensures { result.now ≡ spec.reason_text reason }
+    ensures word { result.now ≡ spec.reason_text reason }
+    ensures short { length result.now ≤ 10 }
 {
     match reason {
         Reason::NoBound => b"NoBound",
@@ -221,90 +297,148 @@ fn reason_word(reason: Reason) -> &'static [u8]
     }
 }
 
-fn put_injected(out: &mut Bytes, host: Host, f: Family, bound: u32) -> Result<(), NoMemory>
-    ensures { OnOk result (out.new ≡ out.old ++ (spec.head_text (codes "inject") host ++ spec.bound_text f bound)) }
+fn put_injected(
+    out: &mut Bytes,
+    event: u64,
+    host: Host,
+    f: Family,
+    bound: u32,
+) -> Result<(), NoMemory>
+    ensures { OnOk result (out.new ≡ out.old ++ line_of event (spec.head_text (codes "inject") host ++ spec.bound_text f bound)) }
 {
-    put_head(out, b"inject", host)?;
-    put_bound(out, f, bound)?;
+    let mut text = ShortText::new();
+    text.byte(b'\n');
+    text.bound(f, bound);
+    text.head(event, b"inject", host);
+    text.put(out)?;
     Ok(())
 }
 
 /// A word, the host and a device.
-fn put_on_device(out: &mut Bytes, word: &[u8], host: Host, dev: Dev) -> Result<(), NoMemory>
-    ensures { OnOk result (out.new ≡ out.old ++ (spec.head_text word.now host ++ spec.device_text dev)) }
+#[inline(always)]
+fn put_on_device(
+    out: &mut Bytes,
+    event: u64,
+    word: &[u8],
+    host: Host,
+    dev: Dev,
+) -> Result<(), NoMemory>
+    requires { length word.now ≤ 10 }
+    ensures { OnOk result (out.new ≡ out.old ++ line_of event (spec.head_text word.now host ++ spec.device_text dev)) }
 {
-    put_head(out, word, host)?;
-    put_device(out, dev)?;
+    let mut text = ShortText::new();
+    text.byte(b'\n');
+    text.device(dev);
+    text.head(event, word, host);
+    text.put(out)?;
     Ok(())
 }
 
 /// A word, the host and an end.
-fn put_plain(out: &mut Bytes, word: &[u8], host: Host, end: &[u8]) -> Result<(), NoMemory>
-    ensures { OnOk result (out.new ≡ out.old ++ (spec.head_text word.now host ++ end.now)) }
+fn put_plain(
+    out: &mut Bytes,
+    event: u64,
+    word: &[u8],
+    host: Host,
+    end: &[u8],
+) -> Result<(), NoMemory>
+    requires { length word.now + length end.now ≤ 100 }
+    ensures { OnOk result (out.new ≡ out.old ++ line_of event (spec.head_text word.now host ++ end.now)) }
 {
-    put_head(out, word, host)?;
-    out.add_all(end)?;
+    let mut text = ShortText::new();
+    text.byte(b'\n');
+    text.word(end);
+    text.head(event, word, host);
+    text.put(out)?;
     Ok(())
 }
 
 /// Why bytes are no frame.
-fn put_bad(alloc: Global, out: &mut Bytes, host: Host, refusal: &FrameFault) -> Result<(), NoMemory>
-    ensures { OnOk result (out.new ≡ out.old ++ (spec.head_text (codes "drop") host ++ (codes " BadFrame " ++ reason_text refusal.now))) }
+fn put_bad(
+    alloc: Global,
+    out: &mut Bytes,
+    event: u64,
+    host: Host,
+    refusal: &FrameFault,
+) -> Result<(), NoMemory>
+    ensures { OnOk result (out.new ≡ out.old ++ line_of event (spec.head_text (codes "drop") host ++ (codes " BadFrame " ++ reason_text refusal.now))) }
 {
-    put_head(out, b"drop", host)?;
-    out.add_all(b" BadFrame ")?;
+    let mut text = ShortText::new();
+    text.word(b" BadFrame ");
+    text.head(event, b"drop", host);
+    text.put(out)?;
     put_reason(alloc, refusal, out)?;
+    out.add(b'\n')?;
     Ok(())
 }
 
-fn put_ticked(out: &mut Bytes, host: Host, now: u64) -> Result<(), NoMemory>
-    ensures { OnOk result (out.new ≡ out.old ++ (spec.head_text (codes "tick") host ++ (codes " now " ++ decimal now))) }
+fn put_ticked(out: &mut Bytes, event: u64, host: Host, now: u64) -> Result<(), NoMemory>
+    ensures { OnOk result (out.new ≡ out.old ++ line_of event (spec.head_text (codes "tick") host ++ (codes " now " ++ decimal now))) }
 {
-    put_head(out, b"tick", host)?;
-    out.add_all(b" now ")?;
-    put_number(out, now)?;
+    let mut text = ShortText::new();
+    text.byte(b'\n');
+    text.number(now);
+    text.word(b" now ");
+    text.head(event, b"tick", host);
+    text.put(out)?;
     Ok(())
 }
 
-/// Appends what was sent: the family of a packet, or that it is an advert.
-fn put_what(out: &mut Bytes, what: What) -> Result<(), NoMemory>
-    ensures { OnOk result (out.new ≡ out.old ++ spec.sent_text what) }
+/// What was sent, before a text: the family of a packet, or that it is an advert.
+fn write_sent(text: &mut ShortText, what: What)
+    requires { 41 + length text.old ≤ 192 }
+    ensures text { text.new ≡ spec.sent_text what ++ text.old }
+    ensures room { length text.new ≤ 41 + length text.old }
 {
     match what {
-        What::Packet(f, _) => put_family(out, f)?,
-        What::Advert => out.add_all(b"advert")?,
+        What::Packet(f, _) => text.family(f),
+        What::Advert => text.word(b"advert"),
     }
-    Ok(())
 }
 
-fn put_queued(out: &mut Bytes, host: Host, dev: Dev, f: Family, bound: u32) -> Result<(), NoMemory>
-    ensures { OnOk result (out.new ≡ out.old ++ (spec.head_text (codes "queue") host ++ (spec.device_text dev ++ spec.bound_text f bound))) }
+fn put_queued(
+    out: &mut Bytes,
+    event: u64,
+    host: Host,
+    dev: Dev,
+    f: Family,
+    bound: u32,
+) -> Result<(), NoMemory>
+    ensures { OnOk result (out.new ≡ out.old ++ line_of event (spec.head_text (codes "queue") host ++ (spec.device_text dev ++ spec.bound_text f bound))) }
 {
-    put_head(out, b"queue", host)?;
-    put_device(out, dev)?;
-    put_bound(out, f, bound)?;
+    let mut text = ShortText::new();
+    text.byte(b'\n');
+    text.bound(f, bound);
+    text.device(dev);
+    text.head(event, b"queue", host);
+    text.put(out)?;
     Ok(())
 }
 
 fn put_dropped(
     out: &mut Bytes,
+    event: u64,
     host: Host,
     reason: Reason,
     f: Family,
     bound: u32,
 ) -> Result<(), NoMemory>
-    ensures { OnOk result (out.new ≡ out.old ++ (spec.head_text (codes "drop") host ++ (codes " " ++ (spec.reason_text reason ++ spec.bound_text f bound)))) }
+    ensures { OnOk result (out.new ≡ out.old ++ line_of event (spec.head_text (codes "drop") host ++ (codes " " ++ (spec.reason_text reason ++ spec.bound_text f bound)))) }
 {
-    put_head(out, b"drop", host)?;
-    out.add(b' ')?;
-    out.add_all(reason_word(reason))?;
-    put_bound(out, f, bound)?;
+    let mut text = ShortText::new();
+    text.byte(b'\n');
+    text.bound(f, bound);
+    text.word(reason_word(reason));
+    text.byte(b' ');
+    text.head(event, b"drop", host);
+    text.put(out)?;
     Ok(())
 }
 
 /// The word of what a stamp was taken as.
 fn took_word(took: Took) -> &'static [u8]
-    ensures { result.now ≡ spec.took_text took }
+    ensures word { result.now ≡ spec.took_text took }
+    ensures short { length result.now ≤ 10 }
 {
     match took {
         Took::Fresh => b"Fresh",
@@ -313,72 +447,54 @@ fn took_word(took: Took) -> &'static [u8]
     }
 }
 
-/// What a stale frame held: the family of a packet with its bound, or that it is an advert.
-fn put_held(out: &mut Bytes, what: What) -> Result<(), NoMemory>
-    ensures { OnOk result (out.new ≡ out.old ++ spec.stale_text what) }
+/// What a stale frame held, before a text: the family of a packet with its bound, or that it is an advert.
+fn write_held(text: &mut ShortText, what: What)
+    requires { 69 + length text.old ≤ 192 }
+    ensures text { text.new ≡ spec.stale_text what ++ text.old }
+    ensures room { length text.new ≤ 69 + length text.old }
 {
     match what {
-        What::Packet(f, bound) => put_bound(out, f, bound)?,
-        What::Advert => out.add_all(b" advert")?,
+        What::Packet(f, bound) => text.bound(f, bound),
+        What::Advert => text.word(b" advert"),
     }
-    Ok(())
 }
 
-fn put_stale(out: &mut Bytes, host: Host, took: Took, what: What) -> Result<(), NoMemory>
-    ensures { OnOk result (out.new ≡ out.old ++ (spec.head_text (codes "drop") host ++ (codes " " ++ (spec.took_text took ++ spec.stale_text what)))) }
+fn put_stale(
+    out: &mut Bytes,
+    event: u64,
+    host: Host,
+    took: Took,
+    what: What,
+) -> Result<(), NoMemory>
+    ensures { OnOk result (out.new ≡ out.old ++ line_of event (spec.head_text (codes "drop") host ++ (codes " " ++ (spec.took_text took ++ spec.stale_text what)))) }
 {
-    put_head(out, b"drop", host)?;
-    out.add(b' ')?;
-    out.add_all(took_word(took))?;
-    put_held(out, what)?;
+    let mut text = ShortText::new();
+    text.byte(b'\n');
+    write_held(&mut text, what);
+    text.word(took_word(took));
+    text.byte(b' ');
+    text.head(event, b"drop", host);
+    text.put(out)?;
     Ok(())
 }
 
-fn put_taken(out: &mut Bytes, host: Host, dev: Dev, what: What) -> Result<(), NoMemory>
-    ensures { OnOk result (out.new ≡ out.old ++ (spec.head_text (codes "send") host ++ (spec.device_text dev ++ (codes " " ++ spec.sent_text what)))) }
+fn put_taken(out: &mut Bytes, event: u64, host: Host, dev: Dev, what: What) -> Result<(), NoMemory>
+    ensures { OnOk result (out.new ≡ out.old ++ line_of event (spec.head_text (codes "send") host ++ (spec.device_text dev ++ (codes " " ++ spec.sent_text what)))) }
 {
-    put_head(out, b"send", host)?;
-    put_device(out, dev)?;
-    out.add(b' ')?;
-    put_what(out, what)?;
+    let mut text = ShortText::new();
+    text.byte(b'\n');
+    write_sent(&mut text, what);
+    text.byte(b' ');
+    text.device(dev);
+    text.head(event, b"send", host);
+    text.put(out)?;
     Ok(())
 }
 
-/// Appends what an act at a host says, the line without its number. Where memory is refused, a part of it may stand behind
+/// Appends the line of an act at a host, with the number of its event. Where memory is refused, a part of it may stand behind
 /// `out`.
-#[tactic(auto, unfolding(node_model::specs::Texts::act_text))]
-pub fn put_act_text(alloc: Global, out: &mut Bytes, host: Host, act: &Act) -> Result<(), NoMemory>
-    ensures { OnOk result (out.new ≡ out.old ++ spec.act_text host act.now) }
-{
-    match act {
-        Act::Injected(f, bound) => put_injected(out, host, *f, *bound)?,
-        Act::Arrived(dev) => put_on_device(out, b"arrive", host, *dev)?,
-        Act::Noted(note) => put_note(alloc, out, host, note)?,
-        Act::Ended(f, outcome, evals, left) => put_end(
-            alloc, out, host, *f, outcome, *evals, *left,
-        )?,
-        Act::Handled(f, name, bound) => put_handled(out, host, *f, name.as_slice(), *bound)?,
-        Act::Queued(dev, f, bound) => put_queued(out, host, *dev, *f, *bound)?,
-        Act::Dropped(reason, f, bound) => put_dropped(out, host, *reason, *f, *bound)?,
-        Act::Bad(refusal) => put_bad(alloc, out, host, refusal)?,
-        Act::Taken(dev, what) => put_taken(out, host, *dev, *what)?,
-        Act::Ticked(now) => put_ticked(out, host, *now)?,
-        Act::AdvertQueued(dev) => put_on_device(out, b"advert", host, *dev)?,
-        Act::Heard(dev) => put_on_device(out, b"heard", host, *dev)?,
-        Act::Asked => put_plain(out, b"arrive", host, b" control")?,
-        Act::Misplaced => put_plain(out, b"drop", host, b" BadFrame Misplaced")?,
-        Act::AdvertDropped(_) => put_plain(out, b"drop", host, b" QueueFull advert")?,
-        Act::AdvertSpent(_) => put_plain(out, b"drop", host, b" LinkSpent advert")?,
-        Act::Stale(took, what) => put_stale(out, host, *took, *what)?,
-        Act::SerialsSpent => put_plain(out, b"drop", host, b" SerialsSpent")?,
-        Act::NoMemory => put_plain(out, b"drop", host, b" NoMemory")?,
-    }
-    Ok(())
-}
-
-/// The line of an act at a host, with the number of its event.
-#[tactic(auto, unfolding(node_model::specs::Texts::act_line))]
-fn put_act_line(
+#[tactic(auto, unfolding(node_model::specs::Texts::act_text, node_model::specs::Texts::act_line))]
+pub fn put_act_line(
     alloc: Global,
     event: u64,
     here: Host,
@@ -387,10 +503,29 @@ fn put_act_line(
 ) -> Result<(), NoMemory>
     ensures { OnOk result (out.new ≡ out.old ++ spec.act_line event here act.now) }
 {
-    put_number(out, event)?;
-    out.add(b' ')?;
-    put_act_text(alloc, out, here, act)?;
-    out.add(b'\n')?;
+    match act {
+        Act::Injected(f, bound) => put_injected(out, event, here, *f, *bound)?,
+        Act::Arrived(dev) => put_on_device(out, event, b"arrive", here, *dev)?,
+        Act::Noted(note) => put_note(alloc, out, event, here, note)?,
+        Act::Ended(f, outcome, evals, left) => put_end(
+            alloc, out, event, here, *f, outcome, *evals, *left,
+        )?,
+        Act::Handled(f, name, bound) => put_handled(out, event, here, *f, name.as_slice(), *bound)?,
+        Act::Queued(dev, f, bound) => put_queued(out, event, here, *dev, *f, *bound)?,
+        Act::Dropped(reason, f, bound) => put_dropped(out, event, here, *reason, *f, *bound)?,
+        Act::Bad(refusal) => put_bad(alloc, out, event, here, refusal)?,
+        Act::Taken(dev, what) => put_taken(out, event, here, *dev, *what)?,
+        Act::Ticked(now) => put_ticked(out, event, here, *now)?,
+        Act::AdvertQueued(dev) => put_on_device(out, event, b"advert", here, *dev)?,
+        Act::Heard(dev) => put_on_device(out, event, b"heard", here, *dev)?,
+        Act::Asked => put_plain(out, event, b"arrive", here, b" control")?,
+        Act::Misplaced => put_plain(out, event, b"drop", here, b" BadFrame Misplaced")?,
+        Act::AdvertDropped(_) => put_plain(out, event, b"drop", here, b" QueueFull advert")?,
+        Act::AdvertSpent(_) => put_plain(out, event, b"drop", here, b" LinkSpent advert")?,
+        Act::Stale(took, what) => put_stale(out, event, here, *took, *what)?,
+        Act::SerialsSpent => put_plain(out, event, b"drop", here, b" SerialsSpent")?,
+        Act::NoMemory => put_plain(out, event, b"drop", here, b" NoMemory")?,
+    }
     Ok(())
 }
 

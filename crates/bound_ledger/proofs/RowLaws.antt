@@ -1,14 +1,15 @@
 -- What changes of a ledger's rows are to look-ups and to the families.
-use Rattle.std.proofs.Common.{◌≡◌, ℕ, suc, ◌+◌, ◌≤◌, Bool, true, false, cond, ◌&&◌, ◌||◌, if◌then◌else◌, List, [], ◌∷◌, ◌++◌, map, length, Option, Some, None, refl, sym, ap, ◌∙◌, true≢false, is_some, arith}
+use Rattle.std.proofs.Common.{◌≡◌, ℕ, zero, suc, ◌+◌, ◌≤◌, Bool, true, false, cond, ◌&&◌, ◌||◌, if◌then◌else◌, List, [], ◌∷◌, ◌++◌, map, length, slice_get, Option, Some, None, refl, sym, ap, ◌∙◌, true≢false, is_some, arith}
 use Rattle.std.specs.Prelude.{unwrap_or, ◌==◌}
 use Rattle.std.specs.Option.{option_map}
-use Rattle.std.specs.List.{list_any, IsDistinct}
+use Rattle.std.specs.List.{list_any, IsDistinct, AllByRecursion}
 use Rattle.std.specs.Map.{lookup}
 use Rattle.std.specs.Cmp.{IsEquivalence}
 use Rattle.std.proofs.lemmas.Bool.{eqb-true}
 use Rattle.std.proofs.lemmas.Bool.Decides.{nat_tests}
 use Rattle.std.proofs.lemmas.Map.{NonePasses, none_passes_from_lookup}
 use Rattle.std.proofs.lemmas.Map.Entries.{none_past_head}
+use Rattle.indexmap.specs.IndexMap.{set_value_at}
 use Rattle.plan_base.specs.declared.ids.Family.{Family}
 use Rattle.bound_ledger.specs.declared.row.Row.{Row}
 use Rattle.bound_ledger.specs.Counts.{nothing, more}
@@ -74,6 +75,23 @@ changed_to move f v w (e ∷ es) d h m = by (same_family f e.0) refl (λ t. chan
         let none = none_past_head families_alike f e es d t in
         (λ i. (change_own (λ _. w) f e t ∙ (λ j. (e.0, (m ∙ ap move (sym (first t))) j)) ∙ sym (change_own move f e t)) i ∷ (apart (λ _. w) f es none ∙ sym (apart move f es none)) i)
     by false t rest = λ i. (change_other (λ _. w) f e t ∙ sym (change_other move f e t)) i ∷ rest t i
+
+-- so is a write at its place
+pub changed_at : (move : Row → Row) (f : Family) (v w : Row) (rows : List FamilyRow) (i : ℕ) → OneEach rows → slice_get rows i ≡ Some (f, v) → w ≡ move v → set_value_at rows i w ≡ changed_rows move f rows
+unfolding changed_rows IsDistinct
+changed_at move f v w [] zero d h m = absurd cc
+changed_at move f v w [] (suc i) d h m = absurd cc
+changed_at move f v w (e ∷ es) zero d h m =
+    let here : e ≡ (f, v) = ap (λ o. unwrap_or o e) h in
+    let t : same_family f e.0 ≡ true = ap (λ x. same_family f x.0) here ∙ same_self f in
+    λ i. (ap (λ x. (e.0, x)) (m ∙ ap (λ x. move x.1) (sym here)) ∙ sym (change_own move f e t)) i ∷ sym (apart move f es (none_past_head families_alike f e es d t)) i
+changed_at move f v w (e ∷ es) (suc i) d h m = λ j. sym (change_other move f e (before es i (d.0) h)) j ∷ changed_at move f v w es i d.1 h m j
+  where
+    before : (es : List FamilyRow) (i : ℕ) → AllByRecursion (λ y. same_family e.0 y ≡ false) (families_in es) → slice_get es i ≡ Some (f, v) → same_family f e.0 ≡ false
+    before [] zero a h = absurd cc
+    before [] (suc i) a h = absurd cc
+    before (x ∷ xs) zero a h = same_turned f e.0 ∙ ap (λ y. same_family e.0 y.0) (sym (ap (λ o. unwrap_or o x) h)) ∙ a.0
+    before (x ∷ xs) (suc i) a h = before xs i a.1 h
 
 -- ---- look-ups
 

@@ -1,19 +1,39 @@
-ghost use Rattle.std.specs.Prelude.{◌≡◌, ◌+◌, ◌-◌, ◌≤◌, ◌<◌, ◌^◌, [], ◌∷◌, ◌++◌, length, slice_get, Some, None, IfOk, IfSome, OnOk, OnErr};
+ghost use Rattle.std.specs.Prelude.{◌≡◌, ◌+◌, ◌-◌, ◌≤◌, ◌<◌, ◌^◌, [], length, slice_get, Some, IfOk, IfSome, OnOk, OnErr};
+ghost use Rattle.std.specs.Option.{option_map};
 ghost use Rattle.bound_ledger.specs.Counts.{InBalance, hop_paid, paid, quit};
+ghost use Rattle.bound_ledger.specs.Keys.{rows_at};
 ghost use Rattle.bound_ledger.specs.Rows.{OneEach, row_of, counts_of, changed_rows, with_grant};
 
 use crate::key::FamilyKey;
 use crate::row::Row;
 use indexmap::IndexMap;
 use plan_base::{Family, NoMemory};
-use std::alloc::{AllocError, Global};
+use std::alloc::Global;
 use std::marker::Model;
+
+/// The place of a family's row with the row, or `None` exactly where it has none. Where it is at `last`, nothing
+/// is searched.
+fn place_of(rows: &IndexMap<FamilyKey, Row>, last: usize, f: Family) -> Option<(usize, Row)>
+    ensures row { option_map (λ p. p.1) result ≡ row_of f (rows_at rows.now.entries) }
+    ensures place { IfSome result (λ p. slice_get (rows_at rows.now.entries) p.0 ≡ Some (f, p.1)) }
+{
+    let key = FamilyKey::of(f);
+    if let Some((found, row)) = rows.get_index(last) {
+        if key == *found {
+            return Some((last, *row));
+        }
+    }
+    let (place, _, row) = rows.get_full(&key)?;
+    Some((place, *row))
+}
 
 /// The rows of families, which contracts see as a list in the order of their first grants. Each row is in
 /// balance: what was granted is what was paid, what is live and what was left.
 #[derive(Drop)]
 pub struct Ledger {
     rows: IndexMap<FamilyKey, Row>,
+    /// The place of the row that was looked up last.
+    last: usize,
 }
 
 impl Model for Ledger {
@@ -35,6 +55,7 @@ impl Ledger {
     {
         Ok(Ledger {
             rows: IndexMap::new(alloc),
+            last: 0,
         })
     }
 
@@ -66,28 +87,30 @@ impl Ledger {
         (key.family(), *row)
     }
 
-    /// Puts a row in the place of a family's, where it has one.
-    fn set(&mut self, f: Family, row: Row)
-        requires balanced { InBalance row }
-        ensures row { self.new ≡ changed_rows (λ _. row) f self.old }
-        ensures once { OneEach self.old }
+    /// The place of a family's row with the row, or `None` exactly where it has none. Remembers the place.
+    fn find(&mut self, f: Family) -> Option<(usize, Row)>
+        ensures same { self.new ≡ self.old }
+        ensures row { option_map (λ p. p.1) result ≡ row_of f self.old }
+        ensures place { IfSome result (λ p. slice_get self.new p.0 ≡ Some (f, p.1)) }
+        ensures within { IfSome result (λ p. p.0 < length self.new) }
+        ensures balanced { IfSome result (λ p. InBalance p.1) }
     {
-        let Some(place) = self.rows.get_mut(&FamilyKey::of(f)) else {
-            return;
-        };
-        *place = row;
+        let (place, row) = place_of(&self.rows, self.last, f)?;
+        self.last = place;
+        Some((place, row))
     }
 
-    /// Adds a row at the end. Conditions: its family has none yet, and there are fewer than 2^32 - 1 rows.
-    fn push(&mut self, f: Family, row: Row) -> Result<(), AllocError>
+    /// Puts a row in the place of that at a place, which makes it the changed row of its family.
+    /// Condition: there are more than `place` rows.
+    fn put(&mut self, place: usize, row: Row)
         requires balanced { InBalance row }
-        requires absent { row_of f self.old ≡ None }
-        requires few { length self.old < 2 ^ 32 - 1 }
-        ensures ok { OnOk result (self.new ≡ self.old ++ (f, row) ∷ []) }
-        ensures err { OnErr result (self.new ≡ self.old) }
+        requires within { place < length self.old }
+        ensures { (move : Row → Row) (f : Family) (v : Row)
+            → slice_get self.old place ≡ Some (f, v) → row ≡ move v
+            → self.new ≡ changed_rows move f self.old }
     {
-        self.rows.insert(FamilyKey::of(f), row)?;
-        Ok(())
+        let (_, old) = self.rows.pair_mut(place);
+        *old = row;
     }
 
     /// Adds `n` to what a family was granted and to what it still has, in a new last row where it has none.
@@ -98,16 +121,13 @@ impl Ledger {
         ensures ok { OnOk result (self.new ≡ with_grant f n self.old) }
         ensures err { OnErr result (self.new ≡ self.old) }
     {
-        match self.row(f) {
-            Some(row) => {
-                self.set(f, row.with_grant(n));
-                Ok(())
-            }
-            None => {
-                self.push(f, Row::without_counts().with_grant(n))?;
-                Ok(())
-            }
-        }
+        let Ok(entry) = self.rows.entry(FamilyKey::of(f)) else {
+            return Err(NoMemory);
+        };
+        self.last = entry.index();
+        let row = entry.or_insert(Row::without_counts());
+        *row = row.with_grant(n);
+        Ok(())
     }
 
     /// Moves 1 of what a family still has to its hops. Takes no memory. Condition: it still has 1.
@@ -115,10 +135,10 @@ impl Ledger {
         requires live { 1 ≤ (counts_of f self.old).live }
         ensures { self.new ≡ changed_rows hop_paid f self.old }
     {
-        let Some(place) = self.rows.get_mut(&FamilyKey::of(f)) else {
+        let Some((place, row)) = self.find(f) else {
             return;
         };
-        *place = place.with_hop();
+        self.put(place, row.with_hop());
     }
 
     /// Moves `n` of what a family still has to its evals. Takes no memory. Condition: it still has `n`, where
@@ -127,10 +147,10 @@ impl Ledger {
         requires live { n ≤ (counts_of f self.old).live }
         ensures { self.new ≡ changed_rows (paid n) f self.old }
     {
-        let Some(place) = self.rows.get_mut(&FamilyKey::of(f)) else {
+        let Some((place, row)) = self.find(f) else {
             return;
         };
-        *place = place.with_evals(n);
+        self.put(place, row.with_evals(n));
     }
 
     /// Moves `n` of what a family still has to what it left. Takes no memory. Condition: it still has `n`,
@@ -139,9 +159,9 @@ impl Ledger {
         requires live { n ≤ (counts_of f self.old).live }
         ensures { self.new ≡ changed_rows (quit n) f self.old }
     {
-        let Some(place) = self.rows.get_mut(&FamilyKey::of(f)) else {
+        let Some((place, row)) = self.find(f) else {
             return;
         };
-        *place = place.with_left(n);
+        self.put(place, row.with_left(n));
     }
 }

@@ -42,7 +42,7 @@ fn put_line_reason(alloc: Global, reason: &LineReason, note: &mut Bytes) -> Resu
 {
     note.add_all(reason_name(reason))?;
     match reason {
-        LineReason::ProgramRefused(why) => put_refused(alloc, why, note),
+        LineReason::ProgramRefused(why) => put_refused(alloc, why.get(), note),
         _ => Ok(()),
     }
 }

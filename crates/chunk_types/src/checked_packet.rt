@@ -81,6 +81,29 @@ impl CheckedPacket {
         }
     }
 
+    /// The packet with another bound. Condition: that is at most 65,535. Takes no memory.
+    pub fn with_bound(self, bound: u32) -> CheckedPacket
+        requires { bound ≤ 65535 }
+        ensures { result ≡ record self { bound = bound } }
+    {
+        let CheckedPacket {
+            family,
+            dest,
+            bound: _old,
+            route,
+            chunk,
+            handler,
+        } = self;
+        CheckedPacket {
+            family,
+            dest,
+            bound,
+            route,
+            chunk,
+            handler,
+        }
+    }
+
     /// The family that it belongs to. Takes no memory.
     pub fn family(&self) -> Family
         ensures { result ≡ self.now.family }

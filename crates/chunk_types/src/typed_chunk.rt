@@ -83,7 +83,7 @@ impl CheckedChunk {
         ensures { IfOk result (λ k. k ≡ self.now.code) }
     {
         let code = self.chunk.code.share()?;
-        Ok(Checked::of(code))
+        Ok(Checked::of_size(code, self.size))
     }
 
     /// The chunk itself. Takes no memory.
@@ -152,7 +152,7 @@ pub fn chunk_of(
         entry: entry.copy(alloc)?,
         args,
     };
-    let size = code_size(chunk.code.get());
+    let size = program.size();
     if !is_small_with(size, &chunk) {
         return Err(ChunkFault::TooLarge);
     }

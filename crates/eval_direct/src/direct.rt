@@ -1,5 +1,5 @@
 //! Evaluation by recursion on the native stack, down to a depth; what is left there waits.
-ghost use Rattle.std.specs.Prelude.{◌≡◌, [], length, min, IsSome, Some, slice_get};
+ghost use Rattle.std.specs.Prelude.{◌≡◌, ◌∷◌, [], length, min, IsSome, Some, slice_get};
 ghost use Rattle.plan_base.specs.declared.tree.Expr.{Expr, Expr-F, out-Expr};
 ghost use Rattle.plan_base.specs.declared.tree.Ty.{Ty};
 ghost use Rattle.plan_base.specs.Sizes.{code_size};
@@ -16,12 +16,12 @@ ghost use Rattle.eval_steps.specs.Nexts.{begins, call_of, next_step};
 ghost use Rattle.eval_flow.specs.Direct.{spot, IsHere, Flows, Bodies, Enters, Advances, Grows, Goes, Lasts, RowLasts, Rows, Spends, Turns, named_spot, row_gave};
 
 use eval_flow::{
-    Binding, Flow, Here, Row, Turn, args_back, begin, body_back, bound_back, called_back,
-    chunk_back, ended_by_value, give, inside, is_bound, last_back, leaf_number, number, numbers,
-    open_code, operands_back, pack_chunk, part_back, pause, pause_in, pay_packed, stepped_back,
-    stopped_in, variable, visited_back,
+    Binding, Flow, Here, Row, Turn, args_back, begin, behind_three, behind_two, body_back,
+    bound_back, called_back, chunk_back, ended_by_value, give, inside, is_bound, last_back,
+    leaf_number, number, numbers, open_code, operands_back, pack_chunk, part_back, pause, pause_in,
+    pay_packed, send_values, stepped_back, stopped_in, variable, visited_back, written,
 };
-use eval_steps::{Codes, Next, StackFrame, begin_call, part_at, part_or_self};
+use eval_steps::{Codes, Next, StackFrame, begin_call, behind_one, part_at, part_or_self};
 use plan_base::{Chunk, Expr, Exprs, Fun, Name, NoMemory, Op, Program, Value, Values};
 use plan_items::{Items, Shared};
 use plan_meaning::EvalStop;
@@ -62,7 +62,7 @@ pub fn evaluate<S: Services>(
     }
     let below = depth - 1;
     match e {
-        Expr::Int(n) => number(alloc, here, e, *n, state),
+        Expr::Int(n) => number(here, e, *n, state),
         Expr::Var(x) => variable(alloc, here, e, x, state),
         Expr::If(t, a, b) => {
             let (t, a, b) = (t.get(), a.get(), b.get());
@@ -80,7 +80,238 @@ pub fn evaluate<S: Services>(
             binding(alloc, codes, here, e, x, a, b, below, state, svc)
         }
         Expr::Eval(a) => eval(alloc, codes, here, e, a.get(), below, state, svc),
-        _ => general(alloc, codes, here, e, below, state, svc),
+        _ => other_form(alloc, codes, here, e, below, state, svc),
+    }
+}
+
+/// Evaluates an expression of another form, once it spent 1.
+#[cycle(evaluate)]
+#[tactic(auto, using(plan_base::specs::Trees::trees))]
+fn other_form<S: Services>(
+    alloc: Global,
+    codes: &mut Codes,
+    here: &Here<'_>,
+    e: &Expr,
+    depth: u64,
+    state: &mut State,
+    svc: &mut S,
+) -> Result<Flow, EvalStop>
+    requires open { IsSome (S.stands svc.old).begun }
+    requires here { IsHere codes.old here.now }
+    requires safe { IsSafe (begins here.now.code.now here.now.fun (spot here.now e.now)
+        (joined_state state.old (S.stands svc.old))).asks }
+    ensures flows { Flows codes.new here.now.code.now here.now.fun (spot here.now e.now)
+        (begins here.now.code.now here.now.fun (spot here.now e.now)
+        (joined_state state.old (S.stands svc.old)))
+        result (joined_state state.new (S.stands svc.new)) }
+    ensures lasts { Lasts 3 state.old.work result state.new.work }
+    ensures grown { Grows codes.old codes.new }
+    ensures offer { (S.stands svc.new).offer ≡ (S.stands svc.old).offer }
+    ensures begun { (S.stands svc.new).begun ≡ (S.stands svc.old).begun }
+{
+    match e {
+        Expr::Host(h) => written(alloc, here, e, Value::Host(*h), state),
+        Expr::Dev(d) => written(alloc, here, e, Value::Dev(*d), state),
+        Expr::Str(s) => written(alloc, here, e, Value::Str(s.copy(alloc)?), state),
+        Expr::Then(a, b) => {
+            let (a, b) = (a.get(), b.get());
+            sequence(alloc, codes, here, e, a, b, depth, state, svc)
+        }
+        Expr::OnNeighbor(a, h, b, d) => {
+            let (a, h, b, d) = (a.get(), h.get(), b.get(), d.get());
+            near(alloc, codes, here, e, a, h, b, d, depth, state, svc)
+        }
+        _ => general(alloc, codes, here, e, depth, state, svc),
+    }
+}
+
+/// Evaluates two expressions, of which the first one's value is dropped.
+#[cycle(evaluate)]
+fn sequence<S: Services>(
+    alloc: Global,
+    codes: &mut Codes,
+    here: &Here<'_>,
+    e: &Expr,
+    a: &Expr,
+    b: &Expr,
+    depth: u64,
+    state: &mut State,
+    svc: &mut S,
+) -> Result<Flow, EvalStop>
+    requires form { out-Expr e.now ≡ Expr-F.Then a.now b.now }
+    requires open { IsSome (S.stands svc.old).begun }
+    requires here { IsHere codes.old here.now }
+    requires safe { IsSafe (begins here.now.code.now here.now.fun (spot here.now e.now)
+        (joined_state state.old (S.stands svc.old))).asks }
+    ensures flows { Flows codes.new here.now.code.now here.now.fun (spot here.now e.now)
+        (begins here.now.code.now here.now.fun (spot here.now e.now)
+        (joined_state state.old (S.stands svc.old)))
+        result (joined_state state.new (S.stands svc.new)) }
+    ensures lasts { Lasts 3 state.old.work result state.new.work }
+    ensures grown { Grows codes.old codes.new }
+    ensures offer { (S.stands svc.new).offer ≡ (S.stands svc.old).offer }
+    ensures begun { (S.stands svc.new).begun ≡ (S.stands svc.old).begun }
+{
+    match evaluate(alloc, codes, here, a, depth, state, svc) {
+        Ok(Flow::Done(_v)) => last_part(alloc, codes, here, e, 1, b, depth, state, svc),
+        Ok(Flow::Wait(rest)) => Ok(inside(alloc, rest, StackFrame::Part(0, Items::new(alloc)))?),
+        Err(stop) => Err(stop),
+    }
+}
+
+/// Evaluates a send to a neighbour: first its chunk.
+#[cycle(evaluate)]
+fn near<S: Services>(
+    alloc: Global,
+    codes: &mut Codes,
+    here: &Here<'_>,
+    e: &Expr,
+    a: &Expr,
+    h: &Expr,
+    b: &Expr,
+    d: &Expr,
+    depth: u64,
+    state: &mut State,
+    svc: &mut S,
+) -> Result<Flow, EvalStop>
+    requires form { out-Expr e.now ≡ Expr-F.OnNeighbor a.now h.now b.now d.now }
+    requires open { IsSome (S.stands svc.old).begun }
+    requires here { IsHere codes.old here.now }
+    requires safe { IsSafe (begins here.now.code.now here.now.fun (spot here.now e.now)
+        (joined_state state.old (S.stands svc.old))).asks }
+    ensures flows { Flows codes.new here.now.code.now here.now.fun (spot here.now e.now)
+        (begins here.now.code.now here.now.fun (spot here.now e.now)
+        (joined_state state.old (S.stands svc.old)))
+        result (joined_state state.new (S.stands svc.new)) }
+    ensures lasts { Lasts 3 state.old.work result state.new.work }
+    ensures grown { Grows codes.old codes.new }
+    ensures offer { (S.stands svc.new).offer ≡ (S.stands svc.old).offer }
+    ensures begun { (S.stands svc.new).begun ≡ (S.stands svc.old).begun }
+{
+    match evaluate(alloc, codes, here, a, depth, state, svc) {
+        Ok(Flow::Done(c)) => near_host(alloc, codes, here, e, c, h, b, d, depth, state, svc),
+        Ok(Flow::Wait(rest)) => Ok(inside(alloc, rest, StackFrame::Part(0, Items::new(alloc)))?),
+        Err(stop) => Err(stop),
+    }
+}
+
+/// Evaluates its host.
+#[cycle(evaluate)]
+fn near_host<S: Services>(
+    alloc: Global,
+    codes: &mut Codes,
+    here: &Here<'_>,
+    e: &Expr,
+    c: Value,
+    h: &Expr,
+    b: &Expr,
+    d: &Expr,
+    depth: u64,
+    state: &mut State,
+    svc: &mut S,
+) -> Result<Flow, EvalStop>
+    requires form { (a : Expr) × (out-Expr e.now ≡ Expr-F.OnNeighbor a h.now b.now d.now) }
+    requires open { IsSome (S.stands svc.old).begun }
+    requires here { IsHere codes.old here.now }
+    requires safe { IsSafe (resume here.now.code.now here.now.fun (spot here.now e.now)
+        (frame.Part 1 (c ∷ []))
+        (meaning here.now.code.now here.now.fun (spot here.now e.now).env h.now
+        (joined_state state.old (S.stands svc.old)))).asks }
+    ensures flows { Flows codes.new here.now.code.now here.now.fun (spot here.now e.now)
+        (resume here.now.code.now here.now.fun (spot here.now e.now)
+        (frame.Part 1 (c ∷ []))
+        (meaning here.now.code.now here.now.fun (spot here.now e.now).env h.now
+        (joined_state state.old (S.stands svc.old))))
+        result (joined_state state.new (S.stands svc.new)) }
+    ensures lasts { Lasts 3 state.old.work result state.new.work }
+    ensures grown { Grows codes.old codes.new }
+    ensures offer { (S.stands svc.new).offer ≡ (S.stands svc.old).offer }
+    ensures begun { (S.stands svc.new).begun ≡ (S.stands svc.old).begun }
+{
+    match evaluate(alloc, codes, here, h, depth, state, svc) {
+        Ok(Flow::Done(w)) => near_bound(alloc, codes, here, e, c, w, b, d, depth, state, svc),
+        Ok(Flow::Wait(rest)) => Ok(inside(alloc, rest, behind_one(alloc, 1, c)?)?),
+        Err(stop) => Err(stop),
+    }
+}
+
+/// Evaluates its bound.
+#[cycle(evaluate)]
+fn near_bound<S: Services>(
+    alloc: Global,
+    codes: &mut Codes,
+    here: &Here<'_>,
+    e: &Expr,
+    c: Value,
+    w: Value,
+    b: &Expr,
+    d: &Expr,
+    depth: u64,
+    state: &mut State,
+    svc: &mut S,
+) -> Result<Flow, EvalStop>
+    requires form { (a h : Expr) × (out-Expr e.now ≡ Expr-F.OnNeighbor a h b.now d.now) }
+    requires open { IsSome (S.stands svc.old).begun }
+    requires here { IsHere codes.old here.now }
+    requires safe { IsSafe (resume here.now.code.now here.now.fun (spot here.now e.now)
+        (frame.Part 2 (c ∷ w ∷ []))
+        (meaning here.now.code.now here.now.fun (spot here.now e.now).env b.now
+        (joined_state state.old (S.stands svc.old)))).asks }
+    ensures flows { Flows codes.new here.now.code.now here.now.fun (spot here.now e.now)
+        (resume here.now.code.now here.now.fun (spot here.now e.now)
+        (frame.Part 2 (c ∷ w ∷ []))
+        (meaning here.now.code.now here.now.fun (spot here.now e.now).env b.now
+        (joined_state state.old (S.stands svc.old))))
+        result (joined_state state.new (S.stands svc.new)) }
+    ensures lasts { Lasts 3 state.old.work result state.new.work }
+    ensures grown { Grows codes.old codes.new }
+    ensures offer { (S.stands svc.new).offer ≡ (S.stands svc.old).offer }
+    ensures begun { (S.stands svc.new).begun ≡ (S.stands svc.old).begun }
+{
+    match evaluate(alloc, codes, here, b, depth, state, svc) {
+        Ok(Flow::Done(u)) => near_dev(alloc, codes, here, e, c, w, u, d, depth, state, svc),
+        Ok(Flow::Wait(rest)) => Ok(inside(alloc, rest, behind_two(alloc, c, w)?)?),
+        Err(stop) => Err(stop),
+    }
+}
+
+/// Evaluates its device, and sends.
+#[cycle(evaluate)]
+fn near_dev<S: Services>(
+    alloc: Global,
+    codes: &mut Codes,
+    here: &Here<'_>,
+    e: &Expr,
+    c: Value,
+    w: Value,
+    u: Value,
+    d: &Expr,
+    depth: u64,
+    state: &mut State,
+    svc: &mut S,
+) -> Result<Flow, EvalStop>
+    requires form { (a h b : Expr) × (out-Expr e.now ≡ Expr-F.OnNeighbor a h b d.now) }
+    requires open { IsSome (S.stands svc.old).begun }
+    requires here { IsHere codes.old here.now }
+    requires safe { IsSafe (resume here.now.code.now here.now.fun (spot here.now e.now)
+        (frame.Part 3 (c ∷ w ∷ u ∷ []))
+        (meaning here.now.code.now here.now.fun (spot here.now e.now).env d.now
+        (joined_state state.old (S.stands svc.old)))).asks }
+    ensures flows { Flows codes.new here.now.code.now here.now.fun (spot here.now e.now)
+        (resume here.now.code.now here.now.fun (spot here.now e.now)
+        (frame.Part 3 (c ∷ w ∷ u ∷ []))
+        (meaning here.now.code.now here.now.fun (spot here.now e.now).env d.now
+        (joined_state state.old (S.stands svc.old))))
+        result (joined_state state.new (S.stands svc.new)) }
+    ensures lasts { Lasts 3 state.old.work result state.new.work }
+    ensures grown { Grows codes.old codes.new }
+    ensures offer { (S.stands svc.new).offer ≡ (S.stands svc.old).offer }
+    ensures begun { (S.stands svc.new).begun ≡ (S.stands svc.old).begun }
+{
+    match evaluate(alloc, codes, here, d, depth, state, svc) {
+        Ok(Flow::Done(v)) => send_values(alloc, c, &w, &u, &v, state),
+        Ok(Flow::Wait(rest)) => Ok(inside(alloc, rest, behind_three(alloc, c, w, u)?)?),
+        Err(stop) => Err(stop),
     }
 }
 
@@ -319,7 +550,7 @@ fn finish_row<S: Services>(
 {
     match e {
         Expr::Call(f, _) => invoke(alloc, codes, here, e, f, values, depth, state, svc),
-        Expr::ChunkOf(f, _) => pack_chunk(alloc, here.code, f, values, state),
+        Expr::ChunkOf(f, _) => pack_chunk(alloc, here, f, values, state),
         Expr::Tuple(_) => ended_by_value(alloc, Value::Tuple(values), state),
         _ => Err(EvalStop::Wrong),
     }

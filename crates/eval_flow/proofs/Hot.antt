@@ -34,12 +34,15 @@ use Rattle.eval_steps.proofs.Stacks.{resume_leads}
 use Rattle.eval_steps.proofs.Sending.{chunk_unpaid}
 use Rattle.eval_flow.proofs.Beginning.{gives_literal, gives_name, begun_here, begun_spent}
 use Rattle.eval_steps.proofs.Delivering.{IsNoTry, part_given}
-use Rattle.eval_steps.proofs.Deciding.{bound as named_next, opens_part, chosen_true, chosen_false, chosen_none, second, front_of, rest_of, next_of_tuple, next_of_call, next_of_chunk, chunk_paid}
+use Rattle.eval_steps.proofs.Deciding.{bound as named_next, then_is_followed, opens_part, chosen_true, chosen_false, chosen_none, second, front_of, rest_of, next_of_tuple, next_of_call, next_of_chunk, chunk_paid}
 use Rattle.eval_flow.proofs.Taking.{resume_asks}
 use Rattle.eval_flow.proofs.Backs.{resume_gave}
 
 nil-cons : {A : Type 0} {x : A} {xs : List A} → [] ≡ x ∷ xs → ⊥
 nil-cons h = cc
+
+pub then_form : (a b : Expr) → out-Expr (expr.Then a b) ≡ Expr-F.Then a b
+then_form a b = grind (arith, trees)
 
 pub if_form : (t a b : Expr) → out-Expr (expr.If t a b) ≡ Expr-F.If t a b
 if_form t a b = grind (arith, trees)
@@ -140,6 +143,32 @@ module _ (code : Program) (seen : ℕ) (e : Expr) (x : Name) (t : Ty) (a b : Exp
       (onward _ _ _ (first_leads code seen let_here a s let_parts let_first)
       (onward _ _ _ (part_came code seen let_here 0 [] (meaning code seen env a s) v s1 came)
       (named_next code seen e env s1 x t a b 0 [] v form)))
+
+-- ---- one after the other
+
+module _ (code : Program) (seen : ℕ) (e a b : Expr) (env : Env) (form : out-Expr e ≡ Expr-F.Then a b) where
+  abbrev then_here : Spot
+  then_here = record { expr = e; env = env }
+
+  pub then_first : deeper then_here (frame.Part 0 []) ≡ Some (record { expr = a; env = env })
+  unfolding deeper
+  then_first = rw form refl
+
+  pub then_last : part_or_self e (Some 1) ≡ Some b
+  then_last = rw form refl
+
+  pub then_parts : HasParts (out-Expr e)
+  then_parts = rw form tt
+
+  pub then_no_try : IsNoTry (out-Expr e)
+  then_no_try = rw form tt
+
+  pub then_leads : (s s1 : VisitState) (v : Value) → (meaning code seen env a s).after ≡ gave v s1
+      → Leads (begins code seen then_here s) (next_step code seen then_here (next.Open (frame.Last 1)) s1)
+  then_leads s s1 v came =
+      onward _ _ _ (first_leads code seen then_here a s then_parts then_first)
+      (onward _ _ _ (part_came code seen then_here 0 [] (meaning code seen env a s) v s1 came)
+      (then_is_followed code seen e env s1 a b 0 [] v form))
 
 -- one more name
 pub one_name : (env : Env) (bs old all : List Binding) (b : Binding) → all ≡ old ++ b ∷ [] → old ≡ bs → env ++ bound_here all ≡ (env ++ bound_here bs) ++ binds b.name.now b.value.now ∷ []

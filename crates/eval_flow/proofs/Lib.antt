@@ -11,4 +11,5 @@ pub mod Waiting
 pub mod Backs
 pub mod Diving
 pub mod Hot
+pub mod Near
 pub mod Counted

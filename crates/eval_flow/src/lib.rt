@@ -11,6 +11,7 @@ mod packed;
 mod place;
 mod rest;
 mod row;
+mod sends;
 mod size;
 mod turn;
 
@@ -19,11 +20,12 @@ pub use back::{
     last_back, part_back, stepped_back, visited_back,
 };
 pub use here::{Binding, Here};
-pub use opening::{begin, leaf_number, number, pack_chunk, variable};
+pub use opening::{begin, leaf_number, number, variable, written};
 pub use operators::{numbers, operands_back};
-pub use packed::pay_packed;
+pub use packed::{pack_chunk, pay_packed};
 pub use place::{enters, open_code};
 pub use rest::{Flow, Rest, inside, pause, pause_in, stack_rest, stopped_in};
 pub use row::Row;
+pub use sends::{behind_three, behind_two, send_values};
 pub use size::{ProgramSize, size_of};
 pub use turn::Turn;

@@ -1,19 +1,18 @@
 //! How an expression begins.
-ghost use Rattle.std.specs.Prelude.{◌≡◌, ◌≤◌, [], ℕ, List, IfSome, IsSome, option_copied};
+ghost use Rattle.std.specs.Prelude.{◌≡◌, ◌≤◌, [], ℕ, List, IfSome, IsSome, Some, option_copied};
 ghost use Rattle.plan_base.specs.declared.tree.Expr.{Expr-F, out-Expr};
 ghost use Rattle.plan_meaning.specs.State.{VisitState, joined_state};
 ghost use Rattle.plan_meaning.specs.Meaning.{bound, value_of};
 ghost use Rattle.plan_meaning.specs.Safe.{IsSafe};
 ghost use Rattle.plan_base.specs.declared.tree.Program.{Program as AProgram};
 ghost use Rattle.service_api.specs.Services.{ServiceState};
-ghost use Rattle.plan_base.specs.declared.tree.Value as value;
-ghost use Rattle.plan_meaning.specs.Run.{weighed_value};
-ghost use Rattle.eval_steps.specs.Stack.{Spot};
+ghost use Rattle.eval_steps.specs.Forms.{literal};
 ghost use Rattle.eval_flow.specs.Direct.{spot, env_at_here, Flows, IsNumber, Lasts};
 ghost use Rattle.eval_steps.specs.Nexts.{Decides, Starts, begins};
 
 use crate::back::ended_by_value;
 use crate::here::{Here, bound_value};
+use crate::integers::ended_by_number;
 use crate::place::argument_of;
 use crate::rest::Flow;
 use eval_steps::{Kind, Next, StackFrame, begin_call, kind_of, value_from};
@@ -71,19 +70,31 @@ pub fn variable(
 }
 
 /// What a numeral gives.
-pub fn number(
-    alloc: Global,
-    here: &Here<'_>,
-    e: &Expr,
-    n: i64,
-    state: &mut State,
-) -> Result<Flow, EvalStop>
+pub fn number(here: &Here<'_>, e: &Expr, n: i64, state: &mut State) -> Result<Flow, EvalStop>
     requires form { out-Expr e.now ≡ Expr-F.Int n }
     ensures flows { (codes : List AProgram) (m : ServiceState) → Flows codes here.now.code.now here.now.fun (spot here.now e.now)
         (begins here.now.code.now here.now.fun (spot here.now e.now) (joined_state state.old m)) result (joined_state state.new m) }
     ensures lasts { Lasts 3 state.old.work result state.new.work }
 {
-    ended_by_value(alloc, Value::Int(n), state)
+    ended_by_number(n, state)
+}
+
+/// What a written value gives.
+pub fn written(
+    alloc: Global,
+    here: &Here<'_>,
+    e: &Expr,
+    v: Value,
+    state: &mut State,
+) -> Result<Flow, EvalStop>
+    requires form { literal (out-Expr e.now) ≡ Some v }
+    ensures flows { (codes : List AProgram) (m : ServiceState)
+        → Flows codes here.now.code.now here.now.fun (spot here.now e.now)
+        (begins here.now.code.now here.now.fun (spot here.now e.now) (joined_state state.old m))
+        result (joined_state state.new m) }
+    ensures lasts { Lasts 3 state.old.work result state.new.work }
+{
+    ended_by_value(alloc, v, state)
 }
 
 /// The number that a name stands for.
@@ -110,26 +121,6 @@ pub fn leaf_number(here: &Here<'_>, e: &Expr) -> Option<i64>
         Expr::Var(x) => named_number(here, e, x),
         _ => None,
     }
-}
-
-/// A chunk of this program.
-pub fn pack_chunk(
-    alloc: Global,
-    code: &Shared<Program>,
-    entry: &Name,
-    args: Values,
-    state: &mut State,
-) -> Result<Flow, EvalStop>
-    ensures flows { (codes : List AProgram) (seen : ℕ) (at : Spot) (m : ServiceState)
-        → Flows codes code.now seen at (weighed_value (value.Chunk (record { code = code.now; entry = entry.now; args = args })) (joined_state state.old m)) result (joined_state state.new m) }
-    ensures lasts { Lasts 3 state.old.work result state.new.work }
-{
-    let chunk = Chunk {
-        code: code.share()?,
-        entry: entry.copy(alloc)?,
-        args,
-    };
-    ended_by_value(alloc, Value::Chunk(Boxed::new(alloc, chunk)?), state)
 }
 
 /// A chunk without arguments.

@@ -1,7 +1,8 @@
-//! Chunks of the program that evaluates them, which are not made.
-ghost use Rattle.std.specs.Prelude.{◌≡◌, ◌≤◌, ℕ, [], min};
+//! Chunks of the program that evaluates them, which are weighed by its size.
+ghost use Rattle.std.specs.Prelude.{◌≡◌, ◌≤◌, ℕ, List, [], min, IfOk};
 ghost use Rattle.plan_base.specs.Sizes.{code_size, weight, nesting};
 ghost use Rattle.plan_base.specs.declared.tree.Expr.{Expr, Expr-F, out-Expr};
+ghost use Rattle.plan_base.specs.declared.tree.Program.{Program as AProgram};
 ghost use Rattle.plan_base.specs.declared.tree.Value as value;
 ghost use Rattle.service_api.specs.Services.{ServiceState};
 ghost use Rattle.plan_meaning.specs.State.{joined_state};
@@ -9,12 +10,15 @@ ghost use Rattle.plan_meaning.specs.Run.{weighed_value};
 ghost use Rattle.plan_meaning.specs.Meaning.{Env};
 ghost use Rattle.eval_steps.specs.declared.stack_frame.StackFrame.TheVariants as frame;
 ghost use Rattle.eval_steps.specs.declared.next.Next.TheVariants as next;
-ghost use Rattle.eval_steps.specs.Stack.{resume};
+ghost use Rattle.eval_steps.specs.Stack.{Spot, resume};
 ghost use Rattle.eval_steps.specs.Nexts.{next_step};
 ghost use Rattle.eval_steps.specs.Leads.{Carries};
+ghost use Rattle.eval_flow.specs.Direct.{Flows, Lasts};
 
 use crate::here::Here;
-use plan_base::{Name, Value};
+use crate::rest::Flow;
+use plan_base::{Chunk, Name, NoMemory, Program, Value, Values};
+use plan_items::{Boxed, Shared};
 use plan_meaning::EvalStop;
 use plan_sizes::{values_nesting, values_weight};
 use std::alloc::Global;
@@ -70,6 +74,48 @@ pub fn pay_packed(
     let deep = packed_nesting(here, entry, args);
     match state.weighs_as(size, deep) {
         Weighing::Paid => state.pay_eval(alloc),
+        Weighing::Spent => Err(EvalStop::WorkSpent),
+        Weighing::TooLarge => Err(too_large(alloc)),
+    }
+}
+
+/// A chunk of this program as a value.
+fn packed(
+    alloc: Global,
+    code: &Shared<Program>,
+    entry: &Name,
+    args: Values,
+) -> Result<Value, NoMemory>
+    ensures { IfOk result (λ v. v ≡ value.Chunk
+        (record { code = code.now; entry = entry.now; args = args })) }
+{
+    let chunk = Chunk {
+        code: code.share()?,
+        entry: entry.copy(alloc)?,
+        args,
+    };
+    Ok(Value::Chunk(Boxed::new(alloc, chunk)?))
+}
+
+/// A chunk of this program, which is weighed before it is made.
+pub fn pack_chunk(
+    alloc: Global,
+    here: &Here<'_>,
+    entry: &Name,
+    args: Values,
+    state: &mut State,
+) -> Result<Flow, EvalStop>
+    requires size { here.now.size ≡ min (code_size here.now.code.now) 18446744073709551615 }
+    ensures flows { (codes : List AProgram) (seen : ℕ) (at : Spot) (m : ServiceState)
+        → Flows codes here.now.code.now seen at (weighed_value (value.Chunk
+        (record { code = here.now.code.now; entry = entry.now; args = args }))
+        (joined_state state.old m)) result (joined_state state.new m) }
+    ensures lasts { Lasts 3 state.old.work result state.new.work }
+{
+    let size = packed_weight(here, entry, args.as_slice());
+    let deep = packed_nesting(here, entry, args.as_slice());
+    match state.weighs_as(size, deep) {
+        Weighing::Paid => Ok(Flow::Done(packed(alloc, here.code, entry, args)?)),
         Weighing::Spent => Err(EvalStop::WorkSpent),
         Weighing::TooLarge => Err(too_large(alloc)),
     }

@@ -1,5 +1,8 @@
 -- Calls: primitives, declared services and earlier functions.
-use Rattle.std.proofs.Common.{◌≡◌, ◌≢◌, ℕ, ◌<◌, ◌≤◌, zero, suc, arith, take, drop, List, [], ◌∷◌, length, Some, None, Err, refl, ap}
+use Rattle.std.proofs.Common.{◌≡◌, ◌≢◌, codes, false, ℕ, ◌<◌, ◌≤◌, zero, suc, arith, take, drop, List, [], ◌∷◌, length, Some, None, Err, refl, ap}
+use Rattle.std.specs.Str.{bytes_eq}
+use Rattle.std.proofs.lemmas.Slice.Eq.{bytes_eq-Decides}
+use Rattle.plan_items.proofs.Bools.{not_true}
 use Rattle.plan_base.specs.declared.name.Name.{Name}
 use Rattle.plan_base.specs.declared.prim.Primitive.{Primitive}
 use Rattle.plan_base.specs.declared.tree.Svc.{Svc}
@@ -60,6 +63,17 @@ module _ (code : Program) (seen : ℕ) (f : Name) (args : List Value) (s : Visit
   pub calls_none : prim_of f ≡ None → service_of f code.svcs ≡ None → place_of f (take seen code.funs) ≡ None → (call_of code seen f args s).after ≡ stopped Wrong s
   unfolding called_name applied_function
   calls_none none other is = rw (none, other, is) refl
+
+-- ---- names by their lengths
+
+-- names of other lengths are other names
+pub other_long : (f g : List ℕ) → length f ≢ length g → bytes_eq f g ≡ false
+other_long f g h = not_true (bytes_eq f g) (λ same. h (ap length ((bytes_eq-Decides f g).0 same)))
+
+pub no_primitive : (f : Name) → length f ≢ 2 → length f ≢ 6 → length f ≢ 8 → length f ≢ 10 → length f ≢ 11 → length f ≢ 12 → prim_of f ≡ None
+unfolding prim_of
+no_primitive f two six eight ten eleven twelve =
+    rw (other_long f (codes "hd") two, other_long f (codes "tl") two, other_long f (codes "length") six, other_long f (codes "intToString") eleven, other_long f (codes "hostToString") twelve, other_long f (codes "stringToBlob") twelve, other_long f (codes "blobLength") ten, other_long f (codes "blobPart") eight) refl
 
 -- ---- lists of parts
 

@@ -1,14 +1,19 @@
 //! Evals and sends.
 ghost use Rattle.std.specs.Prelude.{◌≡◌, ◌≤◌, ◌<◌, ◌∷◌, ◌++◌, [], ℕ, List, length, IfOk};
-ghost use Rattle.plan_base.specs.declared.tree.Expr.{Expr, Expr-F};
+ghost use Rattle.plan_base.specs.declared.tree.Expr.{Expr, Expr-F, out-Expr};
 ghost use Rattle.plan_base.specs.declared.tree.Program.{Program};
 ghost use Rattle.plan_base.specs.declared.tree.Value.{Value};
+ghost use Rattle.plan_base.specs.declared.tree.Value as value;
 ghost use Rattle.service_api.specs.Services.{ServiceState};
 ghost use Rattle.plan_meaning.specs.State.{joined_state};
+ghost use Rattle.plan_meaning.specs.Run.{weighed_value};
+ghost use Rattle.plan_meaning.specs.Meaning.{Env};
 ghost use Rattle.plan_meaning.specs.Meaning as spec;
 ghost use Rattle.eval_steps.specs.declared.stack_frame.StackFrame.TheVariants as frame;
+ghost use Rattle.eval_steps.specs.declared.next.Next.TheVariants as next;
 ghost use Rattle.eval_steps.specs.Stack.{Spot};
-ghost use Rattle.eval_steps.specs.Nexts.{Decides, Continues, RemoteIsSafe, NeighbourIsSafe, NearIsSafe, near_step};
+ghost use Rattle.eval_steps.specs.Leads.{Carries};
+ghost use Rattle.eval_steps.specs.Nexts.{Decides, Continues, RemoteIsSafe, NeighbourIsSafe, NearIsSafe, near_step, part_gave};
 
 use crate::next::Next;
 use crate::operand::behind_one;
@@ -150,6 +155,7 @@ fn send_near(
     ensures decides { (code : Program) (seen : ℕ) (at : Spot) (s : ServiceState) → Decides code seen at
         (near_step chunk host u.now v.now (joined_state state.old s))
         result (joined_state state.new s) }
+    ensures unit { IfOk result (λ n. n ≡ next.Give value.Unit) }
     ensures falls { state.new.work ≤ state.old.work }
 {
     let Some(bound) = as_int(u) else {
@@ -177,6 +183,7 @@ fn send_neighbour(
         (held : List Value) (s : ServiceState)
         → Continues code seen (Expr-F.OnNeighbor a h b d) n (c ∷ w.now ∷ u.now ∷ held) v.now
         (joined_state state.old s) result (joined_state state.new s) }
+    ensures unit { IfOk result (λ n. n ≡ next.Give value.Unit) }
     ensures falls { state.new.work ≤ state.old.work }
 {
     let Some(chunk) = chunk_of(c) else {
@@ -185,6 +192,30 @@ fn send_neighbour(
     match as_host(w) {
         Some(host) => send_near(alloc, chunk, host, u, v, state),
         None => Err(EvalStop::Wrong),
+    }
+}
+
+/// A send to a neighbour of which all parts gave values; it gives unit, which isn't weighed yet.
+pub fn neighbour_sent(
+    alloc: Global,
+    c: Value,
+    w: &Value,
+    u: &Value,
+    v: &Value,
+    state: &mut State,
+) -> Result<(), EvalStop>
+    requires safe { NeighbourIsSafe c w.now u.now v.now state.old }
+    ensures sends { (code : Program) (seen : ℕ) (e a h b d : Expr) (env : Env) (n : ℕ)
+        (held : List Value) (s : ServiceState) → out-Expr e ≡ Expr-F.OnNeighbor a h b d
+        → Carries (part_gave code seen (record { expr = e; env = env }) n
+        (c ∷ w.now ∷ u.now ∷ held) v.now (joined_state state.old s))
+        (λ _. weighed_value value.Unit (joined_state state.new s))
+        result (joined_state state.new s) }
+    ensures falls { state.new.work ≤ state.old.work }
+{
+    match send_neighbour(alloc, c, w, u, v, state) {
+        Ok(_given) => Ok(()),
+        Err(stop) => Err(stop),
     }
 }
 

@@ -36,11 +36,23 @@ pub fn expr_from<'a>(start: &'a Expr, frames: &[StackFrame]) -> Option<&'a Expr>
     Some(e)
 }
 
-/// Whether two names are the same.
+/// Whether two names are the same, by byte for byte: names are short.
 pub fn same_name(a: &Name, b: &Name) -> bool
     ensures { result ≡ bytes_eq a.now b.now }
 {
-    a.as_slice() == b.as_slice()
+    let mut left = a.as_slice();
+    let mut right = b.as_slice();
+    while let [x, xs @ ..] = left {
+        let [y, ys @ ..] = right else {
+            return false;
+        };
+        if *x != *y {
+            return false;
+        }
+        left = xs;
+        right = ys;
+    }
+    right.is_empty()
 }
 
 /// What a name is bound to inside a frame, where it is bound to `before` outside.

@@ -1,6 +1,7 @@
 ghost use Rattle.std.specs.Prelude.{◌≡◌};
 
 use plan_base::NoMemory;
+use plan_items::Boxed;
 use program_text::TextFault;
 use std::alloc::AllocError;
 
@@ -21,8 +22,8 @@ pub enum LineReason {
     TwiceNamed,
     /// One more than the format allows, or a program's text or the injected chunks over their limit.
     TooMany,
-    /// A program's text is refused for this.
-    ProgramRefused(TextFault),
+    /// A program's text is refused for this, in a box, so that a reason is small to hand on.
+    ProgramRefused(Boxed<TextFault>),
     /// An entry, arguments or a combination of numbers that don't fit.
     BadArgument,
 }

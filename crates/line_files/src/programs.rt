@@ -17,6 +17,7 @@ use crate::words::{Words, allow, is};
 use chunk_types::{CheckedChunk, ChunkFault, chunk_of};
 use link_window::Version;
 use plan_base::{Bytes, Fun, Name, NameFault, Values};
+use plan_items::Boxed;
 use plan_types::Checked;
 use program_text::{TextFault, read_args, read_program};
 use std::alloc::{AllocError, Global};
@@ -59,7 +60,10 @@ fn accept(alloc: Global, text: &[u8]) -> Result<Checked, LineStop>
     match read_program(alloc, text) {
         Ok(program) => Ok(program),
         Err(TextFault::NoMemory) => Err(LineStop::NoMemory),
-        Err(why) => Err(LineStop::Reason(LineReason::ProgramRefused(why))),
+        Err(why) => {
+            let why = Boxed::new(alloc, why)?;
+            Err(LineStop::Reason(LineReason::ProgramRefused(why)))
+        }
     }
 }
 

@@ -44,7 +44,19 @@ pub fn next_line(bytes: &[u8]) -> Option<(&[u8], &[u8])>
 pub fn is(word: &[u8], text: &[u8]) -> bool
     ensures { result ≡ bytes_eq word.now text.now }
 {
-    word == text
+    let mut left = word;
+    let mut wanted = text;
+    while let [byte, more @ ..] = left {
+        let [first, others @ ..] = wanted else {
+            return false;
+        };
+        if *byte != *first {
+            return false;
+        }
+        left = more;
+        wanted = others;
+    }
+    wanted.is_empty()
 }
 
 /// Nothing where a rule is kept, else the reason that stands for it.

@@ -35,11 +35,12 @@ pub fn one_line(alloc: Global, line: Line) -> Result<Lines, NoMemory>
 pub fn with_acts(before: Lines, host: Host, acts: ActList) -> Result<Lines, NoMemory>
     ensures { IfOk result (λ lines. lines ≡ before ++ spec.lines_at host acts) }
 {
-    let mut lines = before;
+    let mut lines = before.into_vec();
+    lines.reserve(acts.len())?;
     for act in acts.into_vec() {
-        lines.add(Line::At(host, act))?;
+        lines.push_reserved(Line::At(host, act));
     }
-    Ok(lines)
+    Ok(Items::from_vec(lines))
 }
 
 /// The lines of a frame from outside before it arrives: a packet grants its bound.

@@ -11,8 +11,8 @@ ghost use Rattle.node_parts.specs.Carried.{Carries};
 
 use chunk_types::CheckedPacket;
 use link_window::Stamp;
-use node_model::{Act, ActList, Lane, Sendings};
-use node_parts::{begin_acts, send_all, visit_sendings};
+use node_model::{Act, ActList, Lane};
+use node_parts::{Leavings, begin_acts, send_all, visit_sendings};
 use plan_base::{Family, Name, NoMemory};
 use plan_eval::visit;
 use plan_items::Items;
@@ -45,7 +45,7 @@ impl<S: Services> Model for IdleServices<S> {
 #[derive(Drop)]
 struct Turn {
     acts: Vec<Act>,
-    sends: Sendings,
+    sends: Leavings,
     is_spent: bool,
 }
 
@@ -79,7 +79,7 @@ fn turn_of(
     left: u32,
     settled: Settled,
     before: ActList,
-) -> Result<(Vec<Act>, Sendings), NoMemory>
+) -> Result<(Vec<Act>, Leavings), NoMemory>
     requires { All (Carries mark) settled.visit.outbox }
     ensures acts { IfOk result (λ t. t.0.items ≡ before ++ (map Noted settled.visit.notes ++ (Ended family settled.visit.outcome settled.visit.evals settled.visit.left ∷ spec.handled_acts family settled.handled left))) }
     ensures sends { IfOk result (λ t. t.1 ≡ spec.visit_sends mark settled.visit) }

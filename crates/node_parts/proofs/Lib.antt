@@ -1,5 +1,6 @@
 pub mod Drops
 pub mod HostLaws
+pub mod LeavingLaws
 pub mod ReadingLaws
 pub mod SendLaws
 pub mod WindowLaws

@@ -1,5 +1,6 @@
 pub mod Carried
 pub mod Drops
 pub mod Heard
+pub mod Leaving
 pub mod Queued
 pub mod Windows

@@ -2,6 +2,7 @@
 #![tactic(auto)]
 
 mod lanes;
+mod leaving;
 mod neighbour_list;
 mod outgoing;
 mod reading;
@@ -10,6 +11,7 @@ mod sends;
 mod windows;
 
 pub use lanes::{count_frames, has_frame, open_lanes, take_first};
+pub use leaving::{Leaving, Leavings};
 pub use neighbour_list::NeighbourList;
 pub use outgoing::{advert_sendings, packet_sending, visit_sendings};
 pub use reading::{are_bytes, code_of, read_as, what_of};

@@ -4,7 +4,8 @@ ghost use Rattle.node_model.specs.declared.acts.Act.TheVariants.{Noted};
 ghost use Rattle.node_model.specs.Node as spec;
 ghost use Rattle.node_parts.specs.Drops as drops;
 
-use node_model::{Act, ActList, Lane, Sending, Sendings};
+use crate::leaving::{Leaving, Leavings};
+use node_model::{Act, ActList, Lane};
 use plan_base::Dev;
 use service_api::Notes;
 use spelled_frame::SpelledFrame;
@@ -77,29 +78,24 @@ fn drop_act(lanes: &[Lane], dev: Dev, dropped: Act, spent: Act) -> Act
 }
 
 /// Queues a frame, or drops it where its device has no room or no number. Takes no memory.
-#[tactic(auto, unfolding(node_model::specs::Node::send_act, node_model::specs::Node::send_queues), using(crate::proofs::Drops::drop_is))]
-pub fn send_one(lanes: &mut [Lane], sending: Sending) -> Act
+#[tactic(auto, using(crate::proofs::LeavingLaws::room_so, crate::proofs::LeavingLaws::queued_so, crate::proofs::LeavingLaws::queues_so, crate::proofs::LeavingLaws::dropped_so, crate::proofs::LeavingLaws::stays_so))]
+pub fn send_one(lanes: &mut [Lane], sending: Leaving) -> Act
     ensures act { result ≡ spec.send_act lanes.old sending }
     ensures lanes { lanes.new ≡ spec.send_queues lanes.old sending }
 {
-    let Sending {
-        dev,
-        frame,
-        queued,
-        dropped,
-        spent,
-    } = sending;
-    if has_room(lanes, dev, &frame) {
-        queue_frame(lanes, dev, frame);
+    let dev = sending.dev();
+    if has_room(lanes, dev, sending.frame()) {
+        let queued = sending.queued();
+        queue_frame(lanes, dev, sending.into_frame());
         queued
     } else {
-        drop_act(lanes, dev, dropped, spent)
+        drop_act(lanes, dev, sending.dropped(), sending.spent())
     }
 }
 
 /// Queues frames one after the other, and adds their acts. Takes no memory.
 #[tactic(auto, using(crate::proofs::SendLaws::sends_acts_none, crate::proofs::SendLaws::sends_queues_none, crate::proofs::SendLaws::sends_acts_more, crate::proofs::SendLaws::sends_queues_more))]
-pub fn send_all(acts: &mut Vec<Act>, lanes: &mut [Lane], sends: Sendings)
+pub fn send_all(acts: &mut Vec<Act>, lanes: &mut [Lane], sends: Leavings)
     requires { vec_len acts.old + length sends ≤ vec_capacity acts.old }
     ensures acts { acts.new.items ≡ acts.old.items ++ spec.sends_acts lanes.old sends }
     ensures lanes { lanes.new ≡ spec.sends_queues lanes.old sends }

@@ -183,7 +183,6 @@ pub struct Fun {
 }
 
 /// A program: services, exceptions and functions, at most 64 of each and at least one function.
-#[derive(Drop)]
 pub struct Program {
     /// The declared services.
     pub svcs: Svcs,
@@ -191,6 +190,17 @@ pub struct Program {
     pub exns: Names,
     /// The functions, each of which may call earlier ones.
     pub funs: Funs,
+}
+
+// (with a drop of its own, so that a crate which lets a program go need not prove again how its expressions are dropped)
+impl Drop for Program {
+    fn drop(self) {
+        let Program {
+            svcs: _svcs,
+            exns: _exns,
+            funs: _funs,
+        } = self;
+    }
 }
 
 /// Byte places in a text, from 0.

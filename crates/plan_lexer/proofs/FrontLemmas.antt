@@ -224,7 +224,7 @@ char_front at text read is e =
     })
 
 -- symbols
-symbol_found : (text : List ℕ) (s : Symbol) → symbol_at text ≡ Some s → symbol_text s ≡ take (length (symbol_text s)) text
+pub symbol_found : (text : List ℕ) (s : Symbol) → symbol_at text ≡ Some s → symbol_text s ≡ take (length (symbol_text s)) text
 unfolding symbol_at
 symbol_found text s e = (bytes_eq-Decides (symbol_text s) (take (length (symbol_text s)) text)).0 (find_passes (λ s. starts_with nat_eq text (symbol_text s)) symbols s e)
 

@@ -15,3 +15,4 @@ pub mod SoundLemmas
 pub mod FrontLemmas
 pub mod LawLemmas
 pub mod RuleLemmas
+pub mod SymbolLemmas

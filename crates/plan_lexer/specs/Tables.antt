@@ -1,5 +1,5 @@
 -- The spellings of reserved words and symbols.
-use Rattle.std.specs.Prelude.{ℕ, List, [], ◌∷◌, Option, codes, nat_eq, find}
+use Rattle.std.specs.Prelude.{ℕ, ◌&&◌, ◌==◌, if◌then◌else◌, List, [], ◌∷◌, Option, Some, None, codes, nat_eq, find}
 use Rattle.std.specs.Str.{bytes_eq}
 use Rattle.std.specs.List.{starts_with}
 use Rattle.plan_lexer.specs.declared.token.Key.{Key}
@@ -85,3 +85,34 @@ symbols = symbol.DoubleColon ∷ symbol.NotEqual ∷ symbol.LessEqual ∷ symbol
 -- the longest symbol that a text begins with
 unfoldable pub symbol_at : List ℕ → Option Symbol
 symbol_at text = find (λ s. starts_with nat_eq text (symbol_text s)) symbols
+
+-- the symbol of one byte
+unfoldable pub single : ℕ → Option Symbol
+single a =
+    if a == 40 then Some symbol.ParenOpen else
+    (if a == 41 then Some symbol.ParenClose else
+    (if a == 91 then Some symbol.BracketOpen else
+    (if a == 93 then Some symbol.BracketClose else
+    (if a == 44 then Some symbol.Comma else
+    (if a == 59 then Some symbol.Semicolon else
+    (if a == 58 then Some symbol.Colon else
+    (if a == 61 then Some symbol.Equal else
+    (if a == 60 then Some symbol.Less else
+    (if a == 62 then Some symbol.Greater else
+    (if a == 43 then Some symbol.Plus else
+    (if a == 45 then Some symbol.Minus else
+    (if a == 42 then Some symbol.Star else
+    (if a == 47 then Some symbol.Slash else
+    (if a == 94 then Some symbol.Caret else
+    (if a == 124 then Some symbol.Bar else
+    (if a == 95 then Some symbol.Underscore else None))))))))))))))))
+
+-- the symbol that two bytes are or begin with, those of both first
+unfoldable pub symbol_of : ℕ → ℕ → Option Symbol
+symbol_of a b =
+    if (a == 58) && (b == 58) then Some symbol.DoubleColon else
+    (if (a == 60) && (b == 62) then Some symbol.NotEqual else
+    (if (a == 60) && (b == 61) then Some symbol.LessEqual else
+    (if (a == 62) && (b == 61) then Some symbol.GreaterEqual else
+    (if (a == 45) && (b == 62) then Some symbol.Arrow else
+    (if (a == 61) && (b == 62) then Some symbol.FatArrow else single a)))))

@@ -1,4 +1,4 @@
-ghost use Rattle.std.specs.Prelude.{◌≡◌, ℕ, ◌≤◌, ◌⊎◌, List, length, IfOk, IfErr, OnOk, MatchResult};
+ghost use Rattle.std.specs.Prelude.{◌≡◌, ℕ, ◌≤◌, ◌⊎◌, List, [], length, IfOk, IfErr, OnOk, MatchResult};
 ghost use Rattle.plan_lexer.specs.Scanning.{Toks, Refuses, with_move};
 ghost use Rattle.plan_lexer.specs.TokenRules.{AreTokens};
 ghost use Rattle.plan_lexer.specs.declared.token.Token.{Token};
@@ -7,6 +7,13 @@ use crate::scan::move_at;
 use crate::text::after;
 use crate::{LexFault, Token, TokenKind, Tokens};
 use std::alloc::{AllocError, Global};
+
+/// No tokens yet, with room for those of most arguments.
+fn no_tokens(alloc: Global) -> Result<Tokens, AllocError>
+    ensures { IfOk result (λ ts. ts ≡ []) }
+{
+    Ok(Tokens::from_vec(Vec::with_capacity(alloc, 8)?))
+}
 
 /// The tokens of a text of at most 65,536 bytes, from the left, each the longest prefix of what is left that is one.
 /// The first refusal decides. Takes time linear in the text.
@@ -17,7 +24,7 @@ pub fn lex(alloc: Global, text: &[u8]) -> Result<Tokens, LexFault>
     ensures kept { IfOk result (AreTokens 0 (length text.now)) }
     ensures fault { IfErr result (λ e. (e ≡ LexFault.NoMemory) ⊎ Refuses e 0 text.now) }
 {
-    let mut tokens = Tokens::new(alloc);
+    let mut tokens = no_tokens(alloc)?;
     let mut at = 0u32;
     let mut rest = text;
     'moves: while !rest.is_empty() {

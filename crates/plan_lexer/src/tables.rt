@@ -1,6 +1,7 @@
 ghost use Rattle.std.specs.Prelude.{◌≡◌, ◌≤◌, length, IfSome};
-ghost use Rattle.plan_lexer.specs.Tables.{key_text, key_of, symbol_text, symbol_at};
+ghost use Rattle.plan_lexer.specs.Tables.{key_text, key_of, symbol_text, symbol_at, single, symbol_of};
 
+use crate::text::byte_at;
 use crate::{Key, Symbol};
 
 impl Key {
@@ -121,33 +122,6 @@ const KEYS: [Key; 34] = [
     Key::Val,
 ];
 
-/// Every symbol, those of two bytes first.
-const SYMBOLS: [Symbol; 23] = [
-    Symbol::DoubleColon,
-    Symbol::NotEqual,
-    Symbol::LessEqual,
-    Symbol::GreaterEqual,
-    Symbol::Arrow,
-    Symbol::FatArrow,
-    Symbol::ParenOpen,
-    Symbol::ParenClose,
-    Symbol::BracketOpen,
-    Symbol::BracketClose,
-    Symbol::Comma,
-    Symbol::Semicolon,
-    Symbol::Colon,
-    Symbol::Equal,
-    Symbol::Less,
-    Symbol::Greater,
-    Symbol::Plus,
-    Symbol::Minus,
-    Symbol::Star,
-    Symbol::Slash,
-    Symbol::Caret,
-    Symbol::Bar,
-    Symbol::Underscore,
-];
-
 /// The key of a reserved word.
 #[tactic(auto, unfolding(crate::specs::Tables::key_of))]
 pub(crate) fn key_of(word: &[u8]) -> Option<Key>
@@ -156,14 +130,60 @@ pub(crate) fn key_of(word: &[u8]) -> Option<Key>
     KEYS.iter().copied().find(|key| key.text() == word)
 }
 
+/// The symbol of one byte.
+#[tactic(auto, unfolding(crate::specs::Tables::single))]
+fn single(byte: u8) -> Option<Symbol>
+    ensures { result ≡ single byte }
+{
+    match byte {
+        b'(' => Some(Symbol::ParenOpen),
+        b')' => Some(Symbol::ParenClose),
+        b'[' => Some(Symbol::BracketOpen),
+        b']' => Some(Symbol::BracketClose),
+        b',' => Some(Symbol::Comma),
+        b';' => Some(Symbol::Semicolon),
+        b':' => Some(Symbol::Colon),
+        b'=' => Some(Symbol::Equal),
+        b'<' => Some(Symbol::Less),
+        b'>' => Some(Symbol::Greater),
+        b'+' => Some(Symbol::Plus),
+        b'-' => Some(Symbol::Minus),
+        b'*' => Some(Symbol::Star),
+        b'/' => Some(Symbol::Slash),
+        b'^' => Some(Symbol::Caret),
+        b'|' => Some(Symbol::Bar),
+        b'_' => Some(Symbol::Underscore),
+        _ => None,
+    }
+}
+
+/// The symbol that two bytes are or begin with, those of both first.
+#[tactic(auto, unfolding(crate::specs::Tables::symbol_of))]
+fn symbol_of(first: u8, second: u8) -> Option<Symbol>
+    ensures { result ≡ symbol_of first second }
+{
+    if first == b':' && second == b':' {
+        Some(Symbol::DoubleColon)
+    } else if first == b'<' && second == b'>' {
+        Some(Symbol::NotEqual)
+    } else if first == b'<' && second == b'=' {
+        Some(Symbol::LessEqual)
+    } else if first == b'>' && second == b'=' {
+        Some(Symbol::GreaterEqual)
+    } else if first == b'-' && second == b'>' {
+        Some(Symbol::Arrow)
+    } else if first == b'=' && second == b'>' {
+        Some(Symbol::FatArrow)
+    } else {
+        single(first)
+    }
+}
+
 /// The longest symbol that a text begins with.
-#[tactic(auto, unfolding(crate::specs::Tables::symbol_at))]
+#[tactic(auto, using(crate::proofs::SymbolLemmas::by_bytes, crate::proofs::SymbolLemmas::symbol_fits))]
 pub(crate) fn symbol_at(text: &[u8]) -> Option<Symbol>
     ensures value { result ≡ symbol_at text.now }
     ensures within { IfSome result (λ s. length (symbol_text s) ≤ length text.now) }
 {
-    SYMBOLS
-        .iter()
-        .copied()
-        .find(|symbol| text.starts_with(symbol.text()))
+    symbol_of(byte_at(text, 0), byte_at(text, 1))
 }

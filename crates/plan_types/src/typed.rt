@@ -1,7 +1,8 @@
 //! Programs that are typed.
 
-ghost use Rattle.std.specs.Prelude.{◌≡◌, ◌≢◌, Ok, Err, IsTrue, is_ok, IfOk, IfErr, MatchOption, MatchResult};
+ghost use Rattle.std.specs.Prelude.{◌≡◌, ◌≢◌, min, Ok, Err, IsTrue, is_ok, IfOk, IfErr, MatchOption, MatchResult};
 ghost use Rattle.plan_base.specs.declared.tree.Program.{Program as Code};
+ghost use Rattle.plan_base.specs.Sizes.{code_size};
 ghost use Rattle.plan_base.specs.WellFormed.{IsWellFormedProgram, ProgramHasTypes};
 ghost use Rattle.typing_rules.specs.Typing.{Typed};
 ghost use Rattle.typing_rules.specs.TypingFills.{Fills};
@@ -11,20 +12,24 @@ ghost use Rattle.plan_types.specs.Kept.{IsChecked};
 use crate::program::annotate_program;
 use plan_base::{Draft, NoMemory, Program};
 use plan_items::Shared;
+use plan_sizes::code_size;
 use std::alloc::Global;
 use std::marker::Model;
 use typing_rules::TypeFault;
 
-/// A program that is typed, which contracts see as that program.
+/// A program that is typed, which contracts see as that program. Its size stands beside it, so that it is measured once.
 #[derive(Drop)]
 pub struct Checked {
     program: Shared<Program>,
+    size: u64,
 }
 
 impl Model for Checked {
     ghost use Rattle.plan_base.specs.declared.tree.Program.{Program};
     ghost use Rattle.plan_base.specs.contracts.tree.Program as whole;
     ghost use Rattle.plan_types.specs.Kept.{IsChecked};
+    ghost use Rattle.std.specs.Prelude.{◌≡◌, min};
+    ghost use Rattle.plan_base.specs.Sizes.{code_size};
 
     ghost Value = { Program };
 
@@ -32,7 +37,7 @@ impl Model for Checked {
 
     ghost view = { λ k. k.program };
 
-    ghost invariant = { λ k. IsChecked k.program };
+    ghost invariant = { λ k. IsChecked k.program × (k.size ≡ min (code_size k.program) 18446744073709551615) };
 }
 
 impl Checked {
@@ -42,7 +47,17 @@ impl Checked {
         requires { IsChecked program }
         ensures { result ≡ program }
     {
-        Checked { program }
+        let size = code_size(program.get());
+        Checked { program, size }
+    }
+
+    /// The same, where its size is known. Takes no memory.
+    pub fn of_size(program: Shared<Program>, size: u64) -> Checked
+        requires checked { IsChecked program }
+        requires size { size ≡ min (code_size program) 18446744073709551615 }
+        ensures { result ≡ program }
+    {
+        Checked { program, size }
     }
 
     /// The program. Takes no memory.
@@ -51,6 +66,13 @@ impl Checked {
         ensures kept { IsChecked self.now }
     {
         self.program.get()
+    }
+
+    /// The bytes of its marshalled form, or 2^64 - 1 where there are more. Takes no memory.
+    pub fn size(&self) -> u64
+        ensures { result ≡ min (code_size self.now) 18446744073709551615 }
+    {
+        self.size
     }
 
     /// The program, for one more owner. Takes no memory, and fails only where the count of owners is full.
@@ -66,7 +88,10 @@ impl Checked {
         ensures { IfOk result (λ k. k ≡ self.now) }
     {
         let program = self.program.share()?;
-        Ok(Checked { program })
+        Ok(Checked {
+            program,
+            size: self.size,
+        })
     }
 }
 
@@ -82,7 +107,7 @@ pub fn annotate(alloc: Global, draft: Draft) -> Result<Checked, TypeFault>
 {
     let program = annotate_program(alloc, &draft.program)?;
     let shared = Shared::new(alloc, program)?;
-    Ok(Checked { program: shared })
+    Ok(Checked::of(shared))
 }
 
 /// Checks a well-formed program in which no type of `[]` or `raise` is missing. Else the first refusal in
@@ -97,7 +122,7 @@ pub fn check(alloc: Global, program: Program) -> Result<Checked, TypeFault>
 {
     let _filled = annotate_program(alloc, &program)?;
     let shared = Shared::new(alloc, program)?;
-    Ok(Checked { program: shared })
+    Ok(Checked::of(shared))
 }
 
 /// The first refusal of a program in the order of checking, where there is one.

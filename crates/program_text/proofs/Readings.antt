@@ -1,9 +1,13 @@
 -- From the tokens of a text to what the text is.
-use Rattle.std.proofs.Common.{◌≡◌, ◌≢◌, ℕ, List, length, Some, None, Result, Ok, Err, refl, ◌∙◌, ap, subst, ◌⊎◌, inl, inr}
-use Rattle.std.specs.Prelude.{IfOk, IfErr, IsErrAnd, MatchResult}
+use Rattle.std.proofs.Common.{◌≡◌, ◌≢◌, ℕ, true, List, [], length, Some, None, Result, Ok, Err, refl, sym, ◌∙◌, ap, subst, ◌⊎◌, inl, inr}
+use Rattle.std.proofs.lemmas.Slice.Eq.{bytes_eq-Decides}
+use Rattle.std.specs.Str.{bytes_eq}
+use Rattle.std.specs.Prelude.{IfOk, IfErr, IsErrAnd, MatchResult, codes}
 use Rattle.plan_base.specs.declared.tree.Program.{Program}
 use Rattle.plan_base.specs.declared.tree.Value.{Value}
-use Rattle.plan_lexer.specs.Scanning.{Toks, Refuses}
+use Rattle.plan_lexer.specs.Scanning.{Toks, Refuses, move_at, token_at, signed_at}
+use Rattle.plan_lexer.specs.Gaps.{gap_at}
+use Rattle.plan_lexer.specs.Tables.{symbol_at, symbol_text}
 use Rattle.plan_lexer.specs.declared.fault.LexFault.{LexFault}
 use Rattle.plan_lexer.specs.declared.token.Token.{Token}
 use Rattle.plan_lexer.proofs.ScanLemmas.{Toks-unique}
@@ -11,13 +15,15 @@ use Rattle.plan_lexer.specs.declared.fault.LexFault.TheVariants as lexing
 use Rattle.plan_grammar.specs.declared.fault.ParseFault.{ParseFault}
 use Rattle.plan_grammar.specs.declared.fault.ParseFault.TheVariants as parsing
 use Rattle.plan_parser.specs.Programs as parsed
-use Rattle.plan_parser.specs.Values.{args_of}
+use Rattle.plan_parser.specs.Values.{args_of, arguments_behind, nothing_follows}
+use Rattle.plan_grammar.specs.Ahead.{need_symbol, is_symbol, next_kind, behind}
 use Rattle.plan_parser.specs.ReadTexts.{Reads, Fails, no_tokens, no_value}
 use Rattle.plan_parser.specs.declared.value_fault.ValueFault.{ValueFault}
 use Rattle.plan_parser.specs.declared.value_fault.ValueFault.TheVariants as faults
 use Rattle.program_text.specs.declared.fault.TextFault.{TextFault}
 use Rattle.program_text.specs.declared.fault.TextFault.TheVariants as fault
 use Rattle.program_text.specs.Texts.{parsed_of, typed_of, program_of, IsProgram, Says, args_in, args_by, args_of_text}
+use Rattle.program_text.specs.Scanned.{tokens_of}
 use Rattle.program_text.proofs.Scanning.{has_tokens, is_refused}
 
 -- a text is what its tokens are
@@ -46,6 +52,11 @@ no_tokens_args text e r = ap (args_in (length text)) (is_refused text e r)
 pub no_value_args : (text : List ℕ) (ts : List Token) (e : ParseFault) → Toks 0 text ts → args_of ts (length text) ≡ Err e → args_of_text text ≡ None
 unfolding args_of_text
 no_value_args text ts e t r = ap (args_in (length text)) (has_tokens text ts t) ∙ ap args_by r
+
+-- `()` is no arguments
+pub no_args : (text : List ℕ) → bytes_eq text (codes "()") ≡ true → args_of_text text ≡ Some []
+unfolding args_of_text tokens_of move_at gap_at token_at signed_at symbol_at symbol_text args_of need_symbol arguments_behind nothing_follows is_symbol next_kind behind
+no_args text e = subst (λ (bs : List ℕ). args_of_text bs ≡ Some []) (sym ((bytes_eq-Decides text (codes "()")).0 e)) refl
 
 -- a text that is refused for another reason than memory is no arguments
 pub none_by : (text : List ℕ) (e : ValueFault) → e ≢ faults.NoMemory → (e ≡ faults.NoMemory) ⊎ Fails args_of text e → args_of_text text ≡ None

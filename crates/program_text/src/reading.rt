@@ -127,6 +127,9 @@ pub fn read_args(alloc: Global, text: &[u8]) -> Result<Option<Values>, NoMemory>
     requires { length text.now ≤ 65536 }
     ensures { IfOk result (λ args. args ≡ args_of_text text.now) }
 {
+    if text == b"()".as_slice() {
+        return Ok(Some(Items::new(alloc)));
+    }
     match parse_args(alloc, text) {
         Ok(args) => Ok(Some(args)),
         Err(ValueFault::NoMemory) => Err(NoMemory),

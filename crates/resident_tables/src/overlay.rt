@@ -77,14 +77,14 @@ impl Overlay {
         ensures unique { IsUnique row_key (over base.now.rows self.now) }
         ensures puts { IsUnique row_key self.now.puts }
     {
-        let there = base.find(wanted);
+        let _rows = base.rows();
         if let Some(row) = self.puts.get(wanted) {
             return Some(row);
         }
         if let Some(_noted) = self.gone.get(wanted) {
             return None;
         }
-        there
+        base.find(wanted)
     }
 
     /// The counts of the rows after the changes.

@@ -1,4 +1,4 @@
-ghost use Rattle.std.specs.Prelude.{◌≡◌, ◌++◌, List, OnOk, OnErr};
+ghost use Rattle.std.specs.Prelude.{◌≡◌, ◌+◌, ◌≤◌, ◌++◌, List, length, OnOk, OnErr};
 ghost use Rattle.std.specs.Fmt.{decimal};
 ghost use Rattle.plan_base.specs.declared.ids.Family.{Family as FamilyOf};
 ghost use Rattle.world_model.specs.declared.lines.Entry.{Entry as EntryOf};
@@ -9,31 +9,35 @@ ghost use Rattle.bound_ledger.specs.Rows.{OneEach};
 ghost use Rattle.run_ledger.specs.Stands.{Stands};
 ghost use Rattle.run_text.specs.Printed.{printed_row, all_printed};
 
-use act_text::{put_family, put_number};
+use act_text::ShortText;
 use bound_ledger::{Ledger, Row};
 use plan_base::{Bytes, Family, NoMemory};
 use std::alloc::Global;
 
-/// A word and a count of a row.
-fn put_count(out: &mut Bytes, word: &[u8], n: u64) -> Result<(), NoMemory>
-    ensures { OnOk result (out.new ≡ out.old ++ (word.now ++ decimal n)) }
+/// Writes a word and a count of a row before a text. Condition: there is room for the word and 20 bytes more.
+#[inline(always)]
+fn write_count(text: &mut ShortText, word: &[u8], n: u64)
+    requires { 20 + length word.now + length text.old ≤ 192 }
+    ensures text { text.new ≡ (word.now ++ decimal n) ++ text.old }
+    ensures room { length text.new ≤ 20 + length word.now + length text.old }
 {
-    out.add_all(word)?;
-    put_number(out, n)?;
-    Ok(())
+    text.number(n);
+    text.word(word);
 }
 
 /// A row of a ledger.
 fn put_row(out: &mut Bytes, f: Family, row: Row) -> Result<(), NoMemory>
     ensures { OnOk result (out.new ≡ out.old ++ printed_row (f, row)) }
 {
-    put_family(out, f)?;
-    put_count(out, b" granted ", row.granted)?;
-    put_count(out, b" hops ", row.hops)?;
-    put_count(out, b" evals ", row.evals)?;
-    put_count(out, b" live ", row.live)?;
-    put_count(out, b" left ", row.left)?;
-    out.add(b'\n')?;
+    let mut text = ShortText::new();
+    text.byte(b'\n');
+    write_count(&mut text, b" left ", row.left);
+    write_count(&mut text, b" live ", row.live);
+    write_count(&mut text, b" evals ", row.evals);
+    write_count(&mut text, b" hops ", row.hops);
+    write_count(&mut text, b" granted ", row.granted);
+    text.family(f);
+    text.put(out)?;
     Ok(())
 }
 

@@ -1,10 +1,11 @@
-ghost use Rattle.std.specs.Prelude.{◌≡◌, ◌++◌, codes, map, OnOk, OnErr};
+ghost use Rattle.std.specs.Prelude.{◌≡◌, ◌+◌, ◌≤◌, ◌++◌, codes, length, map, OnOk, OnErr};
 ghost use Rattle.std.specs.Fmt.{decimal};
 ghost use Rattle.node_model.specs.Texts.{head_text, bound_text};
+ghost use Rattle.act_text.specs.Lines.{line_of};
 ghost use Rattle.world_model.specs.World.{entry_at};
 ghost use Rattle.world_model.specs.Texts as spec;
 
-use act_text::{put_act_text, put_bound, put_number};
+use act_text::{ShortText, put_act_line};
 use hex::encode;
 use node_model::What;
 use plan_base::{Bytes, Family, Host, NoMemory};
@@ -14,12 +15,26 @@ use world_model::Line;
 /// The bytes for which the text of an event's lines has room at first; most take no more.
 const LINES_ROOM: usize = 512;
 
-/// A word and a number.
-fn put_numbered(out: &mut Bytes, word: &[u8], number: u32) -> Result<(), NoMemory>
-    ensures { OnOk result (out.new ≡ out.old ++ (word.now ++ decimal number)) }
+/// The front of a line: the number of its event, a word and a number.
+fn write_numbered(text: &mut ShortText, event: u32, word: &[u8], number: u32)
+    requires { 41 + length word.now + length text.old ≤ 192 }
+    ensures { text.new ≡ decimal event ++ (codes " " ++ (word.now ++ (decimal number ++ text.old))) }
 {
-    out.add_all(word)?;
-    put_number(out, u64::from(number))?;
+    text.number(u64::from(number));
+    text.word(word);
+    text.byte(b' ');
+    text.number(u64::from(event));
+}
+
+/// A line of a word and a number.
+fn put_numbered(out: &mut Bytes, event: u32, word: &[u8], number: u32) -> Result<(), NoMemory>
+    requires { length word.now ≤ 10 }
+    ensures { OnOk result (out.new ≡ out.old ++ line_of event (word.now ++ decimal number)) }
+{
+    let mut text = ShortText::new();
+    text.byte(b'\n');
+    write_numbered(&mut text, event, word, number);
+    text.put(out)?;
     Ok(())
 }
 
@@ -38,56 +53,74 @@ fn put_wired(
     alloc: Global,
     out: &mut Bytes,
     frames: bool,
+    event: u32,
     number: u32,
     frame: &Bytes,
 ) -> Result<(), NoMemory>
-    ensures { OnOk result (out.new ≡ out.old ++ (codes "wire " ++ (decimal number ++ spec.shown_text frames frame.now))) }
+    ensures { OnOk result (out.new ≡ out.old ++ line_of event (codes "wire " ++ (decimal number ++ spec.shown_text frames frame.now))) }
 {
-    put_numbered(out, b"wire ", number)?;
+    let mut text = ShortText::new();
+    write_numbered(&mut text, event, b"wire ", number);
+    text.put(out)?;
     put_shown(alloc, out, frames, frame)?;
+    out.add(b'\n')?;
     Ok(())
 }
 
-fn put_forged(out: &mut Bytes, host: Host, f: Family, bound: u32) -> Result<(), NoMemory>
-    ensures { OnOk result (out.new ≡ out.old ++ (head_text (codes "forged") host ++ bound_text f bound)) }
+fn put_forged(
+    out: &mut Bytes,
+    event: u32,
+    host: Host,
+    f: Family,
+    bound: u32,
+) -> Result<(), NoMemory>
+    ensures { OnOk result (out.new ≡ out.old ++ line_of event (head_text (codes "forged") host ++ bound_text f bound)) }
 {
-    out.add_all(b"forged")?;
-    put_numbered(out, b" @", host.0)?;
-    put_bound(out, f, bound)?;
+    let mut text = ShortText::new();
+    text.byte(b'\n');
+    text.bound(f, bound);
+    text.head(u64::from(event), b"forged", host);
+    text.put(out)?;
     Ok(())
 }
 
-fn put_lost(out: &mut Bytes, what: What) -> Result<(), NoMemory>
-    ensures { OnOk result (out.new ≡ out.old ++ (codes "lost" ++ spec.lost_text what)) }
+/// What was lost, before a text.
+fn write_lost(text: &mut ShortText, what: What)
+    requires { 69 + length text.old ≤ 192 }
+    ensures text { text.new ≡ spec.lost_text what ++ text.old }
+    ensures room { length text.new ≤ 69 + length text.old }
 {
-    out.add_all(b"lost")?;
     match what {
-        What::Packet(f, bound) => put_bound(out, f, bound)?,
-        What::Advert => out.add_all(b" advert")?,
+        What::Packet(f, bound) => text.bound(f, bound),
+        What::Advert => text.word(b" advert"),
     }
+}
+
+fn put_lost(out: &mut Bytes, event: u32, what: What) -> Result<(), NoMemory>
+    ensures { OnOk result (out.new ≡ out.old ++ line_of event (codes "lost" ++ spec.lost_text what)) }
+{
+    let mut text = ShortText::new();
+    text.byte(b'\n');
+    write_lost(&mut text, what);
+    text.word(b" lost");
+    text.number(u64::from(event));
+    text.put(out)?;
     Ok(())
 }
 
-/// A line without its number.
-#[tactic(auto, unfolding(world_model::specs::Texts::line_text))]
-fn put_line_text(alloc: Global, out: &mut Bytes, frames: bool, line: &Line) -> Result<(), NoMemory>
-    ensures { OnOk result (out.new ≡ out.old ++ spec.line_text frames line.now) }
+fn put_nothing(out: &mut Bytes, event: u32) -> Result<(), NoMemory>
+    ensures { OnOk result (out.new ≡ out.old ++ line_of event (codes "nothing")) }
 {
-    match line {
-        Line::At(host, act) => put_act_text(alloc, out, *host, act)?,
-        Line::Forged(host, f, bound) => put_forged(out, *host, *f, *bound)?,
-        Line::Wire(number, frame) => put_wired(alloc, out, frames, *number, frame)?,
-        Line::Off(number) => put_numbered(out, b"off ", *number)?,
-        Line::Again(number) => put_numbered(out, b"again ", *number)?,
-        Line::Lost(what) => put_lost(out, *what)?,
-        Line::Nothing => out.add_all(b"nothing")?,
-    }
+    let mut text = ShortText::new();
+    text.word(b" nothing\n");
+    text.number(u64::from(event));
+    text.put(out)?;
     Ok(())
 }
 
 /// A whole line of a trace: the number of its event, what it says, with frames in hex where they
 /// are to be shown, and its end.
-#[tactic(auto, unfolding(world_model::specs::Texts::entry_text))]
+#[tactic(auto, unfolding(world_model::specs::Texts::entry_text, world_model::specs::Texts::line_text, node_model::specs::Texts::act_line))]
 fn put_line(
     alloc: Global,
     out: &mut Bytes,
@@ -97,10 +130,15 @@ fn put_line(
 ) -> Result<(), NoMemory>
     ensures { OnOk result (out.new ≡ out.old ++ spec.entry_text frames (entry_at event line.now)) }
 {
-    put_number(out, u64::from(event))?;
-    out.add(b' ')?;
-    put_line_text(alloc, out, frames, line)?;
-    out.add(b'\n')?;
+    match line {
+        Line::At(host, act) => put_act_line(alloc, u64::from(event), *host, act, out)?,
+        Line::Forged(host, f, bound) => put_forged(out, event, *host, *f, *bound)?,
+        Line::Wire(number, frame) => put_wired(alloc, out, frames, event, *number, frame)?,
+        Line::Off(number) => put_numbered(out, event, b"off ", *number)?,
+        Line::Again(number) => put_numbered(out, event, b"again ", *number)?,
+        Line::Lost(what) => put_lost(out, event, *what)?,
+        Line::Nothing => put_nothing(out, event)?,
+    }
     Ok(())
 }
 

@@ -1,3 +1,5 @@
 pub mod ArgumentReads
 pub mod Puts
 pub mod Kept
+pub mod TakenTypes
+pub mod ByLength

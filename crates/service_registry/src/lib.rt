@@ -10,6 +10,7 @@ mod offered;
 mod registry;
 mod resident;
 mod serving;
+mod taken;
 mod types;
 
 pub use registry::Registry;

@@ -1,4 +1,5 @@
-ghost use Rattle.std.specs.Prelude.{◌≡◌};
+ghost use Rattle.std.specs.Prelude.{◌≡◌, ◌∷◌, []};
+ghost use Rattle.std.specs.Str.{bytes_eq};
 ghost use Rattle.service_meaning.specs.Offered as spec;
 ghost use Rattle.service_registry.specs.Packages.{present_of};
 
@@ -45,39 +46,58 @@ fn package_of(service: Service) -> PackageName
     }
 }
 
-/// The first of `services` that has the name.
-fn named_among(services: &[Service], name: &Name) -> Option<Service>
-    ensures { result ≡ spec.service_named services.now name.now }
+fn is_named(service: Service, name: &Name) -> bool
+    ensures { result ≡ bytes_eq (spec.name_of service) name.now }
 {
-    let mut rest = services;
-    while let [service, later @ ..] = rest {
-        if name_of(*service) == name.as_slice() {
-            return Some(*service);
-        }
-        rest = later;
-    }
-    None
+    name_of(service) == name.as_slice()
 }
 
+/// The service, if it has the name.
+fn one_named(a: Service, name: &Name) -> Option<Service>
+    ensures { result ≡ spec.service_named (a ∷ []) name.now }
+{
+    if is_named(a, name) { Some(a) } else { None }
+}
+
+/// The first of the services that has the name.
+fn first_named(a: Service, b: Service, name: &Name) -> Option<Service>
+    ensures { result ≡ spec.service_named (a ∷ b ∷ []) name.now }
+{
+    if is_named(a, name) {
+        Some(a)
+    } else {
+        one_named(b, name)
+    }
+}
+
+fn service_of_seven(name: &Name) -> Option<Service>
+    ensures { result ≡ spec.service_named
+        (Service.GetDist ∷ Service.NextHop ∷ Service.Deliver ∷ []) name.now }
+{
+    if is_named(Service::GetDist, name) {
+        Some(Service::GetDist)
+    } else {
+        first_named(Service::NextHop, Service::Deliver, name)
+    }
+}
+
+/// The service of the name: it is compared with those names alone that are as long.
+#[tactic(auto, using(crate::proofs::ByLength::long_other))]
 fn service_of_name(name: &Name) -> Option<Service>
     ensures { result ≡ spec.service_named spec.all_services name.now }
 {
-    let services = [
-        Service::ThisHost,
-        Service::ThisHostIs,
-        Service::GetRb,
-        Service::GetSource,
-        Service::GetNeighbors,
-        Service::GetDist,
-        Service::NextHop,
-        Service::Put,
-        Service::Get,
-        Service::Remove,
-        Service::GenerateKey,
-        Service::Print,
-        Service::Deliver,
-    ];
-    named_among(services.as_slice(), name)
+    match name.as_slice().len() {
+        3 => first_named(Service::Put, Service::Get, name),
+        5 => first_named(Service::GetRb, Service::Print, name),
+        6 => one_named(Service::Remove, name),
+        7 => service_of_seven(name),
+        8 => one_named(Service::ThisHost, name),
+        9 => one_named(Service::GetSource, name),
+        10 => one_named(Service::ThisHostIs, name),
+        11 => one_named(Service::GenerateKey, name),
+        12 => one_named(Service::GetNeighbors, name),
+        _ => None,
+    }
 }
 
 /// The service of the name, where its package is there.

@@ -1,4 +1,5 @@
 ghost use Rattle.std.specs.Prelude.{◌≡◌, IfOk, None};
+ghost use Rattle.std.specs.Option.{option_copied};
 ghost use Rattle.resident_tables.specs.Layers.{IsOver};
 ghost use Rattle.service_api.specs.Schemes.{instance};
 ghost use Rattle.service_meaning.specs.Answers as spec;
@@ -14,6 +15,7 @@ use crate::installed_packages::InstalledPackages;
 use crate::net::{get_dist, get_neighbors, get_rb, get_source, next_hop, this_host, this_host_is};
 use crate::offered::installed_service;
 use crate::resident::{generate_key, get, put, remove};
+use crate::taken::type_at_hand;
 use crate::types::type_of;
 use plan_base::{NoMemory, Svc, Ty, Value};
 use resident_tables::{Overlay, Tables};
@@ -82,6 +84,28 @@ fn served_at(
     }
 }
 
+/// The same of a type that is lent.
+fn served_by(
+    alloc: Global,
+    base: &Tables,
+    changes: &mut Overlay,
+    service: Service,
+    known: Option<&Ty>,
+    args: &[Value],
+    ctx: &Ctx,
+) -> Result<Answer, NoMemory>
+    requires { IsOver base.now.rows changes.old }
+    ensures meets { Meets (serve_at (option_copied known.entry) service args.now ctx.entry.now
+        (rows_over base.now changes.old)) (rows_over base.now changes.old)
+        result (rows_over base.now changes.new) }
+    ensures over { IsOver base.now.rows changes.new }
+{
+    match known {
+        Some(a) => served_as(alloc, base, changes, service, a, args, ctx),
+        None => no_such_service(alloc),
+    }
+}
+
 /// What a call answers where these packages are there. Condition: the changes were used over `base` alone.
 #[tactic(auto, unfolding(service_meaning::specs::Serving::serve))]
 pub fn answer_call(
@@ -100,6 +124,10 @@ pub fn answer_call(
     let Some(service) = installed_service(there, &svc.name) else {
         return no_such_service(alloc);
     };
+    let unit = Ty::Unit;
+    if let Some(known) = type_at_hand(service, svc, &unit) {
+        return served_by(alloc, base, changes, service, known, args, ctx);
+    }
     let found = taken_type(alloc, service, svc)?;
     served_at(alloc, base, changes, service, &found, args, ctx)
 }

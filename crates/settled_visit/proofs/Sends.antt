@@ -84,3 +84,12 @@ all_plain h (s ∷ ss) e = All-cons (λ s. IsPlain (handed_packet h s)) s ss (ha
 -- the settled visit of a packet without a handler sends none with one
 pub settled_plain : (p : Packet) (ctx : Ctx) (v : Visit) → p.handler ≡ None → All IsPlain (visit_settled p ctx v).visit.outbox
 settled_plain p ctx v e = all_settled IsPlain p ctx v (all_plain p.handler v.outbox e) (λ t k. ap (λ (x : Sent). x.packet.handler) k.is)
+
+same_plain : (s : Sent) → IsPlain s → s ≡ handed_packet None s
+same_plain s e = λ i. record s { packet = record s.packet { handler = e i } }
+
+-- without a handler all that is sent goes on as it is
+pub none_handed : (h : Option Name) (ss : List Sent) → h ≡ None → All IsPlain ss → ss ≡ map (handed_packet h) ss
+none_handed None [] e a = refl
+none_handed None (s ∷ ss) e a = λ i. same_plain s (All-head IsPlain s ss a) i ∷ none_handed None ss e (All-tail IsPlain s ss a) i
+none_handed (Some n) ss e a = cc

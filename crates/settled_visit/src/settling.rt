@@ -43,10 +43,14 @@ fn with_handler(alloc: Global, handler: &Option<Name>, sent: Sent) -> Result<Sen
 }
 
 /// All that a visit sends, with the handler. Condition: none of it has one yet.
+#[tactic(auto, using(crate::proofs::Sends::none_handed))]
 fn all_handed(alloc: Global, handler: &Option<Name>, outbox: Outbox) -> Result<Outbox, NoMemory>
     requires { All spec.IsPlain outbox }
     ensures { IfOk result (λ sends. sends ≡ map (spec.handed_packet handler.now) outbox) }
 {
+    let Some(_) = handler else {
+        return Ok(outbox);
+    };
     let mut sends = Items::new(alloc);
     for sent in outbox.into_vec() {
         sends.add(with_handler(alloc, handler, sent)?)?;

@@ -3,4 +3,4 @@
 
 mod spelled;
 
-pub use spelled::{SpelledFrame, What, with_handler};
+pub use spelled::{SpelledFrame, What, copy_packet, with_handler};

@@ -111,33 +111,33 @@ pub fn with_handler(packet: CheckedPacket, handler: Option<Name>) -> CheckedPack
     }
 }
 
-/// The same packet with another bound.
-fn with_bound(alloc: Global, packet: &CheckedPacket, bound: u32) -> Result<CheckedPacket, NoMemory>
-    requires { bound ≤ 65535 }
-    ensures { IfOk result (λ p. p ≡ record packet.now { bound = bound }) }
+/// The same packet.
+pub fn copy_packet(alloc: Global, packet: &CheckedPacket) -> Result<CheckedPacket, NoMemory>
+    ensures { IfOk result (λ p. p ≡ packet.now) }
 {
     let route = packet.route().copy(alloc)?;
     let chunk = packet.chunk().copy(alloc)?;
     let handler = copy_handler(alloc, packet.handler())?;
-    let bare = CheckedPacket::of(packet.family(), packet.dest(), bound, route, chunk);
+    let (family, dest, bound) = (packet.family(), packet.dest(), packet.bound());
+    let bare = CheckedPacket::of(family, dest, bound, route, chunk);
     Ok(with_handler(bare, handler))
 }
 
 /// The packet with another bound, where its frame has few bytes.
 fn packet_beside(
     alloc: Global,
-    packet: &CheckedPacket,
+    packet: CheckedPacket,
     bound: u32,
     bytes: &Bytes,
 ) -> Result<Option<Boxed<Frame>>, NoMemory>
     requires { bound ≤ 65535 }
     ensures { IfOk result
-        (λ frame. IsFrame (PlainFrame.Packet (record packet.now { bound = bound })) frame) }
+        (λ frame. IsFrame (PlainFrame.Packet (record packet { bound = bound })) frame) }
 {
     if bytes.len() > SHORT_FRAME {
         return Ok(None);
     }
-    let own = with_bound(alloc, packet, bound)?;
+    let own = packet.with_bound(bound);
     Ok(Some(Boxed::new(alloc, Frame::Packet(own))?))
 }
 
@@ -172,17 +172,17 @@ impl SpelledFrame {
     /// the bound is at most 65,535, and without a stamp the packet has no handler.
     pub fn of_packet(
         alloc: Global,
-        packet: &CheckedPacket,
+        packet: CheckedPacket,
         bound: u32,
         mark: Option<Stamp>,
     ) -> Result<SpelledFrame, NoMemory>
         requires bound { bound ≤ 65535 }
-        requires handler { MayCarry mark packet.now.handler }
-        ensures { IfOk result (λ s. s ≡ spec.packet_frame mark packet.now bound) }
+        requires handler { MayCarry mark packet.handler }
+        ensures { IfOk result (λ s. s ≡ spec.packet_frame mark packet bound) }
     {
-        let bytes = packet_bytes(alloc, packet, bound, mark)?;
-        let frame = packet_beside(alloc, packet, bound, &bytes)?;
+        let bytes = packet_bytes(alloc, &packet, bound, mark)?;
         let what = What::Packet(packet.family(), bound);
+        let frame = packet_beside(alloc, packet, bound, &bytes)?;
         Ok(SpelledFrame {
             version: version_of(mark),
             stamp: mark,

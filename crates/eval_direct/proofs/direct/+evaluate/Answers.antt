@@ -1,5 +1,5 @@
 use Rattle.std.proofs.Common.{◌≡◌, ◌++◌, rules, Ok, Err, true, false, ◌∷◌, [], length, slice_get, Some, None, IsSome, min, refl, sym, ◌∙◌, arith, ◌<◌}
-use Rattle.plan_base.specs.declared.tree.Expr.{Expr-F, out-Expr}
+use Rattle.plan_base.specs.declared.tree.Expr.{Expr, Expr-F, out-Expr}
 use Rattle.plan_base.specs.declared.tree.Expr as expr
 use Rattle.plan_base.specs.declared.tree.Value as value
 use Rattle.plan_base.specs.Sizes.{code_size}
@@ -23,7 +23,8 @@ use Rattle.eval_steps.proofs.Leading.{itself, onward}
 use Rattle.eval_flow.proofs.Beginning.{begun_here, begun_spent}
 use Rattle.eval_flow.proofs.Naming.{no_part, enters_none, enters_other}
 use Rattle.eval_flow.proofs.Taking.{resume_asks}
-use Rattle.eval_flow.proofs.Hot.{let_form, let_first, let_parts, let_no_try, let_body, let_leads, one_name, call_form, eval_part, eval_parts, eval_no_try, packing_leads, tuple_form, chunk_form, eval_form, row_no_try, row_begins, row_next, next_deep, next_safe, row_more, row_done, tuple_gave, chunk_gave, call_gave, if_form, binary_form, part_stops_so, first_leads, first_safe, if_test, if_yes, if_no, if_parts, if_no_try, if_true, if_false, if_wrong, left_part, right_part, operator_parts, operator_no_try, right_leads}
+use Rattle.eval_flow.proofs.Hot.{then_form, then_first, then_last, then_parts, then_no_try, then_leads, part_came, let_form, let_first, let_parts, let_no_try, let_body, let_leads, one_name, call_form, eval_part, eval_parts, eval_no_try, packing_leads, tuple_form, chunk_form, eval_form, row_no_try, row_begins, row_next, next_deep, next_safe, row_more, row_done, tuple_gave, chunk_gave, call_gave, if_form, binary_form, part_stops_so, first_leads, first_safe, if_test, if_yes, if_no, if_parts, if_no_try, if_true, if_false, if_wrong, left_part, right_part, operator_parts, operator_no_try, right_leads}
+use Rattle.eval_flow.proofs.Near.{near_form, near_parts, near_no_try, near_chunk_at, near_host_at, near_bound_at, near_dev_at, near_begins, near_to_bound, near_to_dev, near_is_safe}
 use Rattle.eval_flow.proofs.Turning.{visited_nowhere}
 use Rattle.eval_flow.proofs.Ending.{resume_final}
 use Rattle.eval_steps.proofs.Delivering.{visited_on}
@@ -85,8 +86,8 @@ evaluate-returns-in-Binary-clause-flows g t c =
     (c.if-not-pays.ensures.paid refl (g.S.Services.stands c.args.svc.now)) in
     flows_from c.operation.new.codes c.args.here.now.code.now c.args.here.now.fun (spot c.args.here.now c.args.e.now) _ _ c.operation.result (joined_state c.operation.new.state (g.S.Services.stands c.operation.new.svc)) leads c.operation.ensures.flows
 
-pub evaluate-general-requires : goal.evaluate-general-requires
-evaluate-general-requires g t c =
+pub evaluate-other_form-requires : goal.evaluate-other_form-requires
+evaluate-other_form-requires g t c =
     let leads = begun_here c.args.here.now.code.now c.args.here.now.fun (spot c.args.here.now c.args.e.now).env c.args.e.now (joined_state c.args.state.now (g.S.Services.stands c.args.svc.now)) (joined_state c.pays.new.self (g.S.Services.stands c.args.svc.now))
     (c.if-not-pays.ensures.paid refl (g.S.Services.stands c.args.svc.now)) in
     let safe : IsSafe (begins c.args.here.now.code.now c.args.here.now.fun (spot c.args.here.now c.args.e.now) (joined_state c.pays.new.self (g.S.Services.stands c.args.svc.now))).asks = leads.safe c.requires.safe in
@@ -96,7 +97,7 @@ pub evaluate-returns-in_default : goal.evaluate-returns-in_default
 evaluate-returns-in_default g t c =
     let leads = begun_here c.args.here.now.code.now c.args.here.now.fun (spot c.args.here.now c.args.e.now).env c.args.e.now (joined_state c.args.state.now (g.S.Services.stands c.args.svc.now)) (joined_state c.pays.new.self (g.S.Services.stands c.args.svc.now))
     (c.if-not-pays.ensures.paid refl (g.S.Services.stands c.args.svc.now)) in
-    let flows = flows_from c.general.new.codes c.args.here.now.code.now c.args.here.now.fun (spot c.args.here.now c.args.e.now) _ _ c.general.result (joined_state c.general.new.state (g.S.Services.stands c.general.new.svc)) leads c.general.ensures.flows in
+    let flows = flows_from c.other_form.new.codes c.args.here.now.code.now c.args.here.now.fun (spot c.args.here.now c.args.e.now) _ _ c.other_form.result (joined_state c.other_form.new.state (g.S.Services.stands c.other_form.new.svc)) leads c.other_form.ensures.flows in
     search rules
 
 -- ---- forms by themselves
@@ -664,3 +665,173 @@ visit_here-returns-clause-flows g t c =
     let place : place_of c.args.f.now c.args.here.now.code.now.funs ≡ Some c.in-Some.fun = cc in
     c.chunk_back.ensures.flows c.enter-flow.new.codes c.args.here.now.code.now c.args.here.now.fun (spot c.args.here.now c.args.e.now) _ (g.S.Services.stands c.enter-flow.new.svc)
     (enters_from c.enter-flow.new.codes _ _ c.enter-flow.result _ (visited_on (record { code = c.args.here.now.code.now; entry = c.args.f.now; args = c.args.args }) c.in-Some.fun (joined_state c.args.state.now (g.S.Services.stands c.args.svc.now)) place) c.enter-flow.ensures.enters)
+
+-- ---- one after the other, and sends to neighbours
+
+pub sequence-evaluate-requires : goal.sequence-evaluate-requires
+sequence-evaluate-requires g t c =
+    let safe : IsSafe (meaning c.args.here.now.code.now c.args.here.now.fun (spot c.args.here.now c.args.e.now).env c.args.a.now (joined_state c.args.state.now (g.S.Services.stands c.args.svc.now))).asks = first_safe c.args.here.now.code.now c.args.here.now.fun (spot c.args.here.now c.args.e.now) c.args.a.now (joined_state c.args.state.now (g.S.Services.stands c.args.svc.now)) (then_parts c.args.here.now.code.now c.args.here.now.fun c.args.e.now c.args.a.now c.args.b.now (spot c.args.here.now c.args.e.now).env c.requires.form) (then_first c.args.here.now.code.now c.args.here.now.fun c.args.e.now c.args.a.now c.args.b.now (spot c.args.here.now c.args.e.now).env c.requires.form) c.requires.safe in
+    search rules
+
+pub sequence-last_part-requires : goal.sequence-last_part-requires
+sequence-last_part-requires g t c =
+    let is : c.evaluate.result ≡ Ok (flow.Done c.in-Ok-Done._v) = cc in
+    let here = here_grown _ _ _ c.evaluate.ensures.grown c.requires.here in
+    let part : part_or_self c.args.e.now (Some 1) ≡ Some c.args.b.now = then_last c.args.here.now.code.now c.args.here.now.fun c.args.e.now c.args.a.now c.args.b.now (spot c.args.here.now c.args.e.now).env c.requires.form in
+    let leads = then_leads c.args.here.now.code.now c.args.here.now.fun c.args.e.now c.args.a.now c.args.b.now (spot c.args.here.now c.args.e.now).env c.requires.form (joined_state c.args.state.now (g.S.Services.stands c.args.svc.now)) (joined_state c.evaluate.new.state (g.S.Services.stands c.evaluate.new.svc)) c.in-Ok-Done._v (rw is at c.evaluate.ensures.flows) in
+    let safe : IsSafe (next_step c.args.here.now.code.now c.args.here.now.fun (spot c.args.here.now c.args.e.now) (next.Open (frame.Last 1)) (joined_state c.evaluate.new.state (g.S.Services.stands c.evaluate.new.svc))).asks = leads.safe c.requires.safe in
+    search rules
+
+pub sequence-returns-in-Ok-Done-clause-flows : goal.sequence-returns-in-Ok-Done-clause-flows
+sequence-returns-in-Ok-Done-clause-flows g t c =
+    let is : c.evaluate.result ≡ Ok (flow.Done c.in-Ok-Done._v) = cc in
+    flows_from c.last_part.new.codes c.args.here.now.code.now c.args.here.now.fun (spot c.args.here.now c.args.e.now) _ _ c.last_part.result (joined_state c.last_part.new.state (g.S.Services.stands c.last_part.new.svc))
+    (then_leads c.args.here.now.code.now c.args.here.now.fun c.args.e.now c.args.a.now c.args.b.now (spot c.args.here.now c.args.e.now).env c.requires.form (joined_state c.args.state.now (g.S.Services.stands c.args.svc.now)) (joined_state c.evaluate.new.state (g.S.Services.stands c.evaluate.new.svc)) c.in-Ok-Done._v (rw is at c.evaluate.ensures.flows)) c.last_part.ensures.flows
+
+pub sequence-returns-in_ok-inside-in-Ok-Wait-clause-flows : goal.sequence-returns-in_ok-inside-in-Ok-Wait-clause-flows
+sequence-returns-in_ok-inside-in-Ok-Wait-clause-flows g t c =
+    let is : c.evaluate.result ≡ Ok (flow.Wait c.in-Ok-Wait.rest) = cc in
+    rw (c.in_ok-inside-in-Ok-Wait.ensures, c.new.ensures)
+    (waits_inside c.evaluate.new.codes c.args.here.now.code.now c.args.here.now.fun (spot c.args.here.now c.args.e.now) (frame.Part 0 []) _ (then_first c.args.here.now.code.now c.args.here.now.fun c.args.e.now c.args.a.now c.args.b.now (spot c.args.here.now c.args.e.now).env c.requires.form) c.in-Ok-Wait.rest (joined_state c.evaluate.new.state (g.S.Services.stands c.evaluate.new.svc)) _ _ (first_leads c.args.here.now.code.now c.args.here.now.fun (spot c.args.here.now c.args.e.now) c.args.a.now (joined_state c.args.state.now (g.S.Services.stands c.args.svc.now)) (then_parts c.args.here.now.code.now c.args.here.now.fun c.args.e.now c.args.a.now c.args.b.now (spot c.args.here.now c.args.e.now).env c.requires.form) (then_first c.args.here.now.code.now c.args.here.now.fun c.args.e.now c.args.a.now c.args.b.now (spot c.args.here.now c.args.e.now).env c.requires.form)) (rw is at c.evaluate.ensures.flows))
+
+pub sequence-returns-in-Err-clause-flows : goal.sequence-returns-in-Err-clause-flows
+sequence-returns-in-Err-clause-flows g t c = λ other.
+    let is : c.evaluate.result ≡ Err c.in-Err.stop = cc in
+    let ends = (rw is at c.evaluate.ensures.flows) other in
+    (first_leads c.args.here.now.code.now c.args.here.now.fun (spot c.args.here.now c.args.e.now) c.args.a.now (joined_state c.args.state.now (g.S.Services.stands c.args.svc.now)) (then_parts c.args.here.now.code.now c.args.here.now.fun c.args.e.now c.args.a.now c.args.b.now (spot c.args.here.now c.args.e.now).env c.requires.form) (then_first c.args.here.now.code.now c.args.here.now.fun c.args.e.now c.args.a.now c.args.b.now (spot c.args.here.now c.args.e.now).env c.requires.form)).same ∙ part_stops_so c.args.here.now.code.now c.args.here.now.fun (spot c.args.here.now c.args.e.now) 0 [] _ c.in-Err.stop _ (then_no_try c.args.here.now.code.now c.args.here.now.fun c.args.e.now c.args.a.now c.args.b.now (spot c.args.here.now c.args.e.now).env c.requires.form) ends
+
+pub near-evaluate-requires : goal.near-evaluate-requires
+near-evaluate-requires g t c =
+    let safe : IsSafe (meaning c.args.here.now.code.now c.args.here.now.fun (spot c.args.here.now c.args.e.now).env c.args.a.now (joined_state c.args.state.now (g.S.Services.stands c.args.svc.now))).asks = first_safe c.args.here.now.code.now c.args.here.now.fun (spot c.args.here.now c.args.e.now) c.args.a.now (joined_state c.args.state.now (g.S.Services.stands c.args.svc.now)) (near_parts c.args.here.now.code.now c.args.here.now.fun c.args.e.now c.args.a.now c.args.h.now c.args.b.now c.args.d.now (spot c.args.here.now c.args.e.now).env c.requires.form) (near_chunk_at c.args.here.now.code.now c.args.here.now.fun c.args.e.now c.args.a.now c.args.h.now c.args.b.now c.args.d.now (spot c.args.here.now c.args.e.now).env c.requires.form) c.requires.safe in
+    search rules
+
+pub near-near_host-requires : goal.near-near_host-requires
+near-near_host-requires g t c =
+    let is : c.evaluate.result ≡ Ok (flow.Done c.in-Ok-Done.c) = cc in
+    let here = here_grown _ _ _ c.evaluate.ensures.grown c.requires.here in
+    let form : (a : Expr) × (out-Expr c.args.e.now ≡ Expr-F.OnNeighbor a c.args.h.now c.args.b.now c.args.d.now) = (c.args.a.now, c.requires.form) in
+    let leads = near_begins c.args.here.now.code.now c.args.here.now.fun c.args.e.now c.args.a.now c.args.h.now c.args.b.now c.args.d.now (spot c.args.here.now c.args.e.now).env c.requires.form (joined_state c.args.state.now (g.S.Services.stands c.args.svc.now)) (joined_state c.evaluate.new.state (g.S.Services.stands c.evaluate.new.svc)) c.in-Ok-Done.c (rw is at c.evaluate.ensures.flows) c.requires.safe in
+    let safe : IsSafe (resume c.args.here.now.code.now c.args.here.now.fun (spot c.args.here.now c.args.e.now) (frame.Part 1 (c.in-Ok-Done.c ∷ [])) (meaning c.args.here.now.code.now c.args.here.now.fun (spot c.args.here.now c.args.e.now).env c.args.h.now (joined_state c.evaluate.new.state (g.S.Services.stands c.evaluate.new.svc)))).asks = leads.safe c.requires.safe in
+    search rules
+
+pub near-returns-in-Ok-Done-clause-flows : goal.near-returns-in-Ok-Done-clause-flows
+near-returns-in-Ok-Done-clause-flows g t c =
+    let is : c.evaluate.result ≡ Ok (flow.Done c.in-Ok-Done.c) = cc in
+    flows_from c.near_host.new.codes c.args.here.now.code.now c.args.here.now.fun (spot c.args.here.now c.args.e.now) _ _ c.near_host.result (joined_state c.near_host.new.state (g.S.Services.stands c.near_host.new.svc))
+    (near_begins c.args.here.now.code.now c.args.here.now.fun c.args.e.now c.args.a.now c.args.h.now c.args.b.now c.args.d.now (spot c.args.here.now c.args.e.now).env c.requires.form (joined_state c.args.state.now (g.S.Services.stands c.args.svc.now)) (joined_state c.evaluate.new.state (g.S.Services.stands c.evaluate.new.svc)) c.in-Ok-Done.c (rw is at c.evaluate.ensures.flows) c.requires.safe) c.near_host.ensures.flows
+
+pub near-returns-in_ok-inside-in-Ok-Wait-clause-flows : goal.near-returns-in_ok-inside-in-Ok-Wait-clause-flows
+near-returns-in_ok-inside-in-Ok-Wait-clause-flows g t c =
+    let is : c.evaluate.result ≡ Ok (flow.Wait c.in-Ok-Wait.rest) = cc in
+    rw (c.in_ok-inside-in-Ok-Wait.ensures, c.new.ensures)
+    (waits_inside c.evaluate.new.codes c.args.here.now.code.now c.args.here.now.fun (spot c.args.here.now c.args.e.now) (frame.Part 0 []) _ (near_chunk_at c.args.here.now.code.now c.args.here.now.fun c.args.e.now c.args.a.now c.args.h.now c.args.b.now c.args.d.now (spot c.args.here.now c.args.e.now).env c.requires.form) c.in-Ok-Wait.rest (joined_state c.evaluate.new.state (g.S.Services.stands c.evaluate.new.svc)) _ _ (first_leads c.args.here.now.code.now c.args.here.now.fun (spot c.args.here.now c.args.e.now) c.args.a.now (joined_state c.args.state.now (g.S.Services.stands c.args.svc.now)) (near_parts c.args.here.now.code.now c.args.here.now.fun c.args.e.now c.args.a.now c.args.h.now c.args.b.now c.args.d.now (spot c.args.here.now c.args.e.now).env c.requires.form) (near_chunk_at c.args.here.now.code.now c.args.here.now.fun c.args.e.now c.args.a.now c.args.h.now c.args.b.now c.args.d.now (spot c.args.here.now c.args.e.now).env c.requires.form)) (rw is at c.evaluate.ensures.flows))
+
+pub near-returns-in-Err-clause-flows : goal.near-returns-in-Err-clause-flows
+near-returns-in-Err-clause-flows g t c = λ other.
+    let is : c.evaluate.result ≡ Err c.in-Err.stop = cc in
+    let ends = (rw is at c.evaluate.ensures.flows) other in
+    (first_leads c.args.here.now.code.now c.args.here.now.fun (spot c.args.here.now c.args.e.now) c.args.a.now (joined_state c.args.state.now (g.S.Services.stands c.args.svc.now)) (near_parts c.args.here.now.code.now c.args.here.now.fun c.args.e.now c.args.a.now c.args.h.now c.args.b.now c.args.d.now (spot c.args.here.now c.args.e.now).env c.requires.form) (near_chunk_at c.args.here.now.code.now c.args.here.now.fun c.args.e.now c.args.a.now c.args.h.now c.args.b.now c.args.d.now (spot c.args.here.now c.args.e.now).env c.requires.form)).same ∙ part_stops_so c.args.here.now.code.now c.args.here.now.fun (spot c.args.here.now c.args.e.now) 0 [] _ c.in-Err.stop _ (near_no_try c.args.here.now.code.now c.args.here.now.fun c.args.e.now c.args.a.now c.args.h.now c.args.b.now c.args.d.now (spot c.args.here.now c.args.e.now).env c.requires.form) ends
+
+pub near_host-evaluate-requires : goal.near_host-evaluate-requires
+near_host-evaluate-requires g t c =
+    let safe : IsSafe (meaning c.args.here.now.code.now c.args.here.now.fun (spot c.args.here.now c.args.e.now).env c.args.h.now (joined_state c.args.state.now (g.S.Services.stands c.args.svc.now))).asks = resume_asks c.args.here.now.code.now c.args.here.now.fun (spot c.args.here.now c.args.e.now) (frame.Part 1 (c.args.c ∷ [])) _ c.requires.safe in
+    search rules
+
+pub near_host-near_bound-requires : goal.near_host-near_bound-requires
+near_host-near_bound-requires g t c =
+    let is : c.evaluate.result ≡ Ok (flow.Done c.in-Ok-Done.w) = cc in
+    let here = here_grown _ _ _ c.evaluate.ensures.grown c.requires.here in
+    let form : (a h : Expr) × (out-Expr c.args.e.now ≡ Expr-F.OnNeighbor a h c.args.b.now c.args.d.now) = (c.requires.form.0, c.args.h.now, c.requires.form.1) in
+    let leads = near_to_bound c.args.here.now.code.now c.args.here.now.fun c.args.e.now c.requires.form.0 c.args.h.now c.args.b.now c.args.d.now (spot c.args.here.now c.args.e.now).env c.requires.form.1 (meaning c.args.here.now.code.now c.args.here.now.fun (spot c.args.here.now c.args.e.now).env c.args.h.now (joined_state c.args.state.now (g.S.Services.stands c.args.svc.now))) (joined_state c.evaluate.new.state (g.S.Services.stands c.evaluate.new.svc)) c.args.c c.in-Ok-Done.w (rw is at c.evaluate.ensures.flows) c.requires.safe in
+    let safe : IsSafe (resume c.args.here.now.code.now c.args.here.now.fun (spot c.args.here.now c.args.e.now) (frame.Part 2 (c.args.c ∷ c.in-Ok-Done.w ∷ [])) (meaning c.args.here.now.code.now c.args.here.now.fun (spot c.args.here.now c.args.e.now).env c.args.b.now (joined_state c.evaluate.new.state (g.S.Services.stands c.evaluate.new.svc)))).asks = leads.safe c.requires.safe in
+    search rules
+
+pub near_host-returns-in-Ok-Done-clause-flows : goal.near_host-returns-in-Ok-Done-clause-flows
+near_host-returns-in-Ok-Done-clause-flows g t c =
+    let is : c.evaluate.result ≡ Ok (flow.Done c.in-Ok-Done.w) = cc in
+    flows_from c.near_bound.new.codes c.args.here.now.code.now c.args.here.now.fun (spot c.args.here.now c.args.e.now) _ _ c.near_bound.result (joined_state c.near_bound.new.state (g.S.Services.stands c.near_bound.new.svc))
+    (near_to_bound c.args.here.now.code.now c.args.here.now.fun c.args.e.now c.requires.form.0 c.args.h.now c.args.b.now c.args.d.now (spot c.args.here.now c.args.e.now).env c.requires.form.1 (meaning c.args.here.now.code.now c.args.here.now.fun (spot c.args.here.now c.args.e.now).env c.args.h.now (joined_state c.args.state.now (g.S.Services.stands c.args.svc.now))) (joined_state c.evaluate.new.state (g.S.Services.stands c.evaluate.new.svc)) c.args.c c.in-Ok-Done.w (rw is at c.evaluate.ensures.flows) c.requires.safe) c.near_bound.ensures.flows
+
+pub near_host-returns-in_ok-inside-in-Ok-Wait-clause-flows : goal.near_host-returns-in_ok-inside-in-Ok-Wait-clause-flows
+near_host-returns-in_ok-inside-in-Ok-Wait-clause-flows g t c =
+    let is : c.evaluate.result ≡ Ok (flow.Wait c.in-Ok-Wait.rest) = cc in
+    rw (c.in_ok-inside-in-Ok-Wait.ensures, c.in_ok-behind_one-in-Ok-Wait.ensures)
+    (waits_inside c.evaluate.new.codes c.args.here.now.code.now c.args.here.now.fun (spot c.args.here.now c.args.e.now) (frame.Part 1 (c.args.c ∷ [])) _ (near_host_at c.args.here.now.code.now c.args.here.now.fun c.args.e.now c.requires.form.0 c.args.h.now c.args.b.now c.args.d.now (spot c.args.here.now c.args.e.now).env c.requires.form.1 c.args.c) c.in-Ok-Wait.rest (joined_state c.evaluate.new.state (g.S.Services.stands c.evaluate.new.svc)) _ _ (itself _) (rw is at c.evaluate.ensures.flows))
+
+pub near_host-returns-in-Err-clause-flows : goal.near_host-returns-in-Err-clause-flows
+near_host-returns-in-Err-clause-flows g t c = λ other.
+    let is : c.evaluate.result ≡ Err c.in-Err.stop = cc in
+    let ends = (rw is at c.evaluate.ensures.flows) other in
+    part_stops_so c.args.here.now.code.now c.args.here.now.fun (spot c.args.here.now c.args.e.now) 1 (c.args.c ∷ []) _ c.in-Err.stop _ (near_no_try c.args.here.now.code.now c.args.here.now.fun c.args.e.now c.requires.form.0 c.args.h.now c.args.b.now c.args.d.now (spot c.args.here.now c.args.e.now).env c.requires.form.1) ends
+
+pub near_bound-evaluate-requires : goal.near_bound-evaluate-requires
+near_bound-evaluate-requires g t c =
+    let safe : IsSafe (meaning c.args.here.now.code.now c.args.here.now.fun (spot c.args.here.now c.args.e.now).env c.args.b.now (joined_state c.args.state.now (g.S.Services.stands c.args.svc.now))).asks = resume_asks c.args.here.now.code.now c.args.here.now.fun (spot c.args.here.now c.args.e.now) (frame.Part 2 (c.args.c ∷ c.args.w ∷ [])) _ c.requires.safe in
+    search rules
+
+pub near_bound-near_dev-requires : goal.near_bound-near_dev-requires
+near_bound-near_dev-requires g t c =
+    let is : c.evaluate.result ≡ Ok (flow.Done c.in-Ok-Done.u) = cc in
+    let here = here_grown _ _ _ c.evaluate.ensures.grown c.requires.here in
+    let form : (a h b : Expr) × (out-Expr c.args.e.now ≡ Expr-F.OnNeighbor a h b c.args.d.now) = (c.requires.form.0, c.requires.form.1, c.args.b.now, c.requires.form.2) in
+    let leads = near_to_dev c.args.here.now.code.now c.args.here.now.fun c.args.e.now c.requires.form.0 c.requires.form.1 c.args.b.now c.args.d.now (spot c.args.here.now c.args.e.now).env c.requires.form.2 (meaning c.args.here.now.code.now c.args.here.now.fun (spot c.args.here.now c.args.e.now).env c.args.b.now (joined_state c.args.state.now (g.S.Services.stands c.args.svc.now))) (joined_state c.evaluate.new.state (g.S.Services.stands c.evaluate.new.svc)) c.args.c c.args.w c.in-Ok-Done.u (rw is at c.evaluate.ensures.flows) c.requires.safe in
+    let safe : IsSafe (resume c.args.here.now.code.now c.args.here.now.fun (spot c.args.here.now c.args.e.now) (frame.Part 3 (c.args.c ∷ c.args.w ∷ c.in-Ok-Done.u ∷ [])) (meaning c.args.here.now.code.now c.args.here.now.fun (spot c.args.here.now c.args.e.now).env c.args.d.now (joined_state c.evaluate.new.state (g.S.Services.stands c.evaluate.new.svc)))).asks = leads.safe c.requires.safe in
+    search rules
+
+pub near_bound-returns-in-Ok-Done-clause-flows : goal.near_bound-returns-in-Ok-Done-clause-flows
+near_bound-returns-in-Ok-Done-clause-flows g t c =
+    let is : c.evaluate.result ≡ Ok (flow.Done c.in-Ok-Done.u) = cc in
+    flows_from c.near_dev.new.codes c.args.here.now.code.now c.args.here.now.fun (spot c.args.here.now c.args.e.now) _ _ c.near_dev.result (joined_state c.near_dev.new.state (g.S.Services.stands c.near_dev.new.svc))
+    (near_to_dev c.args.here.now.code.now c.args.here.now.fun c.args.e.now c.requires.form.0 c.requires.form.1 c.args.b.now c.args.d.now (spot c.args.here.now c.args.e.now).env c.requires.form.2 (meaning c.args.here.now.code.now c.args.here.now.fun (spot c.args.here.now c.args.e.now).env c.args.b.now (joined_state c.args.state.now (g.S.Services.stands c.args.svc.now))) (joined_state c.evaluate.new.state (g.S.Services.stands c.evaluate.new.svc)) c.args.c c.args.w c.in-Ok-Done.u (rw is at c.evaluate.ensures.flows) c.requires.safe) c.near_dev.ensures.flows
+
+pub near_bound-returns-in_ok-inside-in-Ok-Wait-clause-flows : goal.near_bound-returns-in_ok-inside-in-Ok-Wait-clause-flows
+near_bound-returns-in_ok-inside-in-Ok-Wait-clause-flows g t c =
+    let is : c.evaluate.result ≡ Ok (flow.Wait c.in-Ok-Wait.rest) = cc in
+    rw (c.in_ok-inside-in-Ok-Wait.ensures, c.in_ok-behind_two-in-Ok-Wait.ensures)
+    (waits_inside c.evaluate.new.codes c.args.here.now.code.now c.args.here.now.fun (spot c.args.here.now c.args.e.now) (frame.Part 2 (c.args.c ∷ c.args.w ∷ [])) _ (near_bound_at c.args.here.now.code.now c.args.here.now.fun c.args.e.now c.requires.form.0 c.requires.form.1 c.args.b.now c.args.d.now (spot c.args.here.now c.args.e.now).env c.requires.form.2 c.args.c c.args.w) c.in-Ok-Wait.rest (joined_state c.evaluate.new.state (g.S.Services.stands c.evaluate.new.svc)) _ _ (itself _) (rw is at c.evaluate.ensures.flows))
+
+pub near_bound-returns-in-Err-clause-flows : goal.near_bound-returns-in-Err-clause-flows
+near_bound-returns-in-Err-clause-flows g t c = λ other.
+    let is : c.evaluate.result ≡ Err c.in-Err.stop = cc in
+    let ends = (rw is at c.evaluate.ensures.flows) other in
+    part_stops_so c.args.here.now.code.now c.args.here.now.fun (spot c.args.here.now c.args.e.now) 2 (c.args.c ∷ c.args.w ∷ []) _ c.in-Err.stop _ (near_no_try c.args.here.now.code.now c.args.here.now.fun c.args.e.now c.requires.form.0 c.requires.form.1 c.args.b.now c.args.d.now (spot c.args.here.now c.args.e.now).env c.requires.form.2) ends
+
+pub near_dev-evaluate-requires : goal.near_dev-evaluate-requires
+near_dev-evaluate-requires g t c =
+    let safe : IsSafe (meaning c.args.here.now.code.now c.args.here.now.fun (spot c.args.here.now c.args.e.now).env c.args.d.now (joined_state c.args.state.now (g.S.Services.stands c.args.svc.now))).asks = resume_asks c.args.here.now.code.now c.args.here.now.fun (spot c.args.here.now c.args.e.now) (frame.Part 3 (c.args.c ∷ c.args.w ∷ c.args.u ∷ [])) _ c.requires.safe in
+    search rules
+
+pub near_dev-send_values-requires : goal.near_dev-send_values-requires
+near_dev-send_values-requires g t c =
+    let is : c.evaluate.result ≡ Ok (flow.Done c.in-Ok-Done.v) = cc in
+    record { safe = near_is_safe c.args.here.now.code.now c.args.here.now.fun c.args.e.now c.requires.form.0 c.requires.form.1 c.requires.form.2 c.args.d.now (spot c.args.here.now c.args.e.now).env c.requires.form.3 (meaning c.args.here.now.code.now c.args.here.now.fun (spot c.args.here.now c.args.e.now).env c.args.d.now (joined_state c.args.state.now (g.S.Services.stands c.args.svc.now))) c.evaluate.new.state (g.S.Services.stands c.evaluate.new.svc) c.args.c c.args.w c.args.u c.in-Ok-Done.v (rw is at c.evaluate.ensures.flows) c.requires.safe }
+
+pub near_dev-returns-in-Ok-Done-clause-flows : goal.near_dev-returns-in-Ok-Done-clause-flows
+near_dev-returns-in-Ok-Done-clause-flows g t c =
+    let is : c.evaluate.result ≡ Ok (flow.Done c.in-Ok-Done.v) = cc in
+    flows_from c.evaluate.new.codes c.args.here.now.code.now c.args.here.now.fun (spot c.args.here.now c.args.e.now) _ _ c.send_values.result (joined_state c.send_values.new.state (g.S.Services.stands c.evaluate.new.svc))
+    (part_came c.args.here.now.code.now c.args.here.now.fun (spot c.args.here.now c.args.e.now) 3 (c.args.c ∷ c.args.w ∷ c.args.u ∷ []) (meaning c.args.here.now.code.now c.args.here.now.fun (spot c.args.here.now c.args.e.now).env c.args.d.now (joined_state c.args.state.now (g.S.Services.stands c.args.svc.now))) c.in-Ok-Done.v (joined_state c.evaluate.new.state (g.S.Services.stands c.evaluate.new.svc)) (rw is at c.evaluate.ensures.flows))
+    (c.send_values.ensures.flows c.evaluate.new.codes c.args.here.now.code.now c.args.here.now.fun c.args.e.now c.requires.form.0 c.requires.form.1 c.requires.form.2 c.args.d.now (spot c.args.here.now c.args.e.now).env (g.S.Services.stands c.evaluate.new.svc) c.requires.form.3)
+
+pub near_dev-returns-in_ok-inside-in-Ok-Wait-clause-flows : goal.near_dev-returns-in_ok-inside-in-Ok-Wait-clause-flows
+near_dev-returns-in_ok-inside-in-Ok-Wait-clause-flows g t c =
+    let is : c.evaluate.result ≡ Ok (flow.Wait c.in-Ok-Wait.rest) = cc in
+    rw (c.in_ok-inside-in-Ok-Wait.ensures, c.in_ok-behind_three-in-Ok-Wait.ensures)
+    (waits_inside c.evaluate.new.codes c.args.here.now.code.now c.args.here.now.fun (spot c.args.here.now c.args.e.now) (frame.Part 3 (c.args.c ∷ c.args.w ∷ c.args.u ∷ [])) _ (near_dev_at c.args.here.now.code.now c.args.here.now.fun c.args.e.now c.requires.form.0 c.requires.form.1 c.requires.form.2 c.args.d.now (spot c.args.here.now c.args.e.now).env c.requires.form.3 c.args.c c.args.w c.args.u) c.in-Ok-Wait.rest (joined_state c.evaluate.new.state (g.S.Services.stands c.evaluate.new.svc)) _ _ (itself _) (rw is at c.evaluate.ensures.flows))
+
+pub near_dev-returns-in-Err-clause-flows : goal.near_dev-returns-in-Err-clause-flows
+near_dev-returns-in-Err-clause-flows g t c = λ other.
+    let is : c.evaluate.result ≡ Err c.in-Err.stop = cc in
+    let ends = (rw is at c.evaluate.ensures.flows) other in
+    part_stops_so c.args.here.now.code.now c.args.here.now.fun (spot c.args.here.now c.args.e.now) 3 (c.args.c ∷ c.args.w ∷ c.args.u ∷ []) _ c.in-Err.stop _ (near_no_try c.args.here.now.code.now c.args.here.now.fun c.args.e.now c.requires.form.0 c.requires.form.1 c.requires.form.2 c.args.d.now (spot c.args.here.now c.args.e.now).env c.requires.form.3) ends
+
+pub other_form-sequence-requires : goal.other_form-sequence-requires
+other_form-sequence-requires g t c =
+    let form : out-Expr c.args.e.now ≡ Expr-F.Then c.get-a.result.now c.get-b.result.now = rw (c.in-Then.is, c.get-a.ensures, c.get-b.ensures) (then_form c.in-Then.a c.in-Then.b) in
+    search rules
+
+pub other_form-near-requires : goal.other_form-near-requires
+other_form-near-requires g t c =
+    let form : out-Expr c.args.e.now ≡ Expr-F.OnNeighbor c.get-a-in-OnNeighbor.result.now c.get-h.result.now c.get-b-in-OnNeighbor.result.now c.get-d.result.now =
+    rw (c.in-OnNeighbor.is, c.get-a-in-OnNeighbor.ensures, c.get-h.ensures, c.get-b-in-OnNeighbor.ensures, c.get-d.ensures) (near_form c.in-OnNeighbor.a c.in-OnNeighbor.h c.in-OnNeighbor.b c.in-OnNeighbor.d) in
+    search rules

@@ -93,3 +93,21 @@ decreases-under_name g l = 9 * l.state.now.work + 1
 
 abbrev pub decreases-row : goal.decreases-row
 decreases-row g l = 9 * l.state.now.work + 8
+
+abbrev pub decreases-other_form : goal.decreases-other_form
+decreases-other_form g l = 9 * l.state.now.work + 7
+
+abbrev pub decreases-sequence : goal.decreases-sequence
+decreases-sequence g l = 9 * l.state.now.work + 2
+
+abbrev pub decreases-near : goal.decreases-near
+decreases-near g l = 9 * l.state.now.work + 4
+
+abbrev pub decreases-near_host : goal.decreases-near_host
+decreases-near_host g l = 9 * l.state.now.work + 3
+
+abbrev pub decreases-near_bound : goal.decreases-near_bound
+decreases-near_bound g l = 9 * l.state.now.work + 2
+
+abbrev pub decreases-near_dev : goal.decreases-near_dev
+decreases-near_dev g l = 9 * l.state.now.work + 1

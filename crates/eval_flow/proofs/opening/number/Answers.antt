@@ -8,6 +8,6 @@ use Rattle.eval_flow.proofs.opening.number.Goals as goal
 
 pub returns-clause-flows : goal.returns-clause-flows
 returns-clause-flows c codes m =
-    flows_from codes c.args.here.now.code.now c.args.here.now.fun (spot c.args.here.now c.args.e.now) _ _ c.ended_by_value.result (joined_state c.ended_by_value.new.state m)
+    flows_from codes c.args.here.now.code.now c.args.here.now.fun (spot c.args.here.now c.args.e.now) _ _ c.ended_by_number.result (joined_state c.ended_by_number.new.state m)
     (number_gives c.args.here.now.code.now c.args.here.now.fun c.args.e.now _ (spot c.args.here.now c.args.e.now).env (joined_state c.args.state.now m) c.requires.form)
-    (rw (to_z-of_z w64 c.args.n c.ranges.n) at (c.ended_by_value.ensures.flows codes c.args.here.now.code.now c.args.here.now.fun (spot c.args.here.now c.args.e.now) m))
+    (rw (to_z-of_z w64 c.args.n c.ranges.n) at (c.ended_by_number.ensures.flows codes c.args.here.now.code.now c.args.here.now.fun (spot c.args.here.now c.args.e.now) m))

@@ -1,6 +1,8 @@
-use Rattle.std.proofs.Common.{◌≡◌, ◌++◌}
+use Rattle.std.proofs.Common.{◌≡◌, ◌+◌, ◌++◌, length}
+use Rattle.std.specs.Prelude.{vec_len, vec_capacity}
 use Rattle.world_model.specs.World.{lines_at}
 use Rattle.net_world.proofs.lines.with_acts.Given as goal
 
 abbrev pub invariant-loop-act : goal.invariant-loop-act
-invariant-loop-act l = l.lines ≡ l.initial.lines ++ lines_at l.host l.yielded
+invariant-loop-act l = (l.lines.items ≡ l.initial.lines.items ++ lines_at l.host l.yielded)
+    × (vec_len l.initial.lines + length l.yielded ≡ vec_len l.lines) × (vec_capacity l.lines ≡ vec_capacity l.initial.lines)

@@ -1,7 +1,8 @@
-use Rattle.std.proofs.Common.{◌≡◌}
-use Rattle.std.specs.Prelude.{map}
+use Rattle.std.proofs.Common.{◌≡◌, length}
+use Rattle.std.specs.Prelude.{map, vec_len, vec_capacity}
 use Rattle.node_model.specs.Node.{packet_sending}
 use Rattle.node_parts.proofs.outgoing.visit_sendings.Given as goal
 
 abbrev pub invariant-loop-sent : goal.invariant-loop-sent
-invariant-loop-sent l = l.sends ≡ map (packet_sending l.mark) l.yielded
+invariant-loop-sent l = (l.sends.items ≡ map (packet_sending l.mark) l.yielded)
+    × (vec_len l.sends ≡ length l.yielded) × (vec_capacity l.sends ≡ length l.fn.outbox)

@@ -5,7 +5,7 @@ use Rattle.plan_lexer.proofs.RuleLemmas.{tokens_rules}
 use Rattle.plan_lexer.proofs.lexing.lex.Goals as goal
 
 pub moves-init : goal.moves-init
-moves-init c = record { sofar = begins c.args.text.now _ c.new-tokens.ensures; place = search rules }
+moves-init c = record { sofar = begins c.args.text.now _ c.in_ok-tokens.ensures; place = search rules }
 
 pub moves-preserved : goal.moves-preserved
 moves-preserved c = record {
@@ -21,11 +21,11 @@ pub returns-clause-only : goal.returns-clause-only
 returns-clause-only c = λ ts h. Toks-unique 0 c.args.text.now c.moves.tokens ts (whole c.args.text.now c.moves.tokens c.moves.at c.moves.rest.now c.moves.invariant.sofar (grind (arith, nat_tests))) h
 
 pub returns-in_err-kind-clause-fault : goal.returns-in_err-kind-clause-fault
-returns-in_err-kind-clause-fault c = fault_by c.from_residual.result c.in_err-kind.field-0.0 c.args.text.now c.from_residual.ensures.1
+returns-in_err-kind-clause-fault c = fault_by c.from_residual-in_err-kind.result c.in_err-kind.field-0.0 c.args.text.now c.from_residual-in_err-kind.ensures.1
     (refusal_stops c.args.text.now c.moves.tokens c.moves.at c.moves.rest.now c.in_err-kind.field-0.0 c.moves.invariant.sofar (grind (arith, nat_tests)) c.in_err-kind.ensures.value)
 
 pub returns-in_err-kind-clause-only : goal.returns-in_err-kind-clause-only
-returns-in_err-kind-clause-only c = only_by c.from_residual.result c.in_err-kind.field-0.0 c.args.text.now c.from_residual.ensures.1
+returns-in_err-kind-clause-only c = only_by c.from_residual-in_err-kind.result c.in_err-kind.field-0.0 c.args.text.now c.from_residual-in_err-kind.ensures.1
     (refusal_stops c.args.text.now c.moves.tokens c.moves.at c.moves.rest.now c.in_err-kind.field-0.0 c.moves.invariant.sofar (grind (arith, nat_tests)) c.in_err-kind.ensures.value)
 
 pub returns-clause-kept : goal.returns-clause-kept

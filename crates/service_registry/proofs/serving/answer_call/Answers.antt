@@ -1,4 +1,5 @@
 use Rattle.std.proofs.Common.{◌∙◌, sym}
+use Rattle.std.specs.Option.{option_copied}
 use Rattle.service_api.specs.Services.{refused_call}
 use Rattle.service_meaning.specs.Serving.{serve_at}
 use Rattle.service_registry.specs.RegistryState.{rows_over}
@@ -20,3 +21,11 @@ returns-clause-meets c =
     meets_as _ (serve_at c.in_ok-found.found c.in-Some.service c.args.args.now c.args.ctx.now rows) rows (rows_over c.args.base.now c.served_at.new.changes) c.served_at.result
     (served_some (present_of c.args.there) c.args.svc.now c.args.args.now c.args.ctx.now rows c.in-Some.service c.in_ok-found.found (sym c.in-Some.is ∙ c.installed_service.ensures) c.in_ok-found.ensures)
     c.served_at.ensures.meets
+
+pub returns-in-Some-type_at_hand-clause-meets : goal.returns-in-Some-type_at_hand-clause-meets
+returns-in-Some-type_at_hand-clause-meets c =
+    let rows = rows_over c.args.base.now c.args.changes.now in
+    let known = option_copied c.in-Some-type_at_hand.known in
+    meets_as _ (serve_at known c.in-Some.service c.args.args.now c.args.ctx.now rows) rows (rows_over c.args.base.now c.served_by.new.changes) c.served_by.result
+    (served_some (present_of c.args.there) c.args.svc.now c.args.args.now c.args.ctx.now rows c.in-Some.service known (sym c.in-Some.is ∙ c.installed_service.ensures) c.in-Some-type_at_hand.ensures)
+    c.served_by.ensures.meets

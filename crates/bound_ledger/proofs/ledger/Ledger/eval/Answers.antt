@@ -1,27 +1,14 @@
-use Rattle.std.proofs.Common.{ap, ◌∙◌, arith}
+use Rattle.std.proofs.Common.{sym, ap, ◌∙◌, arith}
 use Rattle.bound_ledger.specs.Counts.{paid}
 use Rattle.bound_ledger.specs.Rows.{changed_rows}
-use Rattle.bound_ledger.proofs.KeyLaws.{row_moved, none_moved, counts_at, row_balanced, kept_set}
+use Rattle.bound_ledger.proofs.RowLaws.{changed_none, counts_some}
 use Rattle.bound_ledger.proofs.ledger.Ledger.eval.Goals as goal
 
-pub with_evals-requires-clause-balanced : goal.with_evals-requires-clause-balanced
-with_evals-requires-clause-balanced c = row_balanced c.of.result c.self.inside.rows.entries c.in-Some.place.now c.self.invariant c.in-Some.ensures.value
-
 pub with_evals-requires-clause-live : goal.with_evals-requires-clause-live
-with_evals-requires-clause-live c =
-    let counts = counts_at c.args.f c.of.result c.in-Some.place.now c.self.inside.rows.entries c.args.self.now c.of.ensures c.in-Some.ensures.value c.self.view_is in
-    omega (arith, c.requires.live, ap (λ r. r.live) counts)
+with_evals-requires-clause-live c = omega (arith, c.requires.live, ap (λ r. r.live) (counts_some c.args.f c.args.self.now c.in-Some.row (sym c.in-Some.ensures.row)))
 
 pub returns-in_default : goal.returns-in_default
-returns-in_default c =
-    none_moved (paid c.args.n) c.args.f c.of.result c.self.inside.rows.entries c.get_mut.follows.lender-at-none.entries c.of.ensures c.in_default.ensures.value (ap (λ m. m.entries) c.get_mut.follows.holds-at-none)
-    ∙ ap (changed_rows (paid c.args.n) c.args.f) c.self.view_is
-
-pub invariant_of-self-2 : goal.invariant_of-self-2
-invariant_of-self-2 c =
-    kept_set c.of.result c.with_evals.result c.self.inside.rows.entries (c.get_mut.follows.lender c.with_evals.result).entries c.with_evals.ensures.balanced c.self.invariant (c.get_mut.follows.holds c.with_evals.result).0
+returns-in_default c = c.find.ensures.same ∙ sym (changed_none (paid c.args.n) c.args.f c.args.self.now (sym c.in_default.ensures.row))
 
 pub returns : goal.returns
-returns c =
-    row_moved (paid c.args.n) c.args.f c.of.result c.in-Some.place.now c.with_evals.result c.self.inside.rows.entries (c.get_mut.follows.lender c.with_evals.result).entries c.of.ensures c.get_mut.ensures.unique c.in-Some.ensures.value c.with_evals.ensures.row (c.get_mut.follows.holds c.with_evals.result).0
-    ∙ ap (changed_rows (paid c.args.n) c.args.f) c.self.view_is
+returns c = c.put.ensures (paid c.args.n) c.args.f c.in-Some.row c.in-Some.ensures.place c.with_evals.ensures.row ∙ ap (changed_rows (paid c.args.n) c.args.f) c.find.ensures.same

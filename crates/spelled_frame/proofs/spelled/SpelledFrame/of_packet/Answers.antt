@@ -6,7 +6,7 @@ use Rattle.spelled_frame.proofs.spelled.SpelledFrame.of_packet.Goals as goal
 
 pub invariant_of-result : goal.invariant_of-result
 invariant_of-result c =
-    let x = packet_frame c.args.mark c.args.packet.now c.args.bound in
+    let x = packet_frame c.args.mark c.args.packet c.args.bound in
     let bytes = c.in_ok-bytes.bytes in
     let read = ap (λ v. frame_in v bytes) c.version_of.ensures ∙ frame_is_read (version_of c.args.mark) bytes x c.in_ok-bytes.ensures in (
       subst (λ v. IsSpelled v bytes (what.Packet c.family.result c.args.bound)) (sym c.version_of.ensures)
@@ -16,4 +16,4 @@ invariant_of-result c =
 
 pub returns : goal.returns
 returns c = ap (λ v. frame_in v c.in_ok-bytes.bytes) c.version_of.ensures
-    ∙ frame_is_read (version_of c.args.mark) c.in_ok-bytes.bytes (packet_frame c.args.mark c.args.packet.now c.args.bound) c.in_ok-bytes.ensures
+    ∙ frame_is_read (version_of c.args.mark) c.in_ok-bytes.bytes (packet_frame c.args.mark c.args.packet c.args.bound) c.in_ok-bytes.ensures
