@@ -39,7 +39,8 @@ fn expr_with_tag(
     tag: ExprTag,
 ) -> Result<Expr, SpellFault>
     requires { 0 < room }
-    ensures { Gives result s.new (expr_behind (expr_at (room - 1)) (clauses_at (clause_at (expr_at (room - 1)))) tag s.old) }
+    ensures { Gives result s.new (expr_behind (expr_at (room - 1))
+        (clauses_at (clause_at (expr_at (room - 1)))) tag s.old) }
 {
     match tag {
         ExprTag::Unit => Ok(Expr::Unit),
@@ -82,7 +83,8 @@ fn expr_with_tag(
 #[tactic(auto, unfolding(crate::specs::Reading::expr_behind, chunk_spelling::specs::Parts::counted_at, chunk_spelling::specs::Exprs::clauses_at))]
 fn tuple_behind(alloc: Global, s: &mut Source<'_>, room: u32) -> Result<Expr, SpellFault>
     requires { 0 < room }
-    ensures { Gives result s.new (expr_behind (expr_at (room - 1)) (clauses_at (clause_at (expr_at (room - 1)))) ExprTag.Tuple s.old) }
+    ensures { Gives result s.new (expr_behind (expr_at (room - 1))
+        (clauses_at (clause_at (expr_at (room - 1)))) ExprTag.Tuple s.old) }
 {
     let count = s.count(Limit::Parts, 2, 8)?;
     let parts = exprs_of(alloc, s, room - 1, count)?;
@@ -94,7 +96,8 @@ fn tuple_behind(alloc: Global, s: &mut Source<'_>, room: u32) -> Result<Expr, Sp
 #[tactic(auto, unfolding(crate::specs::Reading::expr_behind, chunk_spelling::specs::Parts::counted_at, chunk_spelling::specs::Exprs::clauses_at))]
 fn call_behind(alloc: Global, s: &mut Source<'_>, room: u32) -> Result<Expr, SpellFault>
     requires { 0 < room }
-    ensures { Gives result s.new (expr_behind (expr_at (room - 1)) (clauses_at (clause_at (expr_at (room - 1)))) ExprTag.Call s.old) }
+    ensures { Gives result s.new (expr_behind (expr_at (room - 1))
+        (clauses_at (clause_at (expr_at (room - 1)))) ExprTag.Call s.old) }
 {
     let name = s.name(alloc)?;
     let count = s.count(Limit::Arguments, 0, 8)?;
@@ -107,7 +110,8 @@ fn call_behind(alloc: Global, s: &mut Source<'_>, room: u32) -> Result<Expr, Spe
 #[tactic(auto, unfolding(crate::specs::Reading::expr_behind, chunk_spelling::specs::Parts::counted_at, chunk_spelling::specs::Exprs::clauses_at))]
 fn choice_behind(alloc: Global, s: &mut Source<'_>, room: u32) -> Result<Expr, SpellFault>
     requires { 0 < room }
-    ensures { Gives result s.new (expr_behind (expr_at (room - 1)) (clauses_at (clause_at (expr_at (room - 1)))) ExprTag.If s.old) }
+    ensures { Gives result s.new (expr_behind (expr_at (room - 1))
+        (clauses_at (clause_at (expr_at (room - 1)))) ExprTag.If s.old) }
 {
     let first = boxed_expr(alloc, s, room - 1)?;
     let second = boxed_expr(alloc, s, room - 1)?;
@@ -120,7 +124,8 @@ fn choice_behind(alloc: Global, s: &mut Source<'_>, room: u32) -> Result<Expr, S
 #[tactic(auto, unfolding(crate::specs::Reading::expr_behind, chunk_spelling::specs::Parts::counted_at, chunk_spelling::specs::Exprs::clauses_at))]
 fn binding_behind(alloc: Global, s: &mut Source<'_>, room: u32) -> Result<Expr, SpellFault>
     requires { 0 < room }
-    ensures { Gives result s.new (expr_behind (expr_at (room - 1)) (clauses_at (clause_at (expr_at (room - 1)))) ExprTag.Let s.old) }
+    ensures { Gives result s.new (expr_behind (expr_at (room - 1))
+        (clauses_at (clause_at (expr_at (room - 1)))) ExprTag.Let s.old) }
 {
     let name = s.name(alloc)?;
     let ty = type_of(alloc, s, 8)?;
@@ -134,7 +139,8 @@ fn binding_behind(alloc: Global, s: &mut Source<'_>, room: u32) -> Result<Expr, 
 #[tactic(auto, unfolding(crate::specs::Reading::expr_behind, chunk_spelling::specs::Parts::counted_at, chunk_spelling::specs::Exprs::clauses_at))]
 fn sequence_behind(alloc: Global, s: &mut Source<'_>, room: u32) -> Result<Expr, SpellFault>
     requires { 0 < room }
-    ensures { Gives result s.new (expr_behind (expr_at (room - 1)) (clauses_at (clause_at (expr_at (room - 1)))) ExprTag.Then s.old) }
+    ensures { Gives result s.new (expr_behind (expr_at (room - 1))
+        (clauses_at (clause_at (expr_at (room - 1)))) ExprTag.Then s.old) }
 {
     let first = boxed_expr(alloc, s, room - 1)?;
     let second = boxed_expr(alloc, s, room - 1)?;
@@ -146,7 +152,8 @@ fn sequence_behind(alloc: Global, s: &mut Source<'_>, room: u32) -> Result<Expr,
 #[tactic(auto, unfolding(crate::specs::Reading::expr_behind, chunk_spelling::specs::Parts::counted_at, chunk_spelling::specs::Exprs::clauses_at))]
 fn both_behind(alloc: Global, s: &mut Source<'_>, room: u32) -> Result<Expr, SpellFault>
     requires { 0 < room }
-    ensures { Gives result s.new (expr_behind (expr_at (room - 1)) (clauses_at (clause_at (expr_at (room - 1)))) ExprTag.And s.old) }
+    ensures { Gives result s.new (expr_behind (expr_at (room - 1))
+        (clauses_at (clause_at (expr_at (room - 1)))) ExprTag.And s.old) }
 {
     let first = boxed_expr(alloc, s, room - 1)?;
     let second = boxed_expr(alloc, s, room - 1)?;
@@ -158,7 +165,8 @@ fn both_behind(alloc: Global, s: &mut Source<'_>, room: u32) -> Result<Expr, Spe
 #[tactic(auto, unfolding(crate::specs::Reading::expr_behind, chunk_spelling::specs::Parts::counted_at, chunk_spelling::specs::Exprs::clauses_at))]
 fn either_behind(alloc: Global, s: &mut Source<'_>, room: u32) -> Result<Expr, SpellFault>
     requires { 0 < room }
-    ensures { Gives result s.new (expr_behind (expr_at (room - 1)) (clauses_at (clause_at (expr_at (room - 1)))) ExprTag.Or s.old) }
+    ensures { Gives result s.new (expr_behind (expr_at (room - 1))
+        (clauses_at (clause_at (expr_at (room - 1)))) ExprTag.Or s.old) }
 {
     let first = boxed_expr(alloc, s, room - 1)?;
     let second = boxed_expr(alloc, s, room - 1)?;
@@ -170,7 +178,8 @@ fn either_behind(alloc: Global, s: &mut Source<'_>, room: u32) -> Result<Expr, S
 #[tactic(auto, unfolding(crate::specs::Reading::expr_behind, chunk_spelling::specs::Parts::counted_at, chunk_spelling::specs::Exprs::clauses_at))]
 fn operation_behind(alloc: Global, s: &mut Source<'_>, room: u32) -> Result<Expr, SpellFault>
     requires { 0 < room }
-    ensures { Gives result s.new (expr_behind (expr_at (room - 1)) (clauses_at (clause_at (expr_at (room - 1)))) ExprTag.Binary s.old) }
+    ensures { Gives result s.new (expr_behind (expr_at (room - 1))
+        (clauses_at (clause_at (expr_at (room - 1)))) ExprTag.Binary s.old) }
 {
     let op = s.operator()?;
     let first = boxed_expr(alloc, s, room - 1)?;
@@ -183,7 +192,8 @@ fn operation_behind(alloc: Global, s: &mut Source<'_>, room: u32) -> Result<Expr
 #[tactic(auto, unfolding(crate::specs::Reading::expr_behind, chunk_spelling::specs::Parts::counted_at, chunk_spelling::specs::Exprs::clauses_at))]
 fn part_behind(alloc: Global, s: &mut Source<'_>, room: u32) -> Result<Expr, SpellFault>
     requires { 0 < room }
-    ensures { Gives result s.new (expr_behind (expr_at (room - 1)) (clauses_at (clause_at (expr_at (room - 1)))) ExprTag.Part s.old) }
+    ensures { Gives result s.new (expr_behind (expr_at (room - 1))
+        (clauses_at (clause_at (expr_at (room - 1)))) ExprTag.Part s.old) }
 {
     let number = s.count(Limit::Parts, 1, 8)?;
     let first = boxed_expr(alloc, s, room - 1)?;
@@ -195,7 +205,8 @@ fn part_behind(alloc: Global, s: &mut Source<'_>, room: u32) -> Result<Expr, Spe
 #[tactic(auto, unfolding(crate::specs::Reading::expr_behind, chunk_spelling::specs::Parts::counted_at, chunk_spelling::specs::Exprs::clauses_at))]
 fn handling_behind(alloc: Global, s: &mut Source<'_>, room: u32) -> Result<Expr, SpellFault>
     requires { 0 < room }
-    ensures { Gives result s.new (expr_behind (expr_at (room - 1)) (clauses_at (clause_at (expr_at (room - 1)))) ExprTag.Try s.old) }
+    ensures { Gives result s.new (expr_behind (expr_at (room - 1))
+        (clauses_at (clause_at (expr_at (room - 1)))) ExprTag.Try s.old) }
 {
     let first = boxed_expr(alloc, s, room - 1)?;
     let count = s.count(Limit::Clauses, 1, 8)?;
@@ -208,7 +219,8 @@ fn handling_behind(alloc: Global, s: &mut Source<'_>, room: u32) -> Result<Expr,
 #[tactic(auto, unfolding(crate::specs::Reading::expr_behind, chunk_spelling::specs::Parts::counted_at, chunk_spelling::specs::Exprs::clauses_at))]
 fn fold_left_behind(alloc: Global, s: &mut Source<'_>, room: u32) -> Result<Expr, SpellFault>
     requires { 0 < room }
-    ensures { Gives result s.new (expr_behind (expr_at (room - 1)) (clauses_at (clause_at (expr_at (room - 1)))) ExprTag.Foldl s.old) }
+    ensures { Gives result s.new (expr_behind (expr_at (room - 1))
+        (clauses_at (clause_at (expr_at (room - 1)))) ExprTag.Foldl s.old) }
 {
     let name = s.name(alloc)?;
     let first = boxed_expr(alloc, s, room - 1)?;
@@ -221,7 +233,8 @@ fn fold_left_behind(alloc: Global, s: &mut Source<'_>, room: u32) -> Result<Expr
 #[tactic(auto, unfolding(crate::specs::Reading::expr_behind, chunk_spelling::specs::Parts::counted_at, chunk_spelling::specs::Exprs::clauses_at))]
 fn fold_right_behind(alloc: Global, s: &mut Source<'_>, room: u32) -> Result<Expr, SpellFault>
     requires { 0 < room }
-    ensures { Gives result s.new (expr_behind (expr_at (room - 1)) (clauses_at (clause_at (expr_at (room - 1)))) ExprTag.Foldr s.old) }
+    ensures { Gives result s.new (expr_behind (expr_at (room - 1))
+        (clauses_at (clause_at (expr_at (room - 1)))) ExprTag.Foldr s.old) }
 {
     let name = s.name(alloc)?;
     let first = boxed_expr(alloc, s, room - 1)?;
@@ -234,7 +247,8 @@ fn fold_right_behind(alloc: Global, s: &mut Source<'_>, room: u32) -> Result<Exp
 #[tactic(auto, unfolding(crate::specs::Reading::expr_behind, chunk_spelling::specs::Parts::counted_at, chunk_spelling::specs::Exprs::clauses_at))]
 fn packing_behind(alloc: Global, s: &mut Source<'_>, room: u32) -> Result<Expr, SpellFault>
     requires { 0 < room }
-    ensures { Gives result s.new (expr_behind (expr_at (room - 1)) (clauses_at (clause_at (expr_at (room - 1)))) ExprTag.ChunkOf s.old) }
+    ensures { Gives result s.new (expr_behind (expr_at (room - 1))
+        (clauses_at (clause_at (expr_at (room - 1)))) ExprTag.ChunkOf s.old) }
 {
     let name = s.name(alloc)?;
     let count = s.count(Limit::Arguments, 0, 8)?;
@@ -247,7 +261,8 @@ fn packing_behind(alloc: Global, s: &mut Source<'_>, room: u32) -> Result<Expr, 
 #[tactic(auto, unfolding(crate::specs::Reading::expr_behind, chunk_spelling::specs::Parts::counted_at, chunk_spelling::specs::Exprs::clauses_at))]
 fn remote_behind(alloc: Global, s: &mut Source<'_>, room: u32) -> Result<Expr, SpellFault>
     requires { 0 < room }
-    ensures { Gives result s.new (expr_behind (expr_at (room - 1)) (clauses_at (clause_at (expr_at (room - 1)))) ExprTag.OnRemote s.old) }
+    ensures { Gives result s.new (expr_behind (expr_at (room - 1))
+        (clauses_at (clause_at (expr_at (room - 1)))) ExprTag.OnRemote s.old) }
 {
     let first = boxed_expr(alloc, s, room - 1)?;
     let second = boxed_expr(alloc, s, room - 1)?;
@@ -261,7 +276,8 @@ fn remote_behind(alloc: Global, s: &mut Source<'_>, room: u32) -> Result<Expr, S
 #[tactic(auto, unfolding(crate::specs::Reading::expr_behind, chunk_spelling::specs::Parts::counted_at, chunk_spelling::specs::Exprs::clauses_at))]
 fn neighbour_behind(alloc: Global, s: &mut Source<'_>, room: u32) -> Result<Expr, SpellFault>
     requires { 0 < room }
-    ensures { Gives result s.new (expr_behind (expr_at (room - 1)) (clauses_at (clause_at (expr_at (room - 1)))) ExprTag.OnNeighbor s.old) }
+    ensures { Gives result s.new (expr_behind (expr_at (room - 1))
+        (clauses_at (clause_at (expr_at (room - 1)))) ExprTag.OnNeighbor s.old) }
 {
     let first = boxed_expr(alloc, s, room - 1)?;
     let second = boxed_expr(alloc, s, room - 1)?;

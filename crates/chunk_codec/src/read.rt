@@ -43,7 +43,8 @@ pub fn get_type(alloc: Global, c: &mut Cursor<'_>) -> Result<Ty, SpellFault>
     ensures found { IfOk result (λ x. SpelledAt a_whole_type c.old x c.new) }
     ensures only { (x : Ty) (g : Front) → SpelledAt a_whole_type c.old x g
         → MatchResult result (λ y. (y ≡ x) × (c.new ≡ g)) (λ e. e ≡ SpellFault.NoMemory) }
-    ensures fault { IfErr result (λ e. (e ≡ SpellFault.NoMemory) ⊎ FirstFaultAt e (a_type 8) c.old) }
+    ensures fault { IfErr result (λ e. (e ≡ SpellFault.NoMemory) ⊎ FirstFaultAt e
+        (a_type 8) c.old) }
     ensures stays { OnErr result (c.new ≡ c.old) }
 {
     let mut s = Source::at(c.fork());
@@ -60,7 +61,8 @@ pub fn get_value(alloc: Global, c: &mut Cursor<'_>) -> Result<Value, SpellFault>
     ensures found { IfOk result (λ x. SpelledAt a_whole_value c.old x c.new) }
     ensures only { (x : Value) (g : Front) → SpelledAt a_whole_value c.old x g
         → MatchResult result (λ y. (y ≡ x) × (c.new ≡ g)) (λ e. e ≡ SpellFault.NoMemory) }
-    ensures fault { IfErr result (λ e. (e ≡ SpellFault.NoMemory) ⊎ FirstFaultAt e (a_value 4 8) c.old) }
+    ensures fault { IfErr result (λ e. (e ≡ SpellFault.NoMemory) ⊎ FirstFaultAt e
+        (a_value 4 8) c.old) }
     ensures stays { OnErr result (c.new ≡ c.old) }
 {
     let mut s = Source::at(c.fork());
@@ -77,7 +79,8 @@ pub fn get_chunk(alloc: Global, c: &mut Cursor<'_>) -> Result<Chunk, SpellFault>
     ensures found { IfOk result (λ x. SpelledAt a_whole_chunk c.old x c.new) }
     ensures only { (x : Chunk) (g : Front) → SpelledAt a_whole_chunk c.old x g
         → MatchResult result (λ y. (y ≡ x) × (c.new ≡ g)) (λ e. e ≡ SpellFault.NoMemory) }
-    ensures fault { IfErr result (λ e. (e ≡ SpellFault.NoMemory) ⊎ FirstFaultAt e (a_chunk 3) c.old) }
+    ensures fault { IfErr result (λ e. (e ≡ SpellFault.NoMemory) ⊎ FirstFaultAt e
+        (a_chunk 3) c.old) }
     ensures stays { OnErr result (c.new ≡ c.old) }
 {
     let mut s = Source::at(c.fork());
@@ -94,7 +97,8 @@ pub fn get_program(alloc: Global, c: &mut Cursor<'_>) -> Result<Program, SpellFa
     ensures found { IfOk result (λ x. SpelledAt program_part c.old x c.new) }
     ensures only { (x : Program) (g : Front) → SpelledAt program_part c.old x g
         → MatchResult result (λ y. (y ≡ x) × (c.new ≡ g)) (λ e. e ≡ SpellFault.NoMemory) }
-    ensures fault { IfErr result (λ e. (e ≡ SpellFault.NoMemory) ⊎ FirstFaultAt e (a_program) c.old) }
+    ensures fault { IfErr result (λ e. (e ≡ SpellFault.NoMemory) ⊎ FirstFaultAt e
+        (a_program) c.old) }
     ensures stays { OnErr result (c.new ≡ c.old) }
 {
     let mut s = Source::at(c.fork());

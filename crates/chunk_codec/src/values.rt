@@ -38,7 +38,8 @@ fn value_with_tag(
     tag: ValueTag,
 ) -> Result<Value, SpellFault>
     requires { IsTrue (may_open nest room tag) }
-    ensures { Gives result s.new (value_behind (value_at nest (room - 1)) (chunk_read (nest - 1)) tag s.old) }
+    ensures { Gives result s.new (value_behind (value_at nest (room - 1))
+        (chunk_read (nest - 1)) tag s.old) }
 {
     match tag {
         ValueTag::Unit => Ok(Value::Unit),

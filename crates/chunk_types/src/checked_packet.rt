@@ -46,7 +46,14 @@ impl CheckedPacket {
         chunk: CheckedChunk,
     ) -> CheckedPacket
         requires { bound ≤ 65535 }
-        ensures { result ≡ record { family = family; dest = dest; bound = bound; route = route; chunk = chunk; handler = None } }
+        ensures { result ≡ record {
+          family = family;
+          dest = dest;
+          bound = bound;
+          route = route;
+          chunk = chunk;
+          handler = None;
+        } }
     {
         CheckedPacket {
             family,

@@ -7,5 +7,6 @@ ghost use Rattle.chunk_types.specs.Chunks.{fits, sound};
 
 /// A value has a type exactly where its shape has it and no chunk inside it is too large or ill.
 pub fn values_have_types()
-    ensures { (v : Value) (t : Ty) → IsWellFormedValue v → ValueHasTypes v → HasType v t ↔ (IsTrue (fits v t) × IsTrue (sound v)) }
+    ensures { (v : Value) (t : Ty) → IsWellFormedValue v → ValueHasTypes v → HasType v t ↔
+        (IsTrue (fits v t) × IsTrue (sound v)) }
 {}

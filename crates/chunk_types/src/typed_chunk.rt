@@ -118,8 +118,10 @@ pub fn check_chunk(
     requires full { ChunkHasTypes chunk }
     requires small { 1 + chunk_weight chunk ≤ 16384 }
     ensures found { IfOk result (λ k. (k ≡ chunk) × IsCheckedChunk k) }
-    ensures only { IsTypedChunk chunk → MatchResult result (λ k. k ≡ chunk) (λ f. f ≡ ChunkFault.NoMemory) }
-    ensures fault { IfErr result (λ f. f ≢ ChunkFault.NoMemory → spec.as_fault (spec.illness chunk) ≡ Some f) }
+    ensures only { IsTypedChunk chunk → MatchResult result (λ k. k ≡ chunk)
+        (λ f. f ≡ ChunkFault.NoMemory) }
+    ensures fault { IfErr result (λ f. f ≢ ChunkFault.NoMemory → spec.as_fault
+        (spec.illness chunk) ≡ Some f) }
 {
     if let Some(ill) = illness_by(alloc, &chunk, known)? {
         return Err(ChunkFault::Ill(ill));
@@ -140,9 +142,17 @@ pub fn chunk_of(
 ) -> Result<CheckedChunk, ChunkFault>
     requires formed { IsTrue (list_all well_formed_value args) }
     requires full { IsTrue (list_all value_has_types args) }
-    ensures found { IfOk result (λ k. (k ≡ record { code = program.now; entry = entry.now; args = args }) × IsCheckedChunk k) }
-    ensures only { IsTypedChunk (record { code = program.now; entry = entry.now; args = args }) → MatchResult result (λ k. k ≡ record { code = program.now; entry = entry.now; args = args }) (λ f. f ≡ ChunkFault.NoMemory) }
-    ensures fault { IfErr result (λ f. f ≢ ChunkFault.NoMemory → spec.refusal_of (record { code = program.now; entry = entry.now; args = args }) ≡ Some f) }
+    ensures found { IfOk result (λ k. (k ≡ record {
+      code = program.now;
+      entry = entry.now;
+      args =
+          args;
+    }) × IsCheckedChunk k) }
+    ensures only { IsTypedChunk (record { code = program.now; entry = entry.now; args = args }) →
+        MatchResult result (λ k. k ≡ record { code = program.now; entry = entry.now; args = args })
+        (λ f. f ≡ ChunkFault.NoMemory) }
+    ensures fault { IfErr result (λ f. f ≢ ChunkFault.NoMemory → spec.refusal_of
+        (record { code = program.now; entry = entry.now; args = args }) ≡ Some f) }
 {
     if let Some(ill) = ill_call(alloc, program.program(), entry, args.as_slice())? {
         return Err(ChunkFault::Ill(ill));

@@ -19,31 +19,37 @@ pub fn route_is_least()
 
 /// An advert that is heard raises no cost.
 pub fn costs_never_rise()
-    ensures { (r : Routing) (d : Dev) (a : Advert) (x : Host) → NoRise (the_cost r x) (the_cost (hears r d a) x) }
+    ensures { (r : Routing) (d : Dev) (a : Advert) (x : Host) → NoRise (the_cost r x)
+        (the_cost (hears r d a) x) }
 {}
 
 /// A node's list of routes has the route to each host of the network.
 pub fn rows_are_routes()
-    ensures { (r : Routing) (x : Host) → is_among r.hosts x ≡ true → row_for (all_routes r) x ≡ the_route r x }
+    ensures { (r : Routing) (x : Host) → is_among r.hosts x ≡ true → row_for (all_routes r) x ≡
+        the_route r x }
 {}
 
 /// The next hop by a node's list of routes is that of its route, by whatever routing function; and where a host has a
 /// cost, the default route has a hop.
 pub fn hops_are_routes()
-    ensures to { (r : Routing) (name : List ℕ) (x m : Host) (d : Dev) → hop (all_routes r) name r.here x ≡ To m d → LeadsBy r x m d }
+    ensures to { (r : Routing) (name : List ℕ) (x m : Host) (d : Dev) → hop (all_routes r) name
+        r.here x ≡ To m d → LeadsBy r x m d }
     ensures known { (r : Routing) (x : Host) (c : ℕ) → HostsHold r → the_cost r x ≡ Some c
         → (m : Host) × (d : Dev) × (hop (all_routes r) default_route r.here x ≡ To m d) }
 {}
 
 /// An advert keeps its limits where the network's hosts are at most 32 and ascend.
 pub fn adverts_fit()
-    ensures { (r : Routing) → r.here.0 < 2 ^ 32 → All (λ h. h.0 < 2 ^ 32) r.hosts → length r.hosts ≤ 32
+    ensures { (r : Routing) → r.here.0 < 2 ^ 32 → All (λ h. h.0 < 2 ^ 32) r.hosts →
+        length r.hosts ≤ 32
         → HostsAscend None r.hosts → AdvertFits (own_advert r) }
 {}
 
 /// Sorted hosts are the same hosts, and ascend where no host stands twice.
 pub fn sorted_hosts_ascend()
-    ensures same { (hosts : List Host) (x : Host) → is_among (sorted_into [] hosts) x ≡ is_among hosts x }
-    ensures ascend { (hosts : List Host) → HostsDiffer hosts → HostsAscend None (sorted_into [] hosts) }
+    ensures same { (hosts : List Host) (x : Host) → is_among (sorted_into [] hosts) x ≡
+        is_among hosts x }
+    ensures ascend { (hosts : List Host) → HostsDiffer hosts → HostsAscend None
+        (sorted_into [] hosts) }
     ensures count { (hosts : List Host) → length (sorted_into [] hosts) ≡ length hosts }
 {}

@@ -310,7 +310,8 @@ impl Table {
     }
 
     fn add_route(&self, at: usize, host: Host, rows: &mut RouteRows) -> Result<(), NoMemory>
-        ensures { (r : Routing) → Stands r self.now → OnOk result (rows.new ≡ rows.old ++ option_to_list (the_route r host)) }
+        ensures { (r : Routing) → Stands r self.now → OnOk result
+            (rows.new ≡ rows.old ++ option_to_list (the_route r host)) }
     {
         add_row(self.route_near(at, host), rows)
     }
@@ -346,7 +347,8 @@ impl Table {
 
     /// The route to one host of the network in a list, which is empty where there is none.
     pub fn router_to(&self, alloc: Global, host: Host) -> Result<Router, NoMemory>
-        ensures { (r : Routing) → Stands r self.now → IfOk result (λ rows. rows ≡ routes_within r host) }
+        ensures { (r : Routing) → Stands r self.now → IfOk result
+            (λ rows. rows ≡ routes_within r host) }
     {
         let mut rows = Items::new(alloc);
         add_row(self.route_within(host), &mut rows)?;

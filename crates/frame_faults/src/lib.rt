@@ -22,10 +22,13 @@ ghost use Rattle.frame_faults.specs.Refusals.{FirstRefusal, FirstStampedRefusal,
 /// Any bytes are refused exactly for the first thing that is wrong with them. They are a typed frame or have a first refusal,
 /// and not both, and they have at most one.
 pub fn frames_are_refused_first()
-    ensures first { (bytes : List ℕ) (e : FrameFault) → IsBytes bytes → FrameFirst e bytes ↔ FirstRefusal bytes e }
+    ensures first { (bytes : List ℕ) (e : FrameFault) → IsBytes bytes → FrameFirst e bytes ↔
+        FirstRefusal bytes e }
     ensures some { (bytes : List ℕ) → IsBytes bytes → IsFrameOrRefused bytes }
-    ensures apart { (bytes : List ℕ) (x : PlainFrame) (e : FrameFault) → IsBytes bytes → Accepts bytes x → FirstRefusal bytes e → ⊥ }
-    ensures one { (bytes : List ℕ) (d e : FrameFault) → IsBytes bytes → FirstRefusal bytes d → FirstRefusal bytes e → d ≡ e }
+    ensures apart { (bytes : List ℕ) (x : PlainFrame) (e : FrameFault) → IsBytes bytes → Accepts
+        bytes x → FirstRefusal bytes e → ⊥ }
+    ensures one { (bytes : List ℕ) (d e : FrameFault) → IsBytes bytes → FirstRefusal bytes d →
+        FirstRefusal bytes e → d ≡ e }
 {}
 
 /// The same of what a node of version 2 reads: stamps, handlers and the rows of adverts are fields among the others, and a
@@ -42,7 +45,10 @@ pub fn stamped_frames_are_refused_first()
 
 /// No first refusal of spelled parts, or of a frame of either version, is or holds `NoMemory`.
 pub fn refusals_hold_no_memory()
-    ensures parts { (e : SpellFault) (i : ChunkItem) (f : Front) → FirstFaultAt e i f → e ≢ spelling.NoMemory }
-    ensures frames { (bytes : List ℕ) (e : FrameFault) → IsBytes bytes → FrameFirst e bytes → HoldsNoMemory e }
-    ensures stamped { (bytes : List ℕ) (e : FrameFault) → IsBytes bytes → StampedFirst e bytes → HoldsNoMemory e }
+    ensures parts { (e : SpellFault) (i : ChunkItem) (f : Front) → FirstFaultAt e i f → e ≢
+        spelling.NoMemory }
+    ensures frames { (bytes : List ℕ) (e : FrameFault) → IsBytes bytes → FrameFirst e bytes →
+        HoldsNoMemory e }
+    ensures stamped { (bytes : List ℕ) (e : FrameFault) → IsBytes bytes → StampedFirst e bytes →
+        HoldsNoMemory e }
 {}

@@ -48,7 +48,8 @@ impl<T: Drop> Queue<T> {
 
     /// Takes the first item off, or answers `None` exactly where there is none. Takes no memory.
     pub fn pop(&mut self) -> Option<T>
-        ensures { MatchOption result ((self.old ≡ []) × (self.new ≡ [])) (λ first. self.old ≡ first ∷ self.new) }
+        ensures { MatchOption result ((self.old ≡ []) × (self.new ≡ []))
+            (λ first. self.old ≡ first ∷ self.new) }
     {
         self.ring.pop_front()
     }

@@ -51,8 +51,10 @@ fn typed_chunk(
 ) -> Result<CheckedChunk, FrameFault>
     requires { a_whole_chunk.Fits chunk }
     ensures found { IfOk result (λ k. (k ≡ chunk) × IsTypedChunk chunk) }
-    ensures only { IsTypedChunk chunk → MatchResult result (λ k. k ≡ chunk) (λ e. e ≡ FrameFault.NoMemory) }
-    ensures fault { IfErr result (λ e. (e ≡ FrameFault.NoMemory) ⊎ ((i : Wrong) × (illness chunk ≡ Some i) × (e ≡ FrameFault.IllTyped i))) }
+    ensures only { IsTypedChunk chunk → MatchResult result (λ k. k ≡ chunk)
+        (λ e. e ≡ FrameFault.NoMemory) }
+    ensures fault { IfErr result (λ e. (e ≡ FrameFault.NoMemory) ⊎
+        ((i : Wrong) × (illness chunk ≡ Some i) × (e ≡ FrameFault.IllTyped i))) }
 {
     match check_chunk(alloc, chunk, known) {
         Ok(k) => Ok(k),
@@ -63,9 +65,11 @@ fn typed_chunk(
 
 /// A packet with the handler of this name, where that may handle.
 fn with_named_handler(packet: CheckedPacket, name: Name) -> Result<CheckedPacket, FrameFault>
-    ensures found { IfOk result (λ k. (k ≡ record packet { handler = Some name }) × (handles_by packet.chunk.code name ≡ true)) }
+    ensures found { IfOk result (λ k. (k ≡ record packet { handler = Some name }) ×
+        (handles_by packet.chunk.code name ≡ true)) }
     ensures only { handles_by packet.chunk.code name ≡ true → IfErr result (λ e. ⊥) }
-    ensures fault { IfErr result (λ e. (handles_by packet.chunk.code name ≡ true → ⊥) × (e ≡ FrameFault.IllHandler)) }
+    ensures fault { IfErr result (λ e. (handles_by packet.chunk.code name ≡ true → ⊥) ×
+        (e ≡ FrameFault.IllHandler)) }
 {
     if !is_handler(packet.chunk().chunk().code.get(), &name) {
         return Err(FrameFault::IllHandler);
@@ -76,9 +80,11 @@ fn with_named_handler(packet: CheckedPacket, name: Name) -> Result<CheckedPacket
 /// A packet without a handler, with the handler that was read, where that may handle.
 fn with_handler(packet: CheckedPacket, handler: Option<Name>) -> Result<CheckedPacket, FrameFault>
     requires { packet.handler ≡ None }
-    ensures found { IfOk result (λ k. (k ≡ record packet { handler = handler }) × MayHandle packet.chunk handler) }
+    ensures found { IfOk result (λ k. (k ≡ record packet { handler = handler }) × MayHandle
+        packet.chunk handler) }
     ensures only { MayHandle packet.chunk handler → IfErr result (λ e. ⊥) }
-    ensures fault { IfErr result (λ e. (MayHandle packet.chunk handler → ⊥) × (e ≡ FrameFault.IllHandler)) }
+    ensures fault { IfErr result (λ e. (MayHandle packet.chunk handler → ⊥) ×
+        (e ≡ FrameFault.IllHandler)) }
 {
     match handler {
         None => Ok(packet),
@@ -94,9 +100,14 @@ fn checked_packet(
 ) -> Result<CheckedPacket, FrameFault>
     requires fits { a_whole_chunk.Fits p.chunk }
     requires bound { p.bound ≤ 65535 }
-    ensures found { IfOk result (λ k. (k ≡ p) × (IsTypedChunk p.chunk × MayHandle p.chunk p.handler)) }
-    ensures only { IsTypedChunk p.chunk → MayHandle p.chunk p.handler → MatchResult result (λ k. k ≡ p) (λ e. e ≡ FrameFault.NoMemory) }
-    ensures fault { IfErr result (λ e. (e ≡ FrameFault.NoMemory) ⊎ (((i : Wrong) × (illness p.chunk ≡ Some i) × (e ≡ FrameFault.IllTyped i)) ⊎ (IsTypedChunk p.chunk × ((MayHandle p.chunk p.handler → ⊥) × (e ≡ FrameFault.IllHandler))))) }
+    ensures found { IfOk result (λ k. (k ≡ p) × (IsTypedChunk p.chunk × MayHandle
+        p.chunk p.handler)) }
+    ensures only { IsTypedChunk p.chunk → MayHandle p.chunk p.handler → MatchResult result
+        (λ k. k ≡ p) (λ e. e ≡ FrameFault.NoMemory) }
+    ensures fault { IfErr result (λ e. (e ≡ FrameFault.NoMemory) ⊎
+        (((i : Wrong) × (illness p.chunk ≡ Some i) × (e ≡ FrameFault.IllTyped i)) ⊎
+        (IsTypedChunk p.chunk × ((MayHandle p.chunk p.handler → ⊥) ×
+        (e ≡ FrameFault.IllHandler))))) }
 {
     let Packet {
         family,
@@ -120,9 +131,12 @@ fn checked_frame(
     known: Option<&Checked>,
 ) -> Result<Frame, FrameFault>
     requires { FrameFits plain }
-    ensures found { IfOk result (λ x. (plain_of x ≡ plain) × (CarriesTyped plain × CarriesHandler plain)) }
-    ensures only { CarriesTyped plain → CarriesHandler plain → MatchResult result (λ x. plain_of x ≡ plain) (λ e. e ≡ FrameFault.NoMemory) }
-    ensures fault { IfErr result (λ e. (e ≡ FrameFault.NoMemory) ⊎ (CarriesIll plain e ⊎ CarriesNoHandler plain e)) }
+    ensures found { IfOk result (λ x. (plain_of x ≡ plain) ×
+        (CarriesTyped plain × CarriesHandler plain)) }
+    ensures only { CarriesTyped plain → CarriesHandler plain → MatchResult result
+        (λ x. plain_of x ≡ plain) (λ e. e ≡ FrameFault.NoMemory) }
+    ensures fault { IfErr result (λ e. (e ≡ FrameFault.NoMemory) ⊎
+        (CarriesIll plain e ⊎ CarriesNoHandler plain e)) }
 {
     match plain {
         PlainFrame::Packet(p) => Ok(Frame::Packet(checked_packet(alloc, p, known)?)),
@@ -138,7 +152,8 @@ fn checked_frame(
 /// checked again, which changes no answer.
 pub fn get_frame(alloc: Global, bytes: &[u8], known: Option<&Checked>) -> Result<Frame, FrameFault>
     ensures found { IfOk result (λ x. Accepts bytes.now (plain_of x)) }
-    ensures only { (x : Plain) → Accepts bytes.now x → MatchResult result (λ y. plain_of y ≡ x) (λ e. e ≡ FrameFault.NoMemory) }
+    ensures only { (x : Plain) → Accepts bytes.now x → MatchResult result (λ y. plain_of y ≡ x)
+        (λ e. e ≡ FrameFault.NoMemory) }
     ensures fault { IfErr result (λ e. (e ≡ FrameFault.NoMemory) ⊎ FrameFirst e bytes.now) }
 {
     let plain = get_plain_frame(alloc, bytes)?;
@@ -152,9 +167,12 @@ fn checked_stamped(
     known: Option<&Checked>,
 ) -> Result<Stamped, FrameFault>
     requires { FrameFits plain.frame }
-    ensures found { IfOk result (λ x. (stamped_plain x ≡ plain) × (CarriesTyped plain.frame × CarriesHandler plain.frame)) }
-    ensures only { CarriesTyped plain.frame → CarriesHandler plain.frame → MatchResult result (λ x. stamped_plain x ≡ plain) (λ e. e ≡ FrameFault.NoMemory) }
-    ensures fault { IfErr result (λ e. (e ≡ FrameFault.NoMemory) ⊎ (CarriesIll plain.frame e ⊎ CarriesNoHandler plain.frame e)) }
+    ensures found { IfOk result (λ x. (stamped_plain x ≡ plain) ×
+        (CarriesTyped plain.frame × CarriesHandler plain.frame)) }
+    ensures only { CarriesTyped plain.frame → CarriesHandler plain.frame → MatchResult result
+        (λ x. stamped_plain x ≡ plain) (λ e. e ≡ FrameFault.NoMemory) }
+    ensures fault { IfErr result (λ e. (e ≡ FrameFault.NoMemory) ⊎
+        (CarriesIll plain.frame e ⊎ CarriesNoHandler plain.frame e)) }
 {
     let PlainStamped { stamp, frame } = plain;
     let frame = checked_frame(alloc, frame, known)?;
@@ -172,7 +190,8 @@ pub fn get_frame2(
     known: Option<&Checked>,
 ) -> Result<Stamped, FrameFault>
     ensures found { IfOk result (λ x. AcceptsBy Two bytes.now (stamped_plain x)) }
-    ensures only { (x : PlainOne) → AcceptsBy Two bytes.now x → MatchResult result (λ y. stamped_plain y ≡ x) (λ e. e ≡ FrameFault.NoMemory) }
+    ensures only { (x : PlainOne) → AcceptsBy Two bytes.now x → MatchResult result
+        (λ y. stamped_plain y ≡ x) (λ e. e ≡ FrameFault.NoMemory) }
     ensures fault { IfErr result (λ e. (e ≡ FrameFault.NoMemory) ⊎ StampedFirst e bytes.now) }
 {
     let plain = get_plain_stamped(alloc, bytes)?;

@@ -103,7 +103,8 @@ pub fn chunk_of(alloc: Global, c: &mut Cursor<'_>) -> Result<Chunk, FrameFault>
 
 /// A packet.
 pub fn packet_of(alloc: Global, c: &mut Cursor<'_>) -> Result<PlainFrame, FrameFault>
-    ensures { Gives result c.new (reads (forms TheKind.Packet) (frame_of_fields TheKind.Packet) (from_front c.old)) }
+    ensures { Gives result c.new (reads (forms TheKind.Packet) (frame_of_fields TheKind.Packet)
+        (from_front c.old)) }
 {
     let source = Host(word_of(c)?);
     let serial = serial_of(c)?;
@@ -187,7 +188,8 @@ pub fn rows_of(alloc: Global, c: &mut Cursor<'_>, count: u16) -> Result<AdvertRo
 /// An advert.
 #[tactic(auto, unfolding(crate::specs::Fields::rows_at))]
 pub fn advert_of(alloc: Global, c: &mut Cursor<'_>) -> Result<PlainFrame, FrameFault>
-    ensures { Gives result c.new (reads (forms TheKind.Advert) (frame_of_fields TheKind.Advert) (from_front c.old)) }
+    ensures { Gives result c.new (reads (forms TheKind.Advert) (frame_of_fields TheKind.Advert)
+        (from_front c.old)) }
 {
     let host = Host(word_of(c)?);
     let count = count_of(c)?;
@@ -197,7 +199,8 @@ pub fn advert_of(alloc: Global, c: &mut Cursor<'_>) -> Result<PlainFrame, FrameF
 
 /// An ask.
 pub fn ask_of(alloc: Global, c: &mut Cursor<'_>) -> Result<PlainFrame, FrameFault>
-    ensures { Gives result c.new (reads (forms TheKind.Ask) (frame_of_fields TheKind.Ask) (from_front c.old)) }
+    ensures { Gives result c.new (reads (forms TheKind.Ask) (frame_of_fields TheKind.Ask)
+        (from_front c.old)) }
 {
     let bound = bound_of(c)?;
     let chunk = chunk_of(alloc, c)?;
@@ -241,7 +244,8 @@ pub fn first_of(bytes: &[u8]) -> Cursor<'_>
 /// Ok exactly where all the bytes, at most 16,512, are its spelling; otherwise the first fault.
 pub fn get_plain_frame(alloc: Global, bytes: &[u8]) -> Result<PlainFrame, FrameFault>
     ensures found { IfOk result (λ x. SpellsFrame bytes.now x) }
-    ensures only { (x : Plain) → SpellsFrame bytes.now x → MatchResult result (λ y. y ≡ x) (λ e. e ≡ FrameFault.NoMemory) }
+    ensures only { (x : Plain) → SpellsFrame bytes.now x → MatchResult result (λ y. y ≡ x)
+        (λ e. e ≡ FrameFault.NoMemory) }
     ensures fault { IfErr result (λ e. (e ≡ FrameFault.NoMemory) ⊎ SpellingFault e bytes.now) }
 {
     if bytes.len() > 16512 {

@@ -61,7 +61,8 @@ fn form_behind(c: &mut Cursor<'_>, version: u8) -> Result<Form, FrameFault>
 
 /// An ask, which bears no stamp.
 fn plain_ask(alloc: Global, c: &mut Cursor<'_>) -> Result<PlainStamped, FrameFault>
-    ensures { Gives result c.new (reads (stamped_forms TheForm.Ask) (stamped_of_fields TheForm.Ask) (from_front c.old)) }
+    ensures { Gives result c.new (reads (stamped_forms TheForm.Ask) (stamped_of_fields TheForm.Ask)
+        (from_front c.old)) }
 {
     let bound = bound_of(c)?;
     let chunk = chunk_of(alloc, c)?;
@@ -73,7 +74,8 @@ fn plain_ask(alloc: Global, c: &mut Cursor<'_>) -> Result<PlainStamped, FrameFau
 
 /// A packet behind its stamp.
 fn stamped_packet(alloc: Global, c: &mut Cursor<'_>) -> Result<PlainStamped, FrameFault>
-    ensures { Gives result c.new (reads (stamped_forms TheForm.Packet) (stamped_of_fields TheForm.Packet) (from_front c.old)) }
+    ensures { Gives result c.new (reads (stamped_forms TheForm.Packet)
+        (stamped_of_fields TheForm.Packet) (from_front c.old)) }
 {
     let boot = serial_of(c)?;
     let link = serial_of(c)?;
@@ -98,7 +100,8 @@ fn stamped_packet(alloc: Global, c: &mut Cursor<'_>) -> Result<PlainStamped, Fra
 
 /// A packet with a handler behind its stamp.
 fn stamped_handled(alloc: Global, c: &mut Cursor<'_>) -> Result<PlainStamped, FrameFault>
-    ensures { Gives result c.new (reads (stamped_forms TheForm.Handled) (stamped_of_fields TheForm.Handled) (from_front c.old)) }
+    ensures { Gives result c.new (reads (stamped_forms TheForm.Handled)
+        (stamped_of_fields TheForm.Handled) (from_front c.old)) }
 {
     let boot = serial_of(c)?;
     let link = serial_of(c)?;
@@ -125,7 +128,8 @@ fn stamped_handled(alloc: Global, c: &mut Cursor<'_>) -> Result<PlainStamped, Fr
 /// An advert behind its stamp.
 #[tactic(auto, unfolding(crate::specs::Fields::rows_at))]
 fn stamped_advert(alloc: Global, c: &mut Cursor<'_>) -> Result<PlainStamped, FrameFault>
-    ensures { Gives result c.new (reads (stamped_forms TheForm.Advert) (stamped_of_fields TheForm.Advert) (from_front c.old)) }
+    ensures { Gives result c.new (reads (stamped_forms TheForm.Advert)
+        (stamped_of_fields TheForm.Advert) (from_front c.old)) }
 {
     let boot = serial_of(c)?;
     let link = serial_of(c)?;
@@ -140,7 +144,8 @@ fn stamped_advert(alloc: Global, c: &mut Cursor<'_>) -> Result<PlainStamped, Fra
 
 /// What stands behind a form's kind.
 fn behind_form(alloc: Global, c: &mut Cursor<'_>, form: Form) -> Result<PlainStamped, FrameFault>
-    ensures { Gives result c.new (reads (stamped_forms form) (stamped_of_fields form) (from_front c.old)) }
+    ensures { Gives result c.new (reads (stamped_forms form) (stamped_of_fields form)
+        (from_front c.old)) }
 {
     match form {
         Form::Ask => plain_ask(alloc, c),
@@ -166,7 +171,8 @@ fn stamped_of(alloc: Global, c: &mut Cursor<'_>) -> Result<PlainStamped, FrameFa
 /// Ok exactly where all the bytes, at most 16,512, are its spelling; otherwise the first fault.
 pub fn get_plain_stamped(alloc: Global, bytes: &[u8]) -> Result<PlainStamped, FrameFault>
     ensures found { IfOk result (λ x. SpellsStamped bytes.now x) }
-    ensures only { (x : PlainOne) → SpellsStamped bytes.now x → MatchResult result (λ y. y ≡ x) (λ e. e ≡ FrameFault.NoMemory) }
+    ensures only { (x : PlainOne) → SpellsStamped bytes.now x → MatchResult result (λ y. y ≡ x)
+        (λ e. e ≡ FrameFault.NoMemory) }
     ensures fault { IfErr result (λ e. (e ≡ FrameFault.NoMemory) ⊎ StampedFault e bytes.now) }
 {
     if bytes.len() > 16512 {

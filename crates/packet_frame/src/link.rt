@@ -17,7 +17,8 @@ fn write_link(bytes: &mut [u8], link: u64)
 /// Writes a number over the one in the stamp of a whole frame.
 fn write_into(bytes: &mut Vec<u8>, link: u64)
     requires { 22 ≤ length bytes.old.items }
-    ensures { bytes.new.items ≡ (take 14 bytes.old.items ++ to_be_bytes w64 link) ++ drop 22 bytes.old.items }
+    ensures { bytes.new.items ≡ (take 14 bytes.old.items ++ to_be_bytes w64 link) ++ drop 22
+        bytes.old.items }
 {
     write_link(bytes, link);
 }
@@ -25,7 +26,9 @@ fn write_into(bytes: &mut Vec<u8>, link: u64)
 /// Gives a frame of version 2 another number. Takes no memory. Condition: it has the room of a stamp.
 pub fn with_link(frame: Bytes, link: u64) -> Bytes
     requires { 22 ≤ length frame }
-    ensures { (s : Stamp) (x : PlainFrame) → SpellsStamped frame (record { stamp = Some s; frame = x }) → SpellsStamped result (record { stamp = Some (record { boot = s.boot; link = link }); frame = x }) }
+    ensures { (s : Stamp) (x : PlainFrame) → SpellsStamped frame
+        (record { stamp = Some s; frame = x }) → SpellsStamped result
+        (record { stamp = Some (record { boot = s.boot; link = link }); frame = x }) }
 {
     let mut bytes = frame.into_vec();
     write_into(&mut bytes, link);

@@ -97,7 +97,8 @@ pub fn spellable(c: &CheckedChunk) -> &Chunk
 /// Puts what a packet has before its bound: its family and its destination.
 pub fn put_way(family: Family, dest: Host, out: &mut Out)
     requires { 16 ≤ out.old.room }
-    ensures bytes { out.new.bytes ≡ ((out.old.bytes ++ to_be_bytes w32 family.source.0) ++ to_be_bytes w64 family.serial) ++ to_be_bytes w32 dest.0 }
+    ensures bytes { out.new.bytes ≡ ((out.old.bytes ++ to_be_bytes w32 family.source.0) ++
+        to_be_bytes w64 family.serial) ++ to_be_bytes w32 dest.0 }
     ensures room { out.new.room + 16 ≡ out.old.room }
     ensures ranges { (family.source.0 < 2 ^ 32) × (family.serial < 2 ^ 64) × (dest.0 < 2 ^ 32) }
 {
@@ -111,7 +112,8 @@ pub fn put_way(family: Family, dest: Host, out: &mut Out)
 pub fn put_packet(alloc: Global, packet: &CheckedPacket, new_bound: u32) -> Result<Bytes, NoMemory>
     requires bound { new_bound ≤ 65535 }
     requires plain { packet.now.handler ≡ None }
-    ensures { IfOk result (λ b. SpellsFrame b (Plain.Packet (record packet.now { bound = new_bound }))) }
+    ensures { IfOk result (λ b. SpellsFrame b (Plain.Packet
+        (record packet.now { bound = new_bound }))) }
 {
     let chunk = spellable(packet.chunk());
     let route = packet.route();

@@ -31,7 +31,8 @@ fn put_stamped_head(kind: u8, s: Stamp, out: &mut Out)
 #[tactic(auto, using(crate::proofs::StampedSizes::spells_advert2, crate::proofs::Sizes::rows_size))]
 pub fn put_advert2(alloc: Global, a: &Advert, s: Stamp) -> Result<Bytes, NoMemory>
     requires { FrameFits (Plain.Advert a.now) }
-    ensures { IfOk result (λ b. SpellsStamped b (record { stamp = Some s; frame = Plain.Advert a.now })) }
+    ensures { IfOk result (λ b. SpellsStamped b (record
+        { stamp = Some s; frame = Plain.Advert a.now })) }
 {
     let rows = a.rows.as_slice();
     let mut out = Out::with_room(alloc, 28 + 8 * rows.len() as u32)?;
@@ -52,7 +53,8 @@ fn put_plain2(
 ) -> Result<Bytes, NoMemory>
     requires bound { new_bound ≤ 65535 }
     requires plain { packet.now.handler ≡ None }
-    ensures { IfOk result (λ b. SpellsStamped b (record { stamp = Some s; frame = Plain.Packet (record packet.now { bound = new_bound }) })) }
+    ensures { IfOk result (λ b. SpellsStamped b (record
+        { stamp = Some s; frame = Plain.Packet (record packet.now { bound = new_bound }) })) }
 {
     let chunk = spellable(packet.chunk());
     let route = packet.route();
@@ -77,7 +79,8 @@ fn put_handled(
 ) -> Result<Bytes, NoMemory>
     requires bound { new_bound ≤ 65535 }
     requires handler { packet.now.handler ≡ Some name.now }
-    ensures { IfOk result (λ b. SpellsStamped b (record { stamp = Some s; frame = Plain.Packet (record packet.now { bound = new_bound }) })) }
+    ensures { IfOk result (λ b. SpellsStamped b (record
+        { stamp = Some s; frame = Plain.Packet (record packet.now { bound = new_bound }) })) }
 {
     let chunk = spellable(packet.chunk());
     let route = packet.route();
@@ -103,7 +106,8 @@ pub fn put_packet2(
     s: Stamp,
 ) -> Result<Bytes, NoMemory>
     requires { new_bound ≤ 65535 }
-    ensures { IfOk result (λ b. SpellsStamped b (record { stamp = Some s; frame = Plain.Packet (record packet.now { bound = new_bound }) })) }
+    ensures { IfOk result (λ b. SpellsStamped b (record
+        { stamp = Some s; frame = Plain.Packet (record packet.now { bound = new_bound }) })) }
 {
     match packet.handler() {
         None => put_plain2(alloc, packet, new_bound, s),

@@ -51,7 +51,8 @@ fn literal(alloc: Global, ahead: &Ahead<'_>) -> Result<Option<Expr>, ParseFault>
 
 /// Takes the literal that must stand next.
 pub fn literal_at(alloc: Global, ahead: &mut Ahead<'_>) -> Result<Node, ParseFault>
-    ensures { Gives (spec.literal_from ahead.old (spec.literal (next_kind ahead.old))) result ahead.new }
+    ensures { Gives (spec.literal_from ahead.old (spec.literal (next_kind ahead.old)))
+        result ahead.new }
 {
     let at = ahead.place();
     let Some(tree) = literal(alloc, ahead)? else {
@@ -65,7 +66,8 @@ impl<F: Fn(Global, u32, Level, &mut Ahead<'_>) -> Result<Node, ParseFault>> Expr
     #[tactic(auto, unfolding(crate::specs::Exprs::arguments_behind))]
     fn arguments_behind(&self, ahead: &mut Ahead<'_>) -> Result<Items<Node>, ParseFault>
         requires { ReadsExprs self.now.room (F.pre self.now.read) (F.post self.now.read) }
-        ensures { Gives (spec.arguments_behind (expr_to self.now.room) self.now.room ahead.old) result ahead.new }
+        ensures { Gives (spec.arguments_behind (expr_to self.now.room) self.now.room ahead.old)
+            result ahead.new }
     {
         if ahead.is_symbol(Symbol::ParenClose) {
             ahead.skip();
@@ -86,7 +88,8 @@ impl<F: Fn(Global, u32, Level, &mut Ahead<'_>) -> Result<Node, ParseFault>> Expr
     #[tactic(auto, unfolding(crate::specs::Exprs::arguments))]
     fn arguments(&self, ahead: &mut Ahead<'_>) -> Result<Items<Node>, ParseFault>
         requires { ReadsExprs self.now.room (F.pre self.now.read) (F.post self.now.read) }
-        ensures { Gives (spec.arguments (expr_to self.now.room) self.now.room ahead.old) result ahead.new }
+        ensures { Gives (spec.arguments (expr_to self.now.room) self.now.room ahead.old)
+            result ahead.new }
     {
         need_open(self.room, ahead)?;
         self.arguments_behind(ahead)
@@ -95,7 +98,8 @@ impl<F: Fn(Global, u32, Level, &mut Ahead<'_>) -> Result<Node, ParseFault>> Expr
     #[tactic(auto, unfolding(crate::specs::Exprs::call))]
     fn call(&self, ahead: &mut Ahead<'_>, name: Name, at: u32) -> Result<Node, ParseFault>
         requires { ReadsExprs self.now.room (F.pre self.now.read) (F.post self.now.read) }
-        ensures { Gives (spec.call (expr_to self.now.room) self.now.room name at ahead.old) result ahead.new }
+        ensures { Gives (spec.call (expr_to self.now.room) self.now.room name at ahead.old)
+            result ahead.new }
     {
         let args = self.arguments(ahead)?;
         let (args, below) = together(self.alloc, args)?;
@@ -106,7 +110,8 @@ impl<F: Fn(Global, u32, Level, &mut Ahead<'_>) -> Result<Node, ParseFault>> Expr
     #[tactic(auto, unfolding(crate::specs::Exprs::name_operand))]
     pub fn name_operand(&self, ahead: &mut Ahead<'_>) -> Result<Node, ParseFault>
         requires { ReadsExprs self.now.room (F.pre self.now.read) (F.post self.now.read) }
-        ensures { Gives (spec.name_operand (expr_to self.now.room) self.now.room ahead.old) result ahead.new }
+        ensures { Gives (spec.name_operand (expr_to self.now.room) self.now.room ahead.old)
+            result ahead.new }
     {
         let at = ahead.place();
         let name = name_at(self.alloc, ahead)?;
@@ -120,7 +125,8 @@ impl<F: Fn(Global, u32, Level, &mut Ahead<'_>) -> Result<Node, ParseFault>> Expr
     #[tactic(auto, unfolding(crate::specs::Exprs::chunk))]
     pub fn chunk(&self, ahead: &mut Ahead<'_>) -> Result<Node, ParseFault>
         requires { ReadsExprs self.now.room (F.pre self.now.read) (F.post self.now.read) }
-        ensures { Gives (spec.chunk (expr_to self.now.room) self.now.room ahead.old) result ahead.new }
+        ensures { Gives (spec.chunk (expr_to self.now.room) self.now.room ahead.old)
+            result ahead.new }
     {
         let at = ahead.place();
         ahead.skip();
@@ -135,7 +141,8 @@ impl<F: Fn(Global, u32, Level, &mut Ahead<'_>) -> Result<Node, ParseFault>> Expr
     #[tactic(auto, unfolding(crate::specs::Exprs::tuple))]
     fn tuple(&self, ahead: &mut Ahead<'_>, at: u32, first: Node) -> Result<Node, ParseFault>
         requires { ReadsExprs self.now.room (F.pre self.now.read) (F.post self.now.read) }
-        ensures { Gives (spec.tuple (expr_to self.now.room) self.now.room at first ahead.old) result ahead.new }
+        ensures { Gives (spec.tuple (expr_to self.now.room) self.now.room at first ahead.old)
+            result ahead.new }
     {
         let mut parts = Items::new(self.alloc);
         parts.add(first)?;
@@ -147,7 +154,8 @@ impl<F: Fn(Global, u32, Level, &mut Ahead<'_>) -> Result<Node, ParseFault>> Expr
 
     #[tactic(auto, unfolding(crate::specs::Exprs::single))]
     fn single(&self, ahead: &mut Ahead<'_>, first: Node) -> Result<Node, ParseFault>
-        ensures { Gives (spec.single (expr_to self.now.room) self.now.room first ahead.old) result ahead.new }
+        ensures { Gives (spec.single (expr_to self.now.room) self.now.room first ahead.old)
+            result ahead.new }
     {
         let first = keep_node(self.alloc, first)?;
         ahead.need_symbol(Symbol::ParenClose)?;
@@ -158,7 +166,8 @@ impl<F: Fn(Global, u32, Level, &mut Ahead<'_>) -> Result<Node, ParseFault>> Expr
     #[tactic(auto, unfolding(crate::specs::Exprs::grouped_expression))]
     fn group_or_tuple(&self, ahead: &mut Ahead<'_>, at: u32) -> Result<Node, ParseFault>
         requires { ReadsExprs self.now.room (F.pre self.now.read) (F.post self.now.read) }
-        ensures { Gives (spec.grouped_expression (expr_to self.now.room) self.now.room at ahead.old) result ahead.new }
+        ensures { Gives (spec.grouped_expression (expr_to self.now.room) self.now.room at ahead.old)
+            result ahead.new }
     {
         let first = self.inner(ahead, Level::Whole)?;
         if ahead.is_symbol(Symbol::Comma) {
@@ -170,7 +179,8 @@ impl<F: Fn(Global, u32, Level, &mut Ahead<'_>) -> Result<Node, ParseFault>> Expr
     #[tactic(auto, unfolding(crate::specs::Exprs::parens_behind))]
     fn parens_behind(&self, ahead: &mut Ahead<'_>, at: u32) -> Result<Node, ParseFault>
         requires { ReadsExprs self.now.room (F.pre self.now.read) (F.post self.now.read) }
-        ensures { Gives (spec.parens_behind (expr_to self.now.room) self.now.room at ahead.old) result ahead.new }
+        ensures { Gives (spec.parens_behind (expr_to self.now.room) self.now.room at ahead.old)
+            result ahead.new }
     {
         if ahead.is_symbol(Symbol::ParenClose) {
             ahead.skip();
@@ -186,7 +196,8 @@ impl<F: Fn(Global, u32, Level, &mut Ahead<'_>) -> Result<Node, ParseFault>> Expr
     #[tactic(auto, unfolding(crate::specs::Exprs::parens))]
     pub fn parens(&self, ahead: &mut Ahead<'_>) -> Result<Node, ParseFault>
         requires { ReadsExprs self.now.room (F.pre self.now.read) (F.post self.now.read) }
-        ensures { Gives (spec.parens (expr_to self.now.room) self.now.room ahead.old) result ahead.new }
+        ensures { Gives (spec.parens (expr_to self.now.room) self.now.room ahead.old)
+            result ahead.new }
     {
         opens(self.room, ahead)?;
         let at = ahead.place();
@@ -197,7 +208,8 @@ impl<F: Fn(Global, u32, Level, &mut Ahead<'_>) -> Result<Node, ParseFault>> Expr
     /// An empty list with its element type.
     #[tactic(auto, unfolding(crate::specs::Exprs::typed_nil))]
     fn typed_nil(&self, ahead: &mut Ahead<'_>, at: u32) -> Result<Node, ParseFault>
-        ensures { Gives (spec.typed_nil (expr_to self.now.room) self.now.room at ahead.old) result ahead.new }
+        ensures { Gives (spec.typed_nil (expr_to self.now.room) self.now.room at ahead.old)
+            result ahead.new }
     {
         ahead.skip();
         let t = type_to(self.alloc, self.room, ahead)?;
@@ -209,7 +221,8 @@ impl<F: Fn(Global, u32, Level, &mut Ahead<'_>) -> Result<Node, ParseFault>> Expr
     #[tactic(auto, unfolding(crate::specs::Exprs::listing))]
     fn listing(&self, ahead: &mut Ahead<'_>) -> Result<Node, ParseFault>
         requires { ReadsExprs self.now.room (F.pre self.now.read) (F.post self.now.read) }
-        ensures { Gives (spec.listing (expr_to self.now.room) self.now.room ahead.old) result ahead.new }
+        ensures { Gives (spec.listing (expr_to self.now.room) self.now.room ahead.old)
+            result ahead.new }
     {
         let mut items = Items::new(self.alloc);
         items.add(self.inner(ahead, Level::Whole)?)?;
@@ -223,7 +236,8 @@ impl<F: Fn(Global, u32, Level, &mut Ahead<'_>) -> Result<Node, ParseFault>> Expr
     #[tactic(auto, unfolding(crate::specs::Exprs::brackets_behind))]
     fn brackets_behind(&self, ahead: &mut Ahead<'_>, at: u32) -> Result<Node, ParseFault>
         requires { ReadsExprs self.now.room (F.pre self.now.read) (F.post self.now.read) }
-        ensures { Gives (spec.brackets_behind (expr_to self.now.room) self.now.room at ahead.old) result ahead.new }
+        ensures { Gives (spec.brackets_behind (expr_to self.now.room) self.now.room at ahead.old)
+            result ahead.new }
     {
         if ahead.is_symbol(Symbol::BracketClose) {
             ahead.skip();
@@ -242,7 +256,8 @@ impl<F: Fn(Global, u32, Level, &mut Ahead<'_>) -> Result<Node, ParseFault>> Expr
     #[tactic(auto, unfolding(crate::specs::Exprs::brackets))]
     pub fn brackets(&self, ahead: &mut Ahead<'_>) -> Result<Node, ParseFault>
         requires { ReadsExprs self.now.room (F.pre self.now.read) (F.post self.now.read) }
-        ensures { Gives (spec.brackets (expr_to self.now.room) self.now.room ahead.old) result ahead.new }
+        ensures { Gives (spec.brackets (expr_to self.now.room) self.now.room ahead.old)
+            result ahead.new }
     {
         opens(self.room, ahead)?;
         let at = ahead.place();

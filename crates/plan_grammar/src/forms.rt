@@ -100,7 +100,8 @@ impl<F: Fn(Global, u32, Level, &mut Ahead<'_>) -> Result<Node, ParseFault>> Expr
     #[tactic(auto, unfolding(crate::specs::Exprs::binding))]
     fn binding(&self, ahead: &mut Ahead<'_>, at: u32) -> Result<Bound, ParseFault>
         requires { ReadsExprs self.now.room (F.pre self.now.read) (F.post self.now.read) }
-        ensures { Gives (spec.binding (expr_to self.now.room) self.now.room at ahead.old) result ahead.new }
+        ensures { Gives (spec.binding (expr_to self.now.room) self.now.room at ahead.old)
+            result ahead.new }
     {
         ahead.need_key(Key::Val)?;
         let name = name_at(self.alloc, ahead)?;
@@ -124,7 +125,8 @@ impl<F: Fn(Global, u32, Level, &mut Ahead<'_>) -> Result<Node, ParseFault>> Expr
         bounds: Items<Bound>,
     ) -> Result<Items<Bound>, ParseFault>
         requires { ReadsExprs self.now.room (F.pre self.now.read) (F.post self.now.read) }
-        ensures { Gives (spec.bindings_from (expr_to self.now.room) self.now.room (length ahead.old.tokens) bounds ahead.old) result ahead.new }
+        ensures { Gives (spec.bindings_from (expr_to self.now.room) self.now.room
+            (length ahead.old.tokens) bounds ahead.old) result ahead.new }
     {
         let mut bounds = bounds;
         for _ in 0..ahead.tokens_left() {
@@ -140,7 +142,8 @@ impl<F: Fn(Global, u32, Level, &mut Ahead<'_>) -> Result<Node, ParseFault>> Expr
     #[tactic(auto, unfolding(crate::specs::Exprs::let_form))]
     pub fn let_form(&self, ahead: &mut Ahead<'_>) -> Result<Node, ParseFault>
         requires { ReadsExprs self.now.room (F.pre self.now.read) (F.post self.now.read) }
-        ensures { Gives (spec.let_form (expr_to self.now.room) self.now.room ahead.old) result ahead.new }
+        ensures { Gives (spec.let_form (expr_to self.now.room) self.now.room ahead.old)
+            result ahead.new }
     {
         opens(self.room, ahead)?;
         let at = ahead.place();
@@ -158,7 +161,8 @@ impl<F: Fn(Global, u32, Level, &mut Ahead<'_>) -> Result<Node, ParseFault>> Expr
     #[tactic(auto, unfolding(crate::specs::Exprs::clause))]
     fn clause(&self, ahead: &mut Ahead<'_>) -> Result<Caught, ParseFault>
         requires { ReadsExprs self.now.room (F.pre self.now.read) (F.post self.now.read) }
-        ensures { Gives (spec.clause (expr_to self.now.room) self.now.room ahead.old) result ahead.new }
+        ensures { Gives (spec.clause (expr_to self.now.room) self.now.room ahead.old)
+            result ahead.new }
     {
         let name = catch_at(self.alloc, ahead)?;
         ahead.need_symbol(Symbol::FatArrow)?;
@@ -170,7 +174,8 @@ impl<F: Fn(Global, u32, Level, &mut Ahead<'_>) -> Result<Node, ParseFault>> Expr
     #[tactic(auto, using(crate::proofs::Chains::clauses_done, crate::proofs::Chains::clauses_end, crate::proofs::Chains::clauses_stop, crate::proofs::Chains::clauses_step))]
     fn clauses(&self, ahead: &mut Ahead<'_>) -> Result<Items<Caught>, ParseFault>
         requires { ReadsExprs self.now.room (F.pre self.now.read) (F.post self.now.read) }
-        ensures { Gives (spec.clauses_from (expr_to self.now.room) self.now.room 8 [] ahead.old) result ahead.new }
+        ensures { Gives (spec.clauses_from (expr_to self.now.room) self.now.room 8 [] ahead.old)
+            result ahead.new }
     {
         let mut clauses = Items::new(self.alloc);
         for _ in 0..MOST_CLAUSES {
@@ -188,7 +193,8 @@ impl<F: Fn(Global, u32, Level, &mut Ahead<'_>) -> Result<Node, ParseFault>> Expr
     #[tactic(auto, unfolding(crate::specs::Exprs::try_form))]
     pub fn try_form(&self, ahead: &mut Ahead<'_>) -> Result<Node, ParseFault>
         requires { ReadsExprs self.now.room (F.pre self.now.read) (F.post self.now.read) }
-        ensures { Gives (spec.try_form (expr_to self.now.room) self.now.room ahead.old) result ahead.new }
+        ensures { Gives (spec.try_form (expr_to self.now.room) self.now.room ahead.old)
+            result ahead.new }
     {
         opens(self.room, ahead)?;
         let at = ahead.place();
@@ -203,7 +209,8 @@ impl<F: Fn(Global, u32, Level, &mut Ahead<'_>) -> Result<Node, ParseFault>> Expr
     #[tactic(auto, unfolding(crate::specs::Exprs::fold_parts))]
     fn fold_parts(&self, ahead: &mut Ahead<'_>) -> Result<FoldParts, ParseFault>
         requires { ReadsExprs self.now.room (F.pre self.now.read) (F.post self.now.read) }
-        ensures { Gives (spec.fold_parts (expr_to self.now.room) self.now.room ahead.old) result ahead.new }
+        ensures { Gives (spec.fold_parts (expr_to self.now.room) self.now.room ahead.old)
+            result ahead.new }
     {
         ahead.skip();
         need_open(self.room, ahead)?;
@@ -217,7 +224,8 @@ impl<F: Fn(Global, u32, Level, &mut Ahead<'_>) -> Result<Node, ParseFault>> Expr
     #[tactic(auto, unfolding(crate::specs::Exprs::foldl_form))]
     pub fn foldl_form(&self, ahead: &mut Ahead<'_>) -> Result<Node, ParseFault>
         requires { ReadsExprs self.now.room (F.pre self.now.read) (F.post self.now.read) }
-        ensures { Gives (spec.foldl_form (expr_to self.now.room) self.now.room ahead.old) result ahead.new }
+        ensures { Gives (spec.foldl_form (expr_to self.now.room) self.now.room ahead.old)
+            result ahead.new }
     {
         let at = ahead.place();
         let FoldParts { name, start, list } = self.fold_parts(ahead)?;
@@ -228,7 +236,8 @@ impl<F: Fn(Global, u32, Level, &mut Ahead<'_>) -> Result<Node, ParseFault>> Expr
     #[tactic(auto, unfolding(crate::specs::Exprs::foldr_form))]
     pub fn foldr_form(&self, ahead: &mut Ahead<'_>) -> Result<Node, ParseFault>
         requires { ReadsExprs self.now.room (F.pre self.now.read) (F.post self.now.read) }
-        ensures { Gives (spec.foldr_form (expr_to self.now.room) self.now.room ahead.old) result ahead.new }
+        ensures { Gives (spec.foldr_form (expr_to self.now.room) self.now.room ahead.old)
+            result ahead.new }
     {
         let at = ahead.place();
         let FoldParts { name, start, list } = self.fold_parts(ahead)?;
@@ -239,7 +248,8 @@ impl<F: Fn(Global, u32, Level, &mut Ahead<'_>) -> Result<Node, ParseFault>> Expr
     #[tactic(auto, unfolding(crate::specs::Exprs::eval_form))]
     pub fn eval_form(&self, ahead: &mut Ahead<'_>) -> Result<Node, ParseFault>
         requires { ReadsExprs self.now.room (F.pre self.now.read) (F.post self.now.read) }
-        ensures { Gives (spec.eval_form (expr_to self.now.room) self.now.room ahead.old) result ahead.new }
+        ensures { Gives (spec.eval_form (expr_to self.now.room) self.now.room ahead.old)
+            result ahead.new }
     {
         let at = ahead.place();
         ahead.skip();
@@ -252,7 +262,8 @@ impl<F: Fn(Global, u32, Level, &mut Ahead<'_>) -> Result<Node, ParseFault>> Expr
     #[tactic(auto, unfolding(crate::specs::Exprs::send_parts))]
     fn send_parts(&self, ahead: &mut Ahead<'_>) -> Result<SendParts, ParseFault>
         requires { ReadsExprs self.now.room (F.pre self.now.read) (F.post self.now.read) }
-        ensures { Gives (spec.send_parts (expr_to self.now.room) self.now.room ahead.old) result ahead.new }
+        ensures { Gives (spec.send_parts (expr_to self.now.room) self.now.room ahead.old)
+            result ahead.new }
     {
         ahead.skip();
         need_open(self.room, ahead)?;
@@ -265,7 +276,8 @@ impl<F: Fn(Global, u32, Level, &mut Ahead<'_>) -> Result<Node, ParseFault>> Expr
     #[tactic(auto, unfolding(crate::specs::Exprs::remote_form))]
     pub fn remote_form(&self, ahead: &mut Ahead<'_>) -> Result<Node, ParseFault>
         requires { ReadsExprs self.now.room (F.pre self.now.read) (F.post self.now.read) }
-        ensures { Gives (spec.remote_form (expr_to self.now.room) self.now.room ahead.old) result ahead.new }
+        ensures { Gives (spec.remote_form (expr_to self.now.room) self.now.room ahead.old)
+            result ahead.new }
     {
         let at = ahead.place();
         let SendParts { chunk, host, bound } = self.send_parts(ahead)?;
@@ -284,7 +296,8 @@ impl<F: Fn(Global, u32, Level, &mut Ahead<'_>) -> Result<Node, ParseFault>> Expr
     #[tactic(auto, unfolding(crate::specs::Exprs::neighbor_form))]
     pub fn neighbor_form(&self, ahead: &mut Ahead<'_>) -> Result<Node, ParseFault>
         requires { ReadsExprs self.now.room (F.pre self.now.read) (F.post self.now.read) }
-        ensures { Gives (spec.neighbor_form (expr_to self.now.room) self.now.room ahead.old) result ahead.new }
+        ensures { Gives (spec.neighbor_form (expr_to self.now.room) self.now.room ahead.old)
+            result ahead.new }
     {
         let at = ahead.place();
         let SendParts { chunk, host, bound } = self.send_parts(ahead)?;

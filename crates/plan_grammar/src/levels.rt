@@ -27,7 +27,8 @@ impl<F: Fn(Global, u32, Level, &mut Ahead<'_>) -> Result<Node, ParseFault>> Expr
     #[tactic(auto, unfolding(crate::specs::Exprs::picked_part))]
     fn pick_part(&self, ahead: &mut Ahead<'_>, number: u8) -> Result<Node, ParseFault>
         requires { ReadsExprs self.now.room (F.pre self.now.read) (F.post self.now.read) }
-        ensures { Gives (spec.picked_part (expr_to self.now.room) self.now.room number ahead.old) result ahead.new }
+        ensures { Gives (spec.picked_part (expr_to self.now.room) self.now.room number ahead.old)
+            result ahead.new }
     {
         opens(self.room, ahead)?;
         let at = ahead.place();
@@ -40,7 +41,8 @@ impl<F: Fn(Global, u32, Level, &mut Ahead<'_>) -> Result<Node, ParseFault>> Expr
     /// An operand that begins so.
     fn start_operand(&self, ahead: &mut Ahead<'_>, start: Start) -> Result<Node, ParseFault>
         requires { ReadsExprs self.now.room (F.pre self.now.read) (F.post self.now.read) }
-        ensures { Gives (start_at (expr_to self.now.room) self.now.room start ahead.old) result ahead.new }
+        ensures { Gives (start_at (expr_to self.now.room) self.now.room start ahead.old)
+            result ahead.new }
     {
         match start {
             Start::AName => self.name_operand(ahead),
@@ -63,7 +65,8 @@ impl<F: Fn(Global, u32, Level, &mut Ahead<'_>) -> Result<Node, ParseFault>> Expr
     /// What the next token begins.
     fn operand(&self, ahead: &mut Ahead<'_>) -> Result<Node, ParseFault>
         requires { ReadsExprs self.now.room (F.pre self.now.read) (F.post self.now.read) }
-        ensures { Gives (spec.operand (expr_to self.now.room) self.now.room ahead.old) result ahead.new }
+        ensures { Gives (spec.operand (expr_to self.now.room) self.now.room ahead.old)
+            result ahead.new }
     {
         let start = next_start(ahead);
         self.start_operand(ahead, start)
@@ -73,7 +76,8 @@ impl<F: Fn(Global, u32, Level, &mut Ahead<'_>) -> Result<Node, ParseFault>> Expr
     #[tactic(auto, using(crate::proofs::Chains::chain_done, crate::proofs::Chains::chain_end, crate::proofs::Chains::chain_stop, crate::proofs::Chains::chain_step))]
     fn product_from(&self, ahead: &mut Ahead<'_>, left: Node) -> Result<Node, ParseFault>
         requires { ReadsExprs self.now.room (F.pre self.now.read) (F.post self.now.read) }
-        ensures { Gives (spec.chain_from (spec.operand (expr_to self.now.room) self.now.room) Chain.Product (length ahead.old.tokens) left ahead.old) result ahead.new }
+        ensures { Gives (spec.chain_from (spec.operand (expr_to self.now.room) self.now.room)
+            Chain.Product (length ahead.old.tokens) left ahead.old) result ahead.new }
     {
         let mut left = keep_node(self.alloc, left)?;
         for _ in 0..ahead.tokens_left() {
@@ -90,7 +94,8 @@ impl<F: Fn(Global, u32, Level, &mut Ahead<'_>) -> Result<Node, ParseFault>> Expr
     #[tactic(auto, unfolding(crate::specs::Exprs::product, crate::specs::Exprs::chained_operands))]
     fn product(&self, ahead: &mut Ahead<'_>) -> Result<Node, ParseFault>
         requires { ReadsExprs self.now.room (F.pre self.now.read) (F.post self.now.read) }
-        ensures { Gives (spec.product (expr_to self.now.room) self.now.room ahead.old) result ahead.new }
+        ensures { Gives (spec.product (expr_to self.now.room) self.now.room ahead.old)
+            result ahead.new }
     {
         let first = self.operand(ahead)?;
         self.product_from(ahead, first)
@@ -100,7 +105,8 @@ impl<F: Fn(Global, u32, Level, &mut Ahead<'_>) -> Result<Node, ParseFault>> Expr
     #[tactic(auto, using(crate::proofs::Chains::chain_done, crate::proofs::Chains::chain_end, crate::proofs::Chains::chain_stop, crate::proofs::Chains::chain_step))]
     fn addition_from(&self, ahead: &mut Ahead<'_>, left: Node) -> Result<Node, ParseFault>
         requires { ReadsExprs self.now.room (F.pre self.now.read) (F.post self.now.read) }
-        ensures { Gives (spec.chain_from (spec.product (expr_to self.now.room) self.now.room) Chain.Sum (length ahead.old.tokens) left ahead.old) result ahead.new }
+        ensures { Gives (spec.chain_from (spec.product (expr_to self.now.room) self.now.room)
+            Chain.Sum (length ahead.old.tokens) left ahead.old) result ahead.new }
     {
         let mut left = keep_node(self.alloc, left)?;
         for _ in 0..ahead.tokens_left() {
@@ -117,7 +123,8 @@ impl<F: Fn(Global, u32, Level, &mut Ahead<'_>) -> Result<Node, ParseFault>> Expr
     #[tactic(auto, unfolding(crate::specs::Exprs::addition, crate::specs::Exprs::chained_operands))]
     fn addition(&self, ahead: &mut Ahead<'_>) -> Result<Node, ParseFault>
         requires { ReadsExprs self.now.room (F.pre self.now.read) (F.post self.now.read) }
-        ensures { Gives (spec.addition (expr_to self.now.room) self.now.room ahead.old) result ahead.new }
+        ensures { Gives (spec.addition (expr_to self.now.room) self.now.room ahead.old)
+            result ahead.new }
     {
         let first = self.product(ahead)?;
         self.addition_from(ahead, first)
@@ -127,7 +134,8 @@ impl<F: Fn(Global, u32, Level, &mut Ahead<'_>) -> Result<Node, ParseFault>> Expr
     #[tactic(auto, unfolding(crate::specs::Exprs::before_list))]
     fn before_list(&self, ahead: &mut Ahead<'_>, item: Node) -> Result<Node, ParseFault>
         requires { ReadsExprs self.now.room (F.pre self.now.read) (F.post self.now.read) }
-        ensures { Gives (spec.before_list (expr_to self.now.room) self.now.room item ahead.old) result ahead.new }
+        ensures { Gives (spec.before_list (expr_to self.now.room) self.now.room item ahead.old)
+            result ahead.new }
     {
         let item = keep_node(self.alloc, item)?;
         opens_operand(self.room, ahead)?;
@@ -143,7 +151,8 @@ impl<F: Fn(Global, u32, Level, &mut Ahead<'_>) -> Result<Node, ParseFault>> Expr
     #[tactic(auto, unfolding(crate::specs::Exprs::listed_operands))]
     fn listed_level(&self, ahead: &mut Ahead<'_>) -> Result<Node, ParseFault>
         requires { ReadsExprs self.now.room (F.pre self.now.read) (F.post self.now.read) }
-        ensures { Gives (spec.listed_operands (expr_to self.now.room) self.now.room ahead.old) result ahead.new }
+        ensures { Gives (spec.listed_operands (expr_to self.now.room) self.now.room ahead.old)
+            result ahead.new }
     {
         let item = self.addition(ahead)?;
         if ahead.is_symbol(Symbol::DoubleColon) {
@@ -156,7 +165,8 @@ impl<F: Fn(Global, u32, Level, &mut Ahead<'_>) -> Result<Node, ParseFault>> Expr
     /// At most one comparison behind its left side.
     fn comparison_behind(&self, ahead: &mut Ahead<'_>, left: Node) -> Result<Node, ParseFault>
         requires { ReadsExprs self.now.room (F.pre self.now.read) (F.post self.now.read) }
-        ensures { Gives (spec.compared_operands (expr_to self.now.room) self.now.room left ahead.old (joint_of Chain.Comparison (next_kind ahead.old))) result ahead.new }
+        ensures { Gives (spec.compared_operands (expr_to self.now.room) self.now.room left ahead.old
+            (joint_of Chain.Comparison (next_kind ahead.old))) result ahead.new }
     {
         let Some(joint) = next_joint(Chain::Comparison, ahead) else {
             return Ok(left);
@@ -170,7 +180,8 @@ impl<F: Fn(Global, u32, Level, &mut Ahead<'_>) -> Result<Node, ParseFault>> Expr
     #[tactic(auto, unfolding(crate::specs::Exprs::comparison))]
     fn comparison(&self, ahead: &mut Ahead<'_>) -> Result<Node, ParseFault>
         requires { ReadsExprs self.now.room (F.pre self.now.read) (F.post self.now.read) }
-        ensures { Gives (spec.comparison (expr_to self.now.room) self.now.room ahead.old) result ahead.new }
+        ensures { Gives (spec.comparison (expr_to self.now.room) self.now.room ahead.old)
+            result ahead.new }
     {
         let left = self.listed_level(ahead)?;
         self.comparison_behind(ahead, left)
@@ -179,7 +190,8 @@ impl<F: Fn(Global, u32, Level, &mut Ahead<'_>) -> Result<Node, ParseFault>> Expr
     #[tactic(auto, unfolding(crate::specs::Exprs::negation))]
     fn negation(&self, ahead: &mut Ahead<'_>) -> Result<Node, ParseFault>
         requires { ReadsExprs self.now.room (F.pre self.now.read) (F.post self.now.read) }
-        ensures { Gives (spec.negation (expr_to self.now.room) self.now.room ahead.old) result ahead.new }
+        ensures { Gives (spec.negation (expr_to self.now.room) self.now.room ahead.old)
+            result ahead.new }
     {
         opens(self.room, ahead)?;
         let at = ahead.place();
@@ -192,7 +204,8 @@ impl<F: Fn(Global, u32, Level, &mut Ahead<'_>) -> Result<Node, ParseFault>> Expr
     #[tactic(auto, unfolding(crate::specs::Exprs::negated_operand))]
     fn negated_level(&self, ahead: &mut Ahead<'_>) -> Result<Node, ParseFault>
         requires { ReadsExprs self.now.room (F.pre self.now.read) (F.post self.now.read) }
-        ensures { Gives (spec.negated_operand (expr_to self.now.room) self.now.room ahead.old) result ahead.new }
+        ensures { Gives (spec.negated_operand (expr_to self.now.room) self.now.room ahead.old)
+            result ahead.new }
     {
         if ahead.is_key(Key::Not) {
             return self.negation(ahead);
@@ -204,7 +217,8 @@ impl<F: Fn(Global, u32, Level, &mut Ahead<'_>) -> Result<Node, ParseFault>> Expr
     #[tactic(auto, using(crate::proofs::Chains::chain_done, crate::proofs::Chains::chain_end, crate::proofs::Chains::chain_stop, crate::proofs::Chains::chain_step))]
     fn conjunction_from(&self, ahead: &mut Ahead<'_>, left: Node) -> Result<Node, ParseFault>
         requires { ReadsExprs self.now.room (F.pre self.now.read) (F.post self.now.read) }
-        ensures { Gives (spec.chain_from (spec.negated_operand (expr_to self.now.room) self.now.room) Chain.And (length ahead.old.tokens) left ahead.old) result ahead.new }
+        ensures { Gives (spec.chain_from (spec.negated_operand (expr_to self.now.room)
+            self.now.room) Chain.And (length ahead.old.tokens) left ahead.old) result ahead.new }
     {
         let mut left = keep_node(self.alloc, left)?;
         for _ in 0..ahead.tokens_left() {
@@ -221,7 +235,8 @@ impl<F: Fn(Global, u32, Level, &mut Ahead<'_>) -> Result<Node, ParseFault>> Expr
     #[tactic(auto, unfolding(crate::specs::Exprs::conjunction, crate::specs::Exprs::chained_operands))]
     fn conjunction(&self, ahead: &mut Ahead<'_>) -> Result<Node, ParseFault>
         requires { ReadsExprs self.now.room (F.pre self.now.read) (F.post self.now.read) }
-        ensures { Gives (spec.conjunction (expr_to self.now.room) self.now.room ahead.old) result ahead.new }
+        ensures { Gives (spec.conjunction (expr_to self.now.room) self.now.room ahead.old)
+            result ahead.new }
     {
         let first = self.negated_level(ahead)?;
         self.conjunction_from(ahead, first)
@@ -231,7 +246,8 @@ impl<F: Fn(Global, u32, Level, &mut Ahead<'_>) -> Result<Node, ParseFault>> Expr
     #[tactic(auto, using(crate::proofs::Chains::chain_done, crate::proofs::Chains::chain_end, crate::proofs::Chains::chain_stop, crate::proofs::Chains::chain_step))]
     fn disjunction_from(&self, ahead: &mut Ahead<'_>, left: Node) -> Result<Node, ParseFault>
         requires { ReadsExprs self.now.room (F.pre self.now.read) (F.post self.now.read) }
-        ensures { Gives (spec.chain_from (spec.conjunction (expr_to self.now.room) self.now.room) Chain.Or (length ahead.old.tokens) left ahead.old) result ahead.new }
+        ensures { Gives (spec.chain_from (spec.conjunction (expr_to self.now.room) self.now.room)
+            Chain.Or (length ahead.old.tokens) left ahead.old) result ahead.new }
     {
         let mut left = keep_node(self.alloc, left)?;
         for _ in 0..ahead.tokens_left() {
@@ -248,7 +264,8 @@ impl<F: Fn(Global, u32, Level, &mut Ahead<'_>) -> Result<Node, ParseFault>> Expr
     #[tactic(auto, unfolding(crate::specs::Exprs::disjunction, crate::specs::Exprs::chained_operands))]
     fn disjunction(&self, ahead: &mut Ahead<'_>) -> Result<Node, ParseFault>
         requires { ReadsExprs self.now.room (F.pre self.now.read) (F.post self.now.read) }
-        ensures { Gives (spec.disjunction (expr_to self.now.room) self.now.room ahead.old) result ahead.new }
+        ensures { Gives (spec.disjunction (expr_to self.now.room) self.now.room ahead.old)
+            result ahead.new }
     {
         let first = self.conjunction(ahead)?;
         self.disjunction_from(ahead, first)
@@ -257,7 +274,8 @@ impl<F: Fn(Global, u32, Level, &mut Ahead<'_>) -> Result<Node, ParseFault>> Expr
     #[tactic(auto, unfolding(crate::specs::Exprs::condition))]
     fn condition(&self, ahead: &mut Ahead<'_>) -> Result<Node, ParseFault>
         requires { ReadsExprs self.now.room (F.pre self.now.read) (F.post self.now.read) }
-        ensures { Gives (spec.condition (expr_to self.now.room) self.now.room ahead.old) result ahead.new }
+        ensures { Gives (spec.condition (expr_to self.now.room) self.now.room ahead.old)
+            result ahead.new }
     {
         opens(self.room, ahead)?;
         let at = ahead.place();
@@ -275,7 +293,8 @@ impl<F: Fn(Global, u32, Level, &mut Ahead<'_>) -> Result<Node, ParseFault>> Expr
     #[tactic(auto, unfolding(crate::specs::Exprs::low))]
     fn low(&self, ahead: &mut Ahead<'_>) -> Result<Node, ParseFault>
         requires { ReadsExprs self.now.room (F.pre self.now.read) (F.post self.now.read) }
-        ensures { Gives (spec.low (expr_to self.now.room) self.now.room ahead.old) result ahead.new }
+        ensures { Gives (spec.low (expr_to self.now.room) self.now.room ahead.old)
+            result ahead.new }
     {
         if ahead.is_key(Key::If) {
             return self.condition(ahead);
@@ -287,7 +306,8 @@ impl<F: Fn(Global, u32, Level, &mut Ahead<'_>) -> Result<Node, ParseFault>> Expr
     #[tactic(auto, unfolding(crate::specs::Exprs::before_next))]
     fn before_next(&self, ahead: &mut Ahead<'_>, first: Node) -> Result<Node, ParseFault>
         requires { ReadsExprs self.now.room (F.pre self.now.read) (F.post self.now.read) }
-        ensures { Gives (spec.before_next (expr_to self.now.room) self.now.room first ahead.old) result ahead.new }
+        ensures { Gives (spec.before_next (expr_to self.now.room) self.now.room first ahead.old)
+            result ahead.new }
     {
         let first = keep_node(self.alloc, first)?;
         opens_expr(self.room, ahead)?;
@@ -298,7 +318,8 @@ impl<F: Fn(Global, u32, Level, &mut Ahead<'_>) -> Result<Node, ParseFault>> Expr
     #[tactic(auto, unfolding(crate::specs::Exprs::whole))]
     fn whole(&self, ahead: &mut Ahead<'_>) -> Result<Node, ParseFault>
         requires { ReadsExprs self.now.room (F.pre self.now.read) (F.post self.now.read) }
-        ensures { Gives (spec.whole (expr_to self.now.room) self.now.room ahead.old) result ahead.new }
+        ensures { Gives (spec.whole (expr_to self.now.room) self.now.room ahead.old)
+            result ahead.new }
     {
         let first = self.low(ahead)?;
         if ahead.is_symbol(Symbol::Semicolon) {
@@ -312,7 +333,8 @@ impl<F: Fn(Global, u32, Level, &mut Ahead<'_>) -> Result<Node, ParseFault>> Expr
     #[tactic(auto, unfolding(crate::specs::Exprs::at_level))]
     pub fn at_level(&self, ahead: &mut Ahead<'_>, level: Level) -> Result<Node, ParseFault>
         requires { ReadsExprs self.now.room (F.pre self.now.read) (F.post self.now.read) }
-        ensures { Gives (spec.at_level (expr_to self.now.room) self.now.room level ahead.old) result ahead.new }
+        ensures { Gives (spec.at_level (expr_to self.now.room) self.now.room level ahead.old)
+            result ahead.new }
     {
         match level {
             Level::Whole => self.whole(ahead),

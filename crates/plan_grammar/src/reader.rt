@@ -115,7 +115,8 @@ impl<F: Fn(Global, u32, Level, &mut Ahead<'_>) -> Result<Node, ParseFault>> Expr
     ) -> Result<Items<Node>, ParseFault>
         requires reads { ReadsExprs self.now.room (F.pre self.now.read) (F.post self.now.read) }
         requires within { length nodes ≤ most }
-        ensures { Gives (more (expr_to self.now.room Level.Whole) begins.begins_expr Symbol.Comma limit Wanted.AnExpr (most - length nodes) nodes ahead.old) result ahead.new }
+        ensures { Gives (more (expr_to self.now.room Level.Whole) begins.begins_expr Symbol.Comma
+            limit Wanted.AnExpr (most - length nodes) nodes ahead.old) result ahead.new }
     {
         let mut nodes = nodes;
         while ahead.is_symbol(Symbol::Comma) {
@@ -139,7 +140,8 @@ impl<F: Fn(Global, u32, Level, &mut Ahead<'_>) -> Result<Node, ParseFault>> Expr
     ) -> Result<Items<Node>, ParseFault>
         requires reads { ReadsExprs self.now.room (F.pre self.now.read) (F.post self.now.read) }
         requires few { most < 100 }
-        ensures { Gives (spec.items_from (expr_to self.now.room) self.now.room close limit most ahead.old) result ahead.new }
+        ensures { Gives (spec.items_from (expr_to self.now.room) self.now.room close limit most
+            ahead.old) result ahead.new }
     {
         let mut nodes = Items::new(self.alloc);
         nodes.add(self.inner(ahead, Level::Whole)?)?;
@@ -152,7 +154,8 @@ impl<F: Fn(Global, u32, Level, &mut Ahead<'_>) -> Result<Node, ParseFault>> Expr
     #[tactic(auto, unfolding(crate::specs::Exprs::before_comma))]
     pub fn before_comma(&self, ahead: &mut Ahead<'_>) -> Result<Boxed<Node>, ParseFault>
         requires { ReadsExprs self.now.room (F.pre self.now.read) (F.post self.now.read) }
-        ensures { Gives (spec.before_comma (expr_to self.now.room) self.now.room ahead.old) result ahead.new }
+        ensures { Gives (spec.before_comma (expr_to self.now.room) self.now.room ahead.old)
+            result ahead.new }
     {
         let node = self.inner_kept(ahead, Level::Whole)?;
         ahead.need_symbol(Symbol::Comma)?;
@@ -163,7 +166,8 @@ impl<F: Fn(Global, u32, Level, &mut Ahead<'_>) -> Result<Node, ParseFault>> Expr
     #[tactic(auto, unfolding(crate::specs::Exprs::before_close))]
     pub fn before_close(&self, ahead: &mut Ahead<'_>) -> Result<Boxed<Node>, ParseFault>
         requires { ReadsExprs self.now.room (F.pre self.now.read) (F.post self.now.read) }
-        ensures { Gives (spec.before_close (expr_to self.now.room) self.now.room ahead.old) result ahead.new }
+        ensures { Gives (spec.before_close (expr_to self.now.room) self.now.room ahead.old)
+            result ahead.new }
     {
         let node = self.inner_kept(ahead, Level::Whole)?;
         ahead.need_symbol(Symbol::ParenClose)?;

@@ -166,7 +166,8 @@ impl<F: Fn(Global, u32, &mut Ahead<'_>) -> Result<Ty, ParseFault>> TypeReader<F>
     ) -> Result<Tys, ParseFault>
         requires reads { ReadsTypes self.now.room (F.pre self.now.read) (F.post self.now.read) }
         requires within { length types ≤ most }
-        ensures { Gives (more (type_to self.now.room) begins_type separator limit Wanted.AType (most - length types) types ahead.old) result ahead.new }
+        ensures { Gives (more (type_to self.now.room) begins_type separator limit Wanted.AType
+            (most - length types) types ahead.old) result ahead.new }
     {
         let mut types = types;
         while ahead.is_symbol(separator) {
@@ -182,7 +183,8 @@ impl<F: Fn(Global, u32, &mut Ahead<'_>) -> Result<Ty, ParseFault>> TypeReader<F>
     #[tactic(auto, unfolding(crate::specs::Types::tuple_type))]
     fn tuple_type(&self, ahead: &mut Ahead<'_>, first: Ty) -> Result<Ty, ParseFault>
         requires { ReadsTypes self.now.room (F.pre self.now.read) (F.post self.now.read) }
-        ensures { Gives (spec.tuple_type (type_to self.now.room) self.now.room first ahead.old) result ahead.new }
+        ensures { Gives (spec.tuple_type (type_to self.now.room) self.now.room first ahead.old)
+            result ahead.new }
     {
         let mut types = Items::new(self.alloc);
         types.add(first)?;
@@ -193,7 +195,8 @@ impl<F: Fn(Global, u32, &mut Ahead<'_>) -> Result<Ty, ParseFault>> TypeReader<F>
 
     #[tactic(auto, unfolding(crate::specs::Types::single_type))]
     fn single_type(&self, ahead: &mut Ahead<'_>, first: Ty) -> Result<Ty, ParseFault>
-        ensures { Gives (spec.single_type (type_to self.now.room) self.now.room first ahead.old) result ahead.new }
+        ensures { Gives (spec.single_type (type_to self.now.room) self.now.room first ahead.old)
+            result ahead.new }
     {
         ahead.need_symbol(Symbol::ParenClose)?;
         Ok(first)
@@ -202,7 +205,8 @@ impl<F: Fn(Global, u32, &mut Ahead<'_>) -> Result<Ty, ParseFault>> TypeReader<F>
     #[tactic(auto, unfolding(crate::specs::Types::group_type))]
     fn group_type(&self, ahead: &mut Ahead<'_>) -> Result<Ty, ParseFault>
         requires { ReadsTypes self.now.room (F.pre self.now.read) (F.post self.now.read) }
-        ensures { Gives (spec.group_type (type_to self.now.room) self.now.room ahead.old) result ahead.new }
+        ensures { Gives (spec.group_type (type_to self.now.room) self.now.room ahead.old)
+            result ahead.new }
     {
         opens(self.room, ahead)?;
         ahead.skip();
@@ -217,7 +221,8 @@ impl<F: Fn(Global, u32, &mut Ahead<'_>) -> Result<Ty, ParseFault>> TypeReader<F>
     #[tactic(auto, unfolding(crate::specs::Types::base_type))]
     fn base_type(&self, ahead: &mut Ahead<'_>) -> Result<Ty, ParseFault>
         requires { ReadsTypes self.now.room (F.pre self.now.read) (F.post self.now.read) }
-        ensures { Gives (spec.base_type (type_to self.now.room) self.now.room ahead.old) result ahead.new }
+        ensures { Gives (spec.base_type (type_to self.now.room) self.now.room ahead.old)
+            result ahead.new }
     {
         if ahead.is_symbol(Symbol::ParenOpen) {
             return self.group_type(ahead);
@@ -228,7 +233,8 @@ impl<F: Fn(Global, u32, &mut Ahead<'_>) -> Result<Ty, ParseFault>> TypeReader<F>
     #[tactic(auto, unfolding(crate::specs::Types::whole_type))]
     fn whole_type(&self, ahead: &mut Ahead<'_>) -> Result<Ty, ParseFault>
         requires { ReadsTypes self.now.room (F.pre self.now.read) (F.post self.now.read) }
-        ensures { Gives (spec.whole_type (type_to self.now.room) self.now.room ahead.old) result ahead.new }
+        ensures { Gives (spec.whole_type (type_to self.now.room) self.now.room ahead.old)
+            result ahead.new }
     {
         let start = ahead.place();
         let base = self.base_type(ahead)?;
@@ -239,7 +245,8 @@ impl<F: Fn(Global, u32, &mut Ahead<'_>) -> Result<Ty, ParseFault>> TypeReader<F>
 
 /// A type that one token names.
 fn named_type(ahead: &mut Ahead<'_>) -> Result<Ty, ParseFault>
-    ensures { Gives (type_or_fault ahead.old (begins.kind_type (next_kind ahead.old))) result ahead.new }
+    ensures { Gives (type_or_fault ahead.old (begins.kind_type (next_kind ahead.old)))
+        result ahead.new }
 {
     let Some(t) = next_type(ahead) else {
         return Err(ParseFault::Expected(Wanted::AType, ahead.place()));

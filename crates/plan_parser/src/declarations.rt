@@ -175,7 +175,8 @@ fn nothing(alloc: Global) -> Gathered
 /// The declarations up to the end, of which there are no more than tokens.
 #[tactic(auto, using(crate::proofs::DeclarationSteps::declarations_done, crate::proofs::DeclarationSteps::declarations_end, crate::proofs::DeclarationSteps::declarations_stop, crate::proofs::DeclarationSteps::declarations_step))]
 pub fn declarations(alloc: Global, tokens: &[Token], end: u32) -> Result<Gathered, ParseFault>
-    ensures { Answers (spec.declarations (length tokens.now) spec.nothing (record { tokens = tokens.now; end = end })) result }
+    ensures { Answers (spec.declarations (length tokens.now) spec.nothing
+        (record { tokens = tokens.now; end = end })) result }
 {
     let mut ahead = Ahead::over(tokens, end);
     let mut gathered = nothing(alloc);

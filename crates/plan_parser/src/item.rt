@@ -79,7 +79,8 @@ pub fn begins_value(ahead: &Ahead<'_>) -> bool
 
 /// Takes the literal that must stand next.
 pub fn literal_at(alloc: Global, ahead: &mut Ahead<'_>) -> Result<TypedValue, ParseFault>
-    ensures { Gives (spec.literal_from ahead.old (spec.literal (next_kind ahead.old))) result ahead.new }
+    ensures { Gives (spec.literal_from ahead.old (spec.literal (next_kind ahead.old)))
+        result ahead.new }
 {
     let Some(item) = literal(alloc, ahead)? else {
         return Err(ParseFault::Expected(Wanted::AValue, ahead.place()));

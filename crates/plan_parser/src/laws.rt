@@ -7,7 +7,10 @@ ghost use Rattle.plan_parser.specs.Programs.{program_of, IsAnswered};
 /// Tokens are one program or have one first refusal, and not both.
 pub fn one_answer()
     ensures some { (tokens : List Token) (end : ℕ) → IsAnswered tokens end }
-    ensures draft { (tokens : List Token) (end : ℕ) (c d : Draft) → program_of tokens end ≡ Ok c → program_of tokens end ≡ Ok d → c ≡ d }
-    ensures refusal { (tokens : List Token) (end : ℕ) (d e : ParseFault) → program_of tokens end ≡ Err d → program_of tokens end ≡ Err e → d ≡ e }
-    ensures apart { (tokens : List Token) (end : ℕ) (d : Draft) (e : ParseFault) → program_of tokens end ≡ Ok d → program_of tokens end ≡ Err e → ⊥ }
+    ensures draft { (tokens : List Token) (end : ℕ) (c d : Draft) → program_of tokens end ≡ Ok c →
+        program_of tokens end ≡ Ok d → c ≡ d }
+    ensures refusal { (tokens : List Token) (end : ℕ) (d e : ParseFault) → program_of tokens end ≡
+        Err d → program_of tokens end ≡ Err e → d ≡ e }
+    ensures apart { (tokens : List Token) (end : ℕ) (d : Draft) (e : ParseFault) → program_of tokens
+        end ≡ Ok d → program_of tokens end ≡ Err e → ⊥ }
 {}

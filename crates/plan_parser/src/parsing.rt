@@ -27,8 +27,10 @@ pub fn parse(alloc: Global, tokens: &Tokens, len: u32) -> Result<Draft, ParseFau
     requires tokens { AreTokens 0 len tokens.now }
     requires len { len ≤ 65536 }
     ensures found { IfOk result (λ d. program_of tokens.now len ≡ Ok d) }
-    ensures only { (d : Draft) → program_of tokens.now len ≡ Ok d → MatchResult result (λ e. e ≡ d) (λ e. e ≡ ParseFault.NoMemory) }
-    ensures fault { IfErr result (λ e. (e ≡ ParseFault.NoMemory) ⊎ (program_of tokens.now len ≡ Err e)) }
+    ensures only { (d : Draft) → program_of tokens.now len ≡ Ok d → MatchResult result (λ e. e ≡ d)
+        (λ e. e ≡ ParseFault.NoMemory) }
+    ensures fault { IfErr result (λ e. (e ≡ ParseFault.NoMemory) ⊎
+        (program_of tokens.now len ≡ Err e)) }
     ensures formed { IfOk result (λ d. IsWellFormedProgram d.program) }
     ensures placed { IfOk result (λ d. Placed d) }
 {

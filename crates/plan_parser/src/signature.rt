@@ -43,7 +43,8 @@ fn inner_type(alloc: Global, ahead: &mut Ahead<'_>) -> Result<Ty, ParseFault>
 #[tactic(auto, using(plan_grammar::proofs::Mores::more_ends, plan_grammar::proofs::Mores::more_past, plan_grammar::proofs::Mores::more_stops, plan_grammar::proofs::Mores::more_steps))]
 fn more_types(alloc: Global, ahead: &mut Ahead<'_>, types: Tys) -> Result<Tys, ParseFault>
     requires { length types ≤ 8 }
-    ensures { Gives (more spec.inner_type begins.begins_type Symbol.Comma Limit.Parameters Wanted.AType (8 - length types) types ahead.old) result ahead.new }
+    ensures { Gives (more spec.inner_type begins.begins_type Symbol.Comma Limit.Parameters
+        Wanted.AType (8 - length types) types ahead.old) result ahead.new }
 {
     let mut types = types;
     while ahead.is_symbol(Symbol::Comma) {
@@ -132,7 +133,8 @@ fn param_at(alloc: Global, ahead: &mut Ahead<'_>) -> Result<Param, ParseFault>
 #[tactic(auto, using(plan_grammar::proofs::Mores::more_ends, plan_grammar::proofs::Mores::more_past, plan_grammar::proofs::Mores::more_stops, plan_grammar::proofs::Mores::more_steps))]
 fn more_params(alloc: Global, ahead: &mut Ahead<'_>, params: Params) -> Result<Params, ParseFault>
     requires { length params ≤ 8 }
-    ensures { Gives (more spec.param_at begins.begins_name Symbol.Comma Limit.Parameters Wanted.AName (8 - length params) params ahead.old) result ahead.new }
+    ensures { Gives (more spec.param_at begins.begins_name Symbol.Comma Limit.Parameters
+        Wanted.AName (8 - length params) params ahead.old) result ahead.new }
 {
     let mut params = params;
     while ahead.is_symbol(Symbol::Comma) {

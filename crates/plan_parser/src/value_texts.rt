@@ -40,7 +40,8 @@ fn argument_at(alloc: Global, ahead: &mut Ahead<'_>) -> Result<Value, ParseFault
 #[tactic(auto, using(plan_grammar::proofs::Mores::more_ends, plan_grammar::proofs::Mores::more_past, plan_grammar::proofs::Mores::more_stops, plan_grammar::proofs::Mores::more_steps))]
 fn more_arguments(alloc: Global, ahead: &mut Ahead<'_>, args: Values) -> Result<Values, ParseFault>
     requires { length args ≤ 8 }
-    ensures { Gives (more spec.argument_at spec.begins_value Symbol.Comma Limit.Arguments Wanted.AValue (8 - length args) args ahead.old) result ahead.new }
+    ensures { Gives (more spec.argument_at spec.begins_value Symbol.Comma Limit.Arguments
+        Wanted.AValue (8 - length args) args ahead.old) result ahead.new }
 {
     let mut args = args;
     while ahead.is_symbol(Symbol::Comma) {
@@ -104,7 +105,8 @@ fn args_of(alloc: Global, tokens: &[Token], end: u32) -> Result<Values, ParseFau
 pub fn parse_value(alloc: Global, text: &[u8]) -> Result<Value, ValueFault>
     requires { length text.now ≤ 65536 }
     ensures found { IfOk result (Reads value_of text.now) }
-    ensures only { (v : Value) → Reads value_of text.now v → MatchResult result (λ w. w ≡ v) (λ e. e ≡ ValueFault.NoMemory) }
+    ensures only { (v : Value) → Reads value_of text.now v → MatchResult result (λ w. w ≡ v)
+        (λ e. e ≡ ValueFault.NoMemory) }
     ensures fault { IfErr result (λ e. (e ≡ ValueFault.NoMemory) ⊎ Fails value_of text.now e) }
     ensures formed { IfOk result (λ v. IsWellFormedValue v) }
     ensures full { IfOk result (λ v. ValueHasTypes v) }
@@ -118,7 +120,8 @@ pub fn parse_value(alloc: Global, text: &[u8]) -> Result<Value, ValueFault>
 pub fn parse_args(alloc: Global, text: &[u8]) -> Result<Values, ValueFault>
     requires { length text.now ≤ 65536 }
     ensures found { IfOk result (Reads args_of text.now) }
-    ensures only { (vs : List Value) → Reads args_of text.now vs → MatchResult result (λ ws. ws ≡ vs) (λ e. e ≡ ValueFault.NoMemory) }
+    ensures only { (vs : List Value) → Reads args_of text.now vs → MatchResult result
+        (λ ws. ws ≡ vs) (λ e. e ≡ ValueFault.NoMemory) }
     ensures fault { IfErr result (λ e. (e ≡ ValueFault.NoMemory) ⊎ Fails args_of text.now e) }
     ensures formed { IfOk result (λ vs. IsTrue (list_all well_formed_value vs)) }
     ensures full { IfOk result (λ vs. IsTrue (list_all value_has_types vs)) }

@@ -66,7 +66,8 @@ fn fits(room: u32, at: u32, t: &Ty) -> Result<(), ParseFault>
 
 impl<F: Fn(Global, u32, u32, &mut Ahead<'_>) -> Result<TypedValue, ParseFault>> ValueReader<F> {
     fn inner(&self, ahead: &mut Ahead<'_>) -> Result<TypedValue, ParseFault>
-        requires { ReadsValues self.now.outside self.now.room (F.pre self.now.read) (F.post self.now.read) }
+        requires { ReadsValues self.now.outside self.now.room (F.pre self.now.read)
+            (F.post self.now.read) }
         ensures { Gives (value_to self.now.outside self.now.room ahead.old) result ahead.new }
     {
         (self.read)(self.alloc, self.outside, self.room, ahead)
@@ -79,9 +80,12 @@ impl<F: Fn(Global, u32, u32, &mut Ahead<'_>) -> Result<TypedValue, ParseFault>> 
         ahead: &mut Ahead<'_>,
         parts: Items<TypedValue>,
     ) -> Result<Items<TypedValue>, ParseFault>
-        requires reads { ReadsValues self.now.outside self.now.room (F.pre self.now.read) (F.post self.now.read) }
+        requires reads { ReadsValues self.now.outside self.now.room (F.pre self.now.read)
+            (F.post self.now.read) }
         requires within { length parts ≤ 8 }
-        ensures { Gives (more (value_to self.now.outside self.now.room) spec.begins_value Symbol.Comma Limit.Parts Wanted.AValue (8 - length parts) parts ahead.old) result ahead.new }
+        ensures { Gives (more (value_to self.now.outside self.now.room) spec.begins_value
+            Symbol.Comma Limit.Parts Wanted.AValue (8 - length parts) parts ahead.old)
+            result ahead.new }
     {
         let mut parts = parts;
         while ahead.is_symbol(Symbol::Comma) {
@@ -97,8 +101,10 @@ impl<F: Fn(Global, u32, u32, &mut Ahead<'_>) -> Result<TypedValue, ParseFault>> 
     /// The further parts of a tuple.
     #[tactic(auto, unfolding(crate::specs::Values::tuple_from))]
     fn tuple_from(&self, ahead: &mut Ahead<'_>, first: TypedValue) -> Result<TypedValue, ParseFault>
-        requires { ReadsValues self.now.outside self.now.room (F.pre self.now.read) (F.post self.now.read) }
-        ensures { Gives (spec.tuple_from (value_to self.now.outside self.now.room) self.now.outside self.now.room first ahead.old) result ahead.new }
+        requires { ReadsValues self.now.outside self.now.room (F.pre self.now.read)
+            (F.post self.now.read) }
+        ensures { Gives (spec.tuple_from (value_to self.now.outside self.now.room) self.now.outside
+            self.now.room first ahead.old) result ahead.new }
     {
         let mut parts = Items::new(self.alloc);
         parts.add(first)?;
@@ -110,8 +116,10 @@ impl<F: Fn(Global, u32, u32, &mut Ahead<'_>) -> Result<TypedValue, ParseFault>> 
     /// There must be a second part.
     #[tactic(auto, unfolding(crate::specs::Values::tuple))]
     fn tuple(&self, ahead: &mut Ahead<'_>, first: TypedValue) -> Result<TypedValue, ParseFault>
-        requires { ReadsValues self.now.outside self.now.room (F.pre self.now.read) (F.post self.now.read) }
-        ensures { Gives (spec.tuple (value_to self.now.outside self.now.room) self.now.outside self.now.room first ahead.old) result ahead.new }
+        requires { ReadsValues self.now.outside self.now.room (F.pre self.now.read)
+            (F.post self.now.read) }
+        ensures { Gives (spec.tuple (value_to self.now.outside self.now.room) self.now.outside
+            self.now.room first ahead.old) result ahead.new }
     {
         if !ahead.is_symbol(Symbol::Comma) {
             return Err(ParseFault::Expected(Wanted::Symbol(Symbol::Comma), ahead.place()));
@@ -122,8 +130,10 @@ impl<F: Fn(Global, u32, u32, &mut Ahead<'_>) -> Result<TypedValue, ParseFault>> 
     /// A tuple, whose bracket stands at `at`.
     #[tactic(auto, unfolding(crate::specs::Values::grouped_value))]
     fn tuple_at(&self, ahead: &mut Ahead<'_>, at: u32) -> Result<TypedValue, ParseFault>
-        requires { ReadsValues self.now.outside self.now.room (F.pre self.now.read) (F.post self.now.read) }
-        ensures { Gives (spec.grouped_value (value_to self.now.outside self.now.room) self.now.outside self.now.room at ahead.old) result ahead.new }
+        requires { ReadsValues self.now.outside self.now.room (F.pre self.now.read)
+            (F.post self.now.read) }
+        ensures { Gives (spec.grouped_value (value_to self.now.outside self.now.room)
+            self.now.outside self.now.room at ahead.old) result ahead.new }
     {
         if self.room == 0 {
             return Err(ParseFault::TooDeep(at));
@@ -135,8 +145,10 @@ impl<F: Fn(Global, u32, u32, &mut Ahead<'_>) -> Result<TypedValue, ParseFault>> 
     /// What a round bracket begins.
     #[tactic(auto, unfolding(crate::specs::Values::parens))]
     fn parens(&self, ahead: &mut Ahead<'_>) -> Result<TypedValue, ParseFault>
-        requires { ReadsValues self.now.outside self.now.room (F.pre self.now.read) (F.post self.now.read) }
-        ensures { Gives (spec.parens (value_to self.now.outside self.now.room) self.now.outside self.now.room ahead.old) result ahead.new }
+        requires { ReadsValues self.now.outside self.now.room (F.pre self.now.read)
+            (F.post self.now.read) }
+        ensures { Gives (spec.parens (value_to self.now.outside self.now.room) self.now.outside
+            self.now.room ahead.old) result ahead.new }
     {
         let at = ahead.place();
         ahead.skip();
@@ -153,8 +165,10 @@ impl<F: Fn(Global, u32, u32, &mut Ahead<'_>) -> Result<TypedValue, ParseFault>> 
     /// A further item of a list.
     #[tactic(auto, unfolding(crate::specs::Values::like))]
     fn like(&self, ahead: &mut Ahead<'_>, t: &Ty) -> Result<Value, ParseFault>
-        requires { ReadsValues self.now.outside self.now.room (F.pre self.now.read) (F.post self.now.read) }
-        ensures { Gives (spec.like (value_to self.now.outside self.now.room) self.now.outside self.now.room t.now ahead.old) result ahead.new }
+        requires { ReadsValues self.now.outside self.now.room (F.pre self.now.read)
+            (F.post self.now.read) }
+        ensures { Gives (spec.like (value_to self.now.outside self.now.room) self.now.outside
+            self.now.room t.now ahead.old) result ahead.new }
     {
         let at = ahead.place();
         let item = self.inner(ahead)?;
@@ -164,9 +178,12 @@ impl<F: Fn(Global, u32, u32, &mut Ahead<'_>) -> Result<TypedValue, ParseFault>> 
     /// Further items of that type behind commas.
     #[tactic(auto, using(plan_grammar::proofs::Mores::more_ends, plan_grammar::proofs::Mores::more_past, plan_grammar::proofs::Mores::more_stops, plan_grammar::proofs::Mores::more_steps))]
     fn more_items(&self, ahead: &mut Ahead<'_>, t: &Ty, items: Values) -> Result<Values, ParseFault>
-        requires reads { ReadsValues self.now.outside self.now.room (F.pre self.now.read) (F.post self.now.read) }
+        requires reads { ReadsValues self.now.outside self.now.room (F.pre self.now.read)
+            (F.post self.now.read) }
         requires within { length items ≤ 63 }
-        ensures { Gives (more (spec.like (value_to self.now.outside self.now.room) self.now.outside self.now.room t.now) spec.begins_value Symbol.Comma Limit.Items Wanted.AValue (63 - length items) items ahead.old) result ahead.new }
+        ensures { Gives (more (spec.like (value_to self.now.outside self.now.room) self.now.outside
+            self.now.room t.now) spec.begins_value Symbol.Comma Limit.Items Wanted.AValue
+            (63 - length items) items ahead.old) result ahead.new }
     {
         let mut items = items;
         while ahead.is_symbol(Symbol::Comma) {
@@ -182,8 +199,10 @@ impl<F: Fn(Global, u32, u32, &mut Ahead<'_>) -> Result<TypedValue, ParseFault>> 
     /// Items in brackets.
     #[tactic(auto, unfolding(crate::specs::Values::listing))]
     fn listing(&self, ahead: &mut Ahead<'_>) -> Result<TypedValue, ParseFault>
-        requires { ReadsValues self.now.outside self.now.room (F.pre self.now.read) (F.post self.now.read) }
-        ensures { Gives (spec.listing (value_to self.now.outside self.now.room) self.now.outside self.now.room ahead.old) result ahead.new }
+        requires { ReadsValues self.now.outside self.now.room (F.pre self.now.read)
+            (F.post self.now.read) }
+        ensures { Gives (spec.listing (value_to self.now.outside self.now.room) self.now.outside
+            self.now.room ahead.old) result ahead.new }
     {
         let TypedValue { value, ty } = self.inner(ahead)?;
         let mut items = Items::new(self.alloc);
@@ -197,7 +216,8 @@ impl<F: Fn(Global, u32, u32, &mut Ahead<'_>) -> Result<TypedValue, ParseFault>> 
     #[tactic(auto, unfolding(crate::specs::Values::typed_nil))]
     fn typed_nil(&self, ahead: &mut Ahead<'_>, at: u32) -> Result<TypedValue, ParseFault>
         requires few { (self.now.room ≤ 7) × (self.now.outside ≤ 1) }
-        ensures { Gives (spec.typed_nil (value_to self.now.outside self.now.room) self.now.outside self.now.room at ahead.old) result ahead.new }
+        ensures { Gives (spec.typed_nil (value_to self.now.outside self.now.room) self.now.outside
+            self.now.room at ahead.old) result ahead.new }
     {
         ahead.skip();
         let t = type_to(self.alloc, 153 + self.room - self.outside, ahead)?;
@@ -209,9 +229,11 @@ impl<F: Fn(Global, u32, u32, &mut Ahead<'_>) -> Result<TypedValue, ParseFault>> 
     /// What a square bracket begins.
     #[tactic(auto, unfolding(crate::specs::Values::brackets))]
     fn brackets(&self, ahead: &mut Ahead<'_>) -> Result<TypedValue, ParseFault>
-        requires reads { ReadsValues self.now.outside self.now.room (F.pre self.now.read) (F.post self.now.read) }
+        requires reads { ReadsValues self.now.outside self.now.room (F.pre self.now.read)
+            (F.post self.now.read) }
         requires few { (self.now.room ≤ 7) × (self.now.outside ≤ 1) }
-        ensures { Gives (spec.brackets (value_to self.now.outside self.now.room) self.now.outside self.now.room ahead.old) result ahead.new }
+        ensures { Gives (spec.brackets (value_to self.now.outside self.now.room) self.now.outside
+            self.now.room ahead.old) result ahead.new }
     {
         opens(self.room, ahead)?;
         let at = ahead.place();
@@ -227,9 +249,11 @@ impl<F: Fn(Global, u32, u32, &mut Ahead<'_>) -> Result<TypedValue, ParseFault>> 
 
     #[tactic(auto, unfolding(crate::specs::Values::value_at))]
     fn value_at(&self, ahead: &mut Ahead<'_>) -> Result<TypedValue, ParseFault>
-        requires reads { ReadsValues self.now.outside self.now.room (F.pre self.now.read) (F.post self.now.read) }
+        requires reads { ReadsValues self.now.outside self.now.room (F.pre self.now.read)
+            (F.post self.now.read) }
         requires few { (self.now.room ≤ 7) × (self.now.outside ≤ 1) }
-        ensures { Gives (spec.value_at (value_to self.now.outside self.now.room) self.now.outside self.now.room ahead.old) result ahead.new }
+        ensures { Gives (spec.value_at (value_to self.now.outside self.now.room) self.now.outside
+            self.now.room ahead.old) result ahead.new }
     {
         if ahead.is_symbol(Symbol::ParenOpen) {
             return self.parens(ahead);

@@ -21,29 +21,35 @@ ghost use Rattle.program_grammar.specs.Written.{expr_tree, Holds};
 
 /// What is read as a program is one by the grammar, with the places of its declarations and expressions.
 pub fn what_is_read_is_written()
-    ensures { (tokens : List Token) (end : ℕ) (d : Draft) → program_of tokens end ≡ Ok d → ProgramAt tokens end d }
+    ensures { (tokens : List Token) (end : ℕ) (d : Draft) → program_of tokens end ≡ Ok d → ProgramAt
+        tokens end d }
 {}
 
 /// A program of the grammar is read.
 pub fn what_is_written_is_read()
-    ensures { (tokens : List Token) (end : ℕ) (d : Draft) → ProgramAt tokens end d → program_of tokens end ≡ Ok d }
+    ensures { (tokens : List Token) (end : ℕ) (d : Draft) → ProgramAt tokens end d → program_of
+        tokens end ≡ Ok d }
 {}
 
 /// Tokens are at most one program.
 pub fn one_reading()
-    ensures { (tokens : List Token) (end : ℕ) (d e : Draft) → ProgramAt tokens end d → ProgramAt tokens end e → d ≡ e }
+    ensures { (tokens : List Token) (end : ℕ) (d e : Draft) → ProgramAt tokens end d → ProgramAt
+        tokens end e → d ≡ e }
 {}
 
 /// A program is refused exactly with the first refusal of its agenda, and tokens have at most one.
 pub fn refusals_are_first()
-    ensures first { (tokens : List Token) (end : ℕ) (e : ParseFault) → (program_of tokens end ≡ Err e) ↔ FirstProgramRefusal e tokens end }
-    ensures one { (tokens : List Token) (end : ℕ) (d e : ParseFault) → FirstProgramRefusal d tokens end → FirstProgramRefusal e tokens end → d ≡ e }
+    ensures first { (tokens : List Token) (end : ℕ) (e : ParseFault) →
+        (program_of tokens end ≡ Err e) ↔ FirstProgramRefusal e tokens end }
+    ensures one { (tokens : List Token) (end : ℕ) (d e : ParseFault) → FirstProgramRefusal d tokens
+        end → FirstProgramRefusal e tokens end → d ≡ e }
 {}
 
 /// Tokens are a program or have a first refusal, and not both.
 pub fn one_answer()
     ensures some { (tokens : List Token) (end : ℕ) → IsProgramOrRefused tokens end }
-    ensures apart { (tokens : List Token) (end : ℕ) (d : Draft) (e : ParseFault) → ProgramAt tokens end d → FirstProgramRefusal e tokens end → ⊥ }
+    ensures apart { (tokens : List Token) (end : ℕ) (d : Draft) (e : ParseFault) → ProgramAt tokens
+        end d → FirstProgramRefusal e tokens end → ⊥ }
 {}
 
 /// The agenda judges a body by the depth and the number of the expressions that the grammar gives it.
@@ -54,7 +60,8 @@ pub fn what_is_judged()
 
 /// No first refusal of a program is `NoMemory`.
 pub fn refusals_hold_no_memory()
-    ensures { (tokens : List Token) (end : ℕ) (e : ParseFault) → program_of tokens end ≡ Err e → e ≢ fault.NoMemory }
+    ensures { (tokens : List Token) (end : ℕ) (e : ParseFault) → program_of tokens end ≡ Err e → e ≢
+        fault.NoMemory }
 {}
 
 /// What is read as an expression is the tree that is written, or is only said to be deeper than 64 where the written tree
@@ -65,6 +72,8 @@ pub fn trees_are_written()
 
 /// A body is judged by the depth and, where that is kept, by the number of expressions of the written tree.
 pub fn bodies_are_judged_as_written()
-    ensures deep { (f g : Front) (n : Node) → (e : ExprAt 160 f n g) → EndsExpr g → (64 < (body_size f).0) ↔ (64 < expr_depth (expr_tree e)) }
-    ensures many { (f g : Front) (n : Node) → (e : ExprAt 160 f n g) → EndsExpr g → expr_depth (expr_tree e) ≤ 64 → (body_size f).1 ≡ expr_nodes (expr_tree e) }
+    ensures deep { (f g : Front) (n : Node) → (e : ExprAt 160 f n g) → EndsExpr g →
+        (64 < (body_size f).0) ↔ (64 < expr_depth (expr_tree e)) }
+    ensures many { (f g : Front) (n : Node) → (e : ExprAt 160 f n g) → EndsExpr g → expr_depth
+        (expr_tree e) ≤ 64 → (body_size f).1 ≡ expr_nodes (expr_tree e) }
 {}

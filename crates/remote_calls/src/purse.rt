@@ -67,7 +67,8 @@ impl Purse {
     /// Pays `n`. Refused exactly where `n` is below 1 or more than the purse holds, and nothing is paid then.
     #[tactic(auto, using(crate::proofs::Paying::is_within))]
     pub fn pay(&mut self, n: i64) -> Result<(), NoBound>
-        ensures paid { OnOk result (IsTrue (is_paid n self.old) × (self.new + bound_of n ≡ self.old)) }
+        ensures paid { OnOk result (IsTrue (is_paid n self.old) ×
+            (self.new + bound_of n ≡ self.old)) }
         ensures refused { OnErr result ((is_paid n self.old ≡ false) × (self.new ≡ self.old)) }
     {
         match self.bound_for(n) {

@@ -50,12 +50,21 @@ pub fn on_remote(
     n: i64,
     route: Name,
 ) -> Result<(), SendFault>
-    ensures sent { OnOk result (IsTrue (is_paid n purse.old) × ((via : AHost) × (dev : ADev) × (hop ctx.entry.now.router route ctx.entry.now.here host ≡ Hop.To via dev)
-        × IsSent dev (packet_of family host (bound_of n) route chunk) purse.old outbox.old purse.new outbox.new)) }
-    ensures only { (via : AHost) (dev : ADev) → IsTrue (is_paid n purse.old) → hop ctx.entry.now.router route ctx.entry.now.here host ≡ Hop.To via dev → IsOkUnless result SendFault.NoMemory }
+    ensures sent { OnOk result (IsTrue (is_paid n purse.old) ×
+        ((via : AHost) × (dev : ADev) × (hop ctx.entry.now.router route ctx.entry.now.here host ≡
+        Hop.To via dev)
+        × IsSent dev (packet_of family host (bound_of n) route chunk) purse.old outbox.old purse.new
+        outbox.new)) }
+    ensures only { (via : AHost) (dev : ADev) → IsTrue (is_paid n purse.old) → hop
+        ctx.entry.now.router route ctx.entry.now.here host ≡ Hop.To via dev → IsOkUnless result
+        SendFault.NoMemory }
     ensures no_bound { (result ≡ Err SendFault.NoBound) ↔ (is_paid n purse.old ≡ false) }
-    ensures no_service { (result ≡ Err SendFault.NoService) ↔ (IsTrue (is_paid n purse.old) × (hop ctx.entry.now.router route ctx.entry.now.here host ≡ Hop.NoService)) }
-    ensures no_route { (result ≡ Err SendFault.NoRoute) ↔ (IsTrue (is_paid n purse.old) × (hop ctx.entry.now.router route ctx.entry.now.here host ≡ Hop.NoRoute)) }
+    ensures no_service { (result ≡ Err SendFault.NoService) ↔
+        (IsTrue (is_paid n purse.old) × (hop ctx.entry.now.router route ctx.entry.now.here host ≡
+        Hop.NoService)) }
+    ensures no_route { (result ≡ Err SendFault.NoRoute) ↔
+        (IsTrue (is_paid n purse.old) × (hop ctx.entry.now.router route ctx.entry.now.here host ≡
+        Hop.NoRoute)) }
     ensures kept { OnErr result (IsKept purse.old outbox.old purse.new outbox.new) }
 {
     let way = remote_way(purse, ctx, host, n, &route)?;
@@ -91,10 +100,13 @@ pub fn on_neighbor(
     dev: Dev,
 ) -> Result<(), SendFault>
     ensures sent { OnOk result (IsTrue (is_paid n purse.old) × IsTrue (leads ctx.entry.now dev host)
-        × IsSent dev (packet_of family host (bound_of n) default_route chunk) purse.old outbox.old purse.new outbox.new) }
-    ensures only { IsTrue (is_paid n purse.old) → IsTrue (leads ctx.entry.now dev host) → IsOkUnless result SendFault.NoMemory }
+        × IsSent dev (packet_of family host (bound_of n) default_route chunk) purse.old outbox.old
+        purse.new outbox.new) }
+    ensures only { IsTrue (is_paid n purse.old) → IsTrue (leads ctx.entry.now dev host) → IsOkUnless
+        result SendFault.NoMemory }
     ensures no_bound { (result ≡ Err SendFault.NoBound) ↔ (is_paid n purse.old ≡ false) }
-    ensures not_neighbour { (result ≡ Err SendFault.NotNeighbor) ↔ (IsTrue (is_paid n purse.old) × (leads ctx.entry.now dev host ≡ false)) }
+    ensures not_neighbour { (result ≡ Err SendFault.NotNeighbor) ↔
+        (IsTrue (is_paid n purse.old) × (leads ctx.entry.now dev host ≡ false)) }
     ensures kept { OnErr result (IsKept purse.old outbox.old purse.new outbox.new) }
 {
     let way = neighbour_way(purse, ctx, host, n, dev)?;

@@ -30,12 +30,19 @@ pub fn remote_way(
     n: i64,
     route: &Name,
 ) -> Result<SendWay, SendFault>
-    ensures found { IfOk result (λ w. IsTrue (is_paid n purse.now) × (w.bound ≡ bound_of n) × ((via : AHost) × (hop ctx.entry.now.router route.now ctx.entry.now.here host ≡ Hop.To via w.dev))) }
+    ensures found { IfOk result (λ w. IsTrue (is_paid n purse.now) × (w.bound ≡ bound_of n) ×
+        ((via : AHost) × (hop ctx.entry.now.router route.now ctx.entry.now.here host ≡ Hop.To
+        via w.dev))) }
     ensures small { IfOk result (λ w. w.bound ≤ 65535) }
-    ensures only { (via : AHost) (dev : ADev) → IsTrue (is_paid n purse.now) → hop ctx.entry.now.router route.now ctx.entry.now.here host ≡ Hop.To via dev → IsOk result }
+    ensures only { (via : AHost) (dev : ADev) → IsTrue (is_paid n purse.now) → hop
+        ctx.entry.now.router route.now ctx.entry.now.here host ≡ Hop.To via dev → IsOk result }
     ensures no_bound { (result ≡ Err SendFault.NoBound) ↔ (is_paid n purse.now ≡ false) }
-    ensures no_service { (result ≡ Err SendFault.NoService) ↔ (IsTrue (is_paid n purse.now) × (hop ctx.entry.now.router route.now ctx.entry.now.here host ≡ Hop.NoService)) }
-    ensures no_route { (result ≡ Err SendFault.NoRoute) ↔ (IsTrue (is_paid n purse.now) × (hop ctx.entry.now.router route.now ctx.entry.now.here host ≡ Hop.NoRoute)) }
+    ensures no_service { (result ≡ Err SendFault.NoService) ↔
+        (IsTrue (is_paid n purse.now) × (hop ctx.entry.now.router route.now ctx.entry.now.here host
+        ≡ Hop.NoService)) }
+    ensures no_route { (result ≡ Err SendFault.NoRoute) ↔
+        (IsTrue (is_paid n purse.now) × (hop ctx.entry.now.router route.now ctx.entry.now.here host
+        ≡ Hop.NoRoute)) }
 {
     let Some(bound) = purse.bound_for(n) else {
         return Err(SendFault::NoBound);
@@ -81,11 +88,14 @@ pub fn neighbour_way(
     n: i64,
     dev: Dev,
 ) -> Result<SendWay, SendFault>
-    ensures found { IfOk result (λ w. IsTrue (is_paid n purse.now) × (w.bound ≡ bound_of n) × (w.dev ≡ dev) × IsTrue (leads ctx.entry.now dev host)) }
+    ensures found { IfOk result (λ w. IsTrue (is_paid n purse.now) × (w.bound ≡ bound_of n) ×
+        (w.dev ≡ dev) × IsTrue (leads ctx.entry.now dev host)) }
     ensures small { IfOk result (λ w. w.bound ≤ 65535) }
-    ensures only { IsTrue (is_paid n purse.now) → IsTrue (leads ctx.entry.now dev host) → IsOk result }
+    ensures only { IsTrue (is_paid n purse.now) → IsTrue (leads ctx.entry.now dev host)
+        → IsOk result }
     ensures no_bound { (result ≡ Err SendFault.NoBound) ↔ (is_paid n purse.now ≡ false) }
-    ensures not_neighbour { (result ≡ Err SendFault.NotNeighbor) ↔ (IsTrue (is_paid n purse.now) × (leads ctx.entry.now dev host ≡ false)) }
+    ensures not_neighbour { (result ≡ Err SendFault.NotNeighbor) ↔
+        (IsTrue (is_paid n purse.now) × (leads ctx.entry.now dev host ≡ false)) }
 {
     let Some(bound) = purse.bound_for(n) else {
         return Err(SendFault::NoBound);

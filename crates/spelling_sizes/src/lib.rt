@@ -25,7 +25,8 @@ pub fn size_laws()
 /// Laws of form: what keeps the limits of a spelling is well formed, and no type of `[]` or `raise` is missing in it.
 pub fn form_laws()
     ensures of_types { (t : Ty) → a_whole_type.Fits t → IsWellFormedType t }
-    ensures of_programs { (p : Program) → program_part.Fits p → IsWellFormedProgram p × ProgramHasTypes p }
+    ensures of_programs { (p : Program) → program_part.Fits p → IsWellFormedProgram p ×
+        ProgramHasTypes p }
     ensures of_values { (v : Value) → a_whole_value.Fits v → IsWellFormedValue v × ValueHasTypes v }
     ensures of_chunks { (c : Chunk) → a_whole_chunk.Fits c → IsWellFormedChunk c × ChunkHasTypes c }
 {}

@@ -14,31 +14,38 @@ ghost use Rattle.token_faults.specs.Strays.{IsStray, StrayFault};
 
 /// What a `"` begins is refused exactly where the line ends inside the string, at the quote, or where no item stands.
 pub fn strings_are_refused()
-    ensures { (at : ℕ) (text : List ℕ) (e : LexFault) → (move_at at (34 ∷ text) ≡ Err e) ↔ StringFault e at (at + 1) text }
+    ensures { (at : ℕ) (text : List ℕ) (e : LexFault) → (move_at at (34 ∷ text) ≡ Err e) ↔
+        StringFault e at (at + 1) text }
 {}
 
 /// What a `'` begins is refused exactly where no item with a closing quote follows, at the quote.
 pub fn chars_are_refused()
-    ensures { (at : ℕ) (text : List ℕ) (e : LexFault) → (move_at at (39 ∷ text) ≡ Err e) ↔ CharFault e at text }
+    ensures { (at : ℕ) (text : List ℕ) (e : LexFault) → (move_at at (39 ∷ text) ≡ Err e) ↔
+        CharFault e at text }
 {}
 
 /// What a `#"` begins is refused exactly where the line ends inside the blob, at its start, or where no digit stands.
 pub fn blobs_are_refused()
-    ensures { (at : ℕ) (text : List ℕ) (e : LexFault) → (move_at at (35 ∷ 34 ∷ text) ≡ Err e) ↔ BlobFault e at (at + 2) text }
+    ensures { (at : ℕ) (text : List ℕ) (e : LexFault) → (move_at at (35 ∷ 34 ∷ text) ≡ Err e) ↔
+        BlobFault e at (at + 2) text }
 {}
 
 /// A `(*` begins a comment and never a token: it is passed up to its own `*)`, with the comments inside it, or refused
 /// at the `(*` where there is none.
 pub fn comments_are_passed()
-    ensures never { (at : ℕ) (text : List ℕ) (k : TokenKind) (next : ℕ) → move_at at (40 ∷ 42 ∷ text) ≡ Ok (Some k, next) → ⊥ }
-    ensures passed { (at : ℕ) (text : List ℕ) (next : ℕ) → (move_at at (40 ∷ 42 ∷ text) ≡ Ok (None, next)) ↔ EndsAt at next (40 ∷ 42 ∷ text) }
-    ensures refused { (at : ℕ) (text : List ℕ) (e : LexFault) → (move_at at (40 ∷ 42 ∷ text) ≡ Err e) ↔ Unclosed e at (40 ∷ 42 ∷ text) }
+    ensures never { (at : ℕ) (text : List ℕ) (k : TokenKind) (next : ℕ) → move_at at
+        (40 ∷ 42 ∷ text) ≡ Ok (Some k, next) → ⊥ }
+    ensures passed { (at : ℕ) (text : List ℕ) (next : ℕ) →
+        (move_at at (40 ∷ 42 ∷ text) ≡ Ok (None, next)) ↔ EndsAt at next (40 ∷ 42 ∷ text) }
+    ensures refused { (at : ℕ) (text : List ℕ) (e : LexFault) →
+        (move_at at (40 ∷ 42 ∷ text) ≡ Err e) ↔ Unclosed e at (40 ∷ 42 ∷ text) }
 {}
 
 /// What begins with no blank, comment or quote is refused exactly where it begins with a word of more than 32 bytes, with a
 /// number out of range, or with nothing that has the form of a token, at its first byte.
 pub fn strays_are_refused()
-    ensures { (at : ℕ) (text : List ℕ) (e : LexFault) → IsStray text → (move_at at text ≡ Err e) ↔ StrayFault e at text }
+    ensures { (at : ℕ) (text : List ℕ) (e : LexFault) → IsStray text → (move_at at text ≡ Err e) ↔
+        StrayFault e at text }
 {}
 
 /// No first refusal of tokens is `NoMemory`.

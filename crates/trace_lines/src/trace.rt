@@ -55,7 +55,8 @@ fn add_entries<'a>(
     bytes: &'a [u8],
     first: u64,
 ) -> Result<(&'a [u8], u64), NoMemory>
-    ensures { IfOk result (λ p. whole.entries_text entries.new ++ p.0.now ≡ whole.entries_text entries.old ++ bytes.now) }
+    ensures { IfOk result (λ p. whole.entries_text entries.new ++ p.0.now ≡ whole.entries_text
+        entries.old ++ bytes.now) }
 {
     let mut rest = bytes;
     let mut number = first;
@@ -77,7 +78,8 @@ fn add_rows<'a>(
     bytes: &'a [u8],
     first: u64,
 ) -> Result<(&'a [u8], u64), NoMemory>
-    ensures { IfOk result (λ p. whole.rows_text rows.new ++ p.0.now ≡ whole.rows_text rows.old ++ bytes.now) }
+    ensures { IfOk result (λ p. whole.rows_text rows.new ++ p.0.now ≡ whole.rows_text rows.old
+        ++ bytes.now) }
 {
     let mut rest = bytes;
     let mut number = first;
@@ -105,7 +107,8 @@ fn end_at(bytes: &[u8], number: u64) -> Result<(), TraceFault>
 
 /// The rows of a ledger, behind which the trace ends.
 fn read_rows(alloc: Global, bytes: &[u8], first: u64) -> Result<Items<Row>, TraceFault>
-    ensures { IfOk result (λ rows. whole.rows_text rows ++ whole.as_line (codes "end") ≡ bytes.now) }
+    ensures { IfOk result (λ rows. whole.rows_text rows ++ whole.as_line (codes "end")
+        ≡ bytes.now) }
 {
     let mut rows = Items::new(alloc);
     let (rest, number) = add_rows(alloc, &mut rows, bytes, first)?;
@@ -115,7 +118,8 @@ fn read_rows(alloc: Global, bytes: &[u8], first: u64) -> Result<Items<Row>, Trac
 
 /// The ledger where the bytes begin with one. Behind it the trace ends.
 fn read_ledger(alloc: Global, bytes: &[u8], first: u64) -> Result<Option<Items<Row>>, TraceFault>
-    ensures { IfOk result (λ rows. whole.ledger_text rows ++ whole.as_line (codes "end") ≡ bytes.now) }
+    ensures { IfOk result (λ rows. whole.ledger_text rows ++ whole.as_line (codes "end")
+        ≡ bytes.now) }
 {
     match after(bytes, b"ledger") {
         Some(more) => Ok(Some(read_rows(alloc, more, first.saturating_add(1))?)),

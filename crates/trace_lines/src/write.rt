@@ -81,7 +81,8 @@ fn put_end(
 }
 
 fn put_spent(alloc: Global, out: &mut Bytes, f: Family, left: u32) -> Result<(), NoMemory>
-    ensures { OnOk result (out.new ≡ out.old ++ (codes " " ++ (spec.family_text f ++ (codes " left " ++ decimal left)))) }
+    ensures { OnOk result (out.new ≡ out.old ++ (codes " " ++
+        (spec.family_text f ++ (codes " left " ++ decimal left)))) }
 {
     put_of(alloc, out, f)?;
     put_named(alloc, out, b" left ", u64::from(left))
@@ -132,7 +133,8 @@ fn put_dropped(
     f: Family,
     bound: u32,
 ) -> Result<(), NoMemory>
-    ensures { OnOk result (out.new ≡ out.old ++ (codes " " ++ (spec.reason_text reason ++ spec.bound_text f bound))) }
+    ensures { OnOk result (out.new ≡ out.old ++ (codes " " ++
+        (spec.reason_text reason ++ spec.bound_text f bound))) }
 {
     put_word(out, reason_word(reason))?;
     put_bound(alloc, out, f, bound)
@@ -164,7 +166,8 @@ fn put_what(alloc: Global, out: &mut Bytes, what: What) -> Result<(), NoMemory>
 }
 
 fn put_sent(alloc: Global, out: &mut Bytes, dev: Dev, what: What) -> Result<(), NoMemory>
-    ensures { OnOk result (out.new ≡ out.old ++ (spec.device_text dev ++ (codes " " ++ spec.what_text what))) }
+    ensures { OnOk result (out.new ≡ out.old ++ (spec.device_text dev ++
+        (codes " " ++ spec.what_text what))) }
 {
     put_device(alloc, out, dev)?;
     out.add_all(b" ")?;
@@ -180,7 +183,8 @@ fn put_count(alloc: Global, out: &mut Bytes, n: u64) -> Result<(), NoMemory>
 
 /// A number and a text, a blank in front of each.
 fn put_pair(alloc: Global, out: &mut Bytes, n: u64, text: &[u8]) -> Result<(), NoMemory>
-    ensures { OnOk result (out.new ≡ out.old ++ (codes " " ++ (decimal n ++ (codes " " ++ text.now)))) }
+    ensures { OnOk result (out.new ≡ out.old ++ (codes " " ++
+        (decimal n ++ (codes " " ++ text.now)))) }
 {
     put_count(alloc, out, n)?;
     put_word(out, text)
@@ -255,7 +259,9 @@ pub(crate) fn put_entry(alloc: Global, out: &mut Bytes, entry: &Entry) -> Result
 
 /// The end of a row: evals, what is under way and what is left.
 fn put_row_end(alloc: Global, out: &mut Bytes, row: Row) -> Result<(), NoMemory>
-    ensures { OnOk result (out.new ≡ out.old ++ (whole.named_text (codes " evals ") row.evals ++ (whole.named_text (codes " live ") row.live ++ whole.named_text (codes " left ") row.left))) }
+    ensures { OnOk result (out.new ≡ out.old ++ (whole.named_text (codes " evals ") row.evals ++
+        (whole.named_text (codes " live ") row.live ++ whole.named_text
+        (codes " left ") row.left))) }
 {
     put_named(alloc, out, b" evals ", row.evals)?;
     put_named(alloc, out, b" live ", row.live)?;

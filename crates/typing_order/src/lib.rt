@@ -29,19 +29,28 @@ ghost use Rattle.typing_order.specs.Memory.{IllHoldsNoMemory, HoldsNoMemory};
 /// The checking of an expression, to any depth that it keeps, refuses exactly for the first of its conditions that isn't
 /// kept. An expression is typed or has a first refusal, and not both, and it has at most one.
 pub fn expressions_fail_first()
-    ensures first { (code : Program) (seen depth : ℕ) (c : Ctx) (want : Option Ty) (n : ℕ) (e : Expr) (f : TypeFault) → expr_depth e ≤ depth → (checked_expression code depth seen c want e n ≡ Err f) ↔ Refused code seen f c want n e }
-    ensures some { (code : Program) (seen : ℕ) (c : Ctx) (want : Option Ty) (n : ℕ) (e : Expr) → IsExprTypedOrRefused code seen c want n e }
-    ensures apart { (code : Program) (seen : ℕ) (c : Ctx) (want : Option Ty) (n : ℕ) (e d : Expr) (t : Ty) (f : TypeFault) → Becomes code seen c want e d t → Refused code seen f c want n e → ⊥ }
-    ensures one { (code : Program) (seen : ℕ) (c : Ctx) (want : Option Ty) (n : ℕ) (e : Expr) (f g : TypeFault) → Refused code seen f c want n e → Refused code seen g c want n e → f ≡ g }
+    ensures first { (code : Program) (seen depth : ℕ) (c : Ctx) (want : Option Ty) (n : ℕ)
+        (e : Expr) (f : TypeFault) → expr_depth e ≤ depth →
+        (checked_expression code depth seen c want e n ≡ Err f) ↔ Refused code seen f c want n e }
+    ensures some { (code : Program) (seen : ℕ) (c : Ctx) (want : Option Ty) (n : ℕ) (e : Expr) →
+        IsExprTypedOrRefused code seen c want n e }
+    ensures apart { (code : Program) (seen : ℕ) (c : Ctx) (want : Option Ty) (n : ℕ) (e d : Expr)
+        (t : Ty) (f : TypeFault) → Becomes code seen c want e d t → Refused code seen f c
+        want n e → ⊥ }
+    ensures one { (code : Program) (seen : ℕ) (c : Ctx) (want : Option Ty) (n : ℕ) (e : Expr)
+        (f g : TypeFault) → Refused code seen f c want n e → Refused code seen g c
+        want n e → f ≡ g }
 {}
 
 /// A well-formed program is refused exactly for the first of its conditions that isn't kept: the names of its services,
 /// exceptions and functions, its bodies, and its size. It is typed or has a first refusal, and not both, and it has at most
 /// one.
 pub fn programs_fail_first()
-    ensures first { (p : Program) (f : TypeFault) → IsWellFormedProgram p → (annotated_program p ≡ Err f) ↔ FirstRefusal p f }
+    ensures first { (p : Program) (f : TypeFault) → IsWellFormedProgram p →
+        (annotated_program p ≡ Err f) ↔ FirstRefusal p f }
     ensures some { (p : Program) → IsWellFormedProgram p → IsTypedOrRefused p }
-    ensures apart { (p q : Program) (f : TypeFault) → IsWellFormedProgram p → Fills p q → Typed q → FirstRefusal p f → ⊥ }
+    ensures apart { (p q : Program) (f : TypeFault) → IsWellFormedProgram p → Fills p q → Typed q →
+        FirstRefusal p f → ⊥ }
     ensures one { (p : Program) (f g : TypeFault) → FirstRefusal p f → FirstRefusal p g → f ≡ g }
 {}
 
@@ -53,13 +62,16 @@ pub fn refusals_hold_no_memory()
 /// What comes first that is wrong with a chunk, its own size aside, is what is told for the first condition that it doesn't
 /// keep: its code, its entry, the number of its arguments, and each of them.
 pub fn first_failing_is_answered()
-    ensures { (c : Chunk) (i : Ill) → IsWellFormedChunk c → ChunkHasTypes c → (illness c ≡ Some i) ↔ FirstFailing c (chunk_fault.Ill i) (conditions c) }
+    ensures { (c : Chunk) (i : Ill) → IsWellFormedChunk c → ChunkHasTypes c → (illness c ≡ Some i) ↔
+        FirstFailing c (chunk_fault.Ill i) (conditions c) }
 {}
 
 /// What comes first that forbids a chunk with that code, entry and arguments, the code aside, is what is told for the first
 /// condition that it doesn't keep: its entry, the number of its arguments, each of them, and its size.
 pub fn first_failing_call_is_answered()
-    ensures { (c : Chunk) (f : ChunkFault) → IsTrue (list_all well_formed_value c.args) → IsTrue (list_all value_has_types c.args) → (refusal_of c ≡ Some f) ↔ FirstFailing c f (call_conditions c) }
+    ensures { (c : Chunk) (f : ChunkFault) → IsTrue (list_all well_formed_value c.args) → IsTrue
+        (list_all value_has_types c.args) → (refusal_of c ≡ Some f) ↔ FirstFailing c f
+        (call_conditions c) }
 {}
 
 /// What comes first that is wrong with a chunk, or with a call, is never running out of memory, and holds none.

@@ -15,39 +15,53 @@ ghost use Rattle.value_grammar.specs.Refusals.{FirstValueRefusal, FirstArgsRefus
 
 /// What is read as a value or as arguments is such by the grammar, and what is such by the grammar is read.
 pub fn what_is_read_is_written()
-    ensures values { (tokens : List Token) (end : ℕ) (v : Value) → (value_of tokens end ≡ Ok v) ↔ IsValue tokens end v }
-    ensures args { (tokens : List Token) (end : ℕ) (vs : List Value) → (args_of tokens end ≡ Ok vs) ↔ AreArgs tokens end vs }
+    ensures values { (tokens : List Token) (end : ℕ) (v : Value) → (value_of tokens end ≡ Ok v) ↔
+        IsValue tokens end v }
+    ensures args { (tokens : List Token) (end : ℕ) (vs : List Value) → (args_of tokens end ≡ Ok vs)
+        ↔ AreArgs tokens end vs }
 {}
 
 /// Tokens are at most one value, and at most one list of arguments.
 pub fn one_reading()
-    ensures values { (tokens : List Token) (end : ℕ) (v w : Value) → IsValue tokens end v → IsValue tokens end w → v ≡ w }
-    ensures args { (tokens : List Token) (end : ℕ) (vs ws : List Value) → AreArgs tokens end vs → AreArgs tokens end ws → vs ≡ ws }
+    ensures values { (tokens : List Token) (end : ℕ) (v w : Value) → IsValue tokens end v → IsValue
+        tokens end w → v ≡ w }
+    ensures args { (tokens : List Token) (end : ℕ) (vs ws : List Value) → AreArgs tokens end vs →
+        AreArgs tokens end ws → vs ≡ ws }
 {}
 
 /// Tokens are refused as a value, or as arguments, exactly with the first refusal of their agenda, and have at most one.
 pub fn refusals_are_first()
-    ensures values { (tokens : List Token) (end : ℕ) (e : ParseFault) → (value_of tokens end ≡ Err e) ↔ FirstValueRefusal e tokens end }
-    ensures args { (tokens : List Token) (end : ℕ) (e : ParseFault) → (args_of tokens end ≡ Err e) ↔ FirstArgsRefusal e tokens end }
-    ensures one_value { (tokens : List Token) (end : ℕ) (d e : ParseFault) → FirstValueRefusal d tokens end → FirstValueRefusal e tokens end → d ≡ e }
-    ensures one_args { (tokens : List Token) (end : ℕ) (d e : ParseFault) → FirstArgsRefusal d tokens end → FirstArgsRefusal e tokens end → d ≡ e }
+    ensures values { (tokens : List Token) (end : ℕ) (e : ParseFault) →
+        (value_of tokens end ≡ Err e) ↔ FirstValueRefusal e tokens end }
+    ensures args { (tokens : List Token) (end : ℕ) (e : ParseFault) → (args_of tokens end ≡ Err e) ↔
+        FirstArgsRefusal e tokens end }
+    ensures one_value { (tokens : List Token) (end : ℕ) (d e : ParseFault) → FirstValueRefusal d
+        tokens end → FirstValueRefusal e tokens end → d ≡ e }
+    ensures one_args { (tokens : List Token) (end : ℕ) (d e : ParseFault) → FirstArgsRefusal d
+        tokens end → FirstArgsRefusal e tokens end → d ≡ e }
 {}
 
 /// Tokens are a value by the written grammar or have a first refusal, and not both; and so for arguments.
 pub fn one_answer()
     ensures value { (tokens : List Token) (end : ℕ) → IsValueOrRefused tokens end }
     ensures arguments { (tokens : List Token) (end : ℕ) → AreArgsOrRefused tokens end }
-    ensures apart_values { (tokens : List Token) (end : ℕ) (v : Value) (e : ParseFault) → IsValue tokens end v → FirstValueRefusal e tokens end → ⊥ }
-    ensures apart_args { (tokens : List Token) (end : ℕ) (vs : List Value) (e : ParseFault) → AreArgs tokens end vs → FirstArgsRefusal e tokens end → ⊥ }
+    ensures apart_values { (tokens : List Token) (end : ℕ) (v : Value) (e : ParseFault) → IsValue
+        tokens end v → FirstValueRefusal e tokens end → ⊥ }
+    ensures apart_args { (tokens : List Token) (end : ℕ) (vs : List Value) (e : ParseFault) →
+        AreArgs tokens end vs → FirstArgsRefusal e tokens end → ⊥ }
 {}
 
 /// A text is refused exactly for the first refusal of its tokens, and else for the first of what they are; it has at most
 /// one.
 pub fn texts_are_refused_first()
-    ensures values { (text : List ℕ) (e : ValueFault) → Fails value_of text e ↔ FirstTextRefusal FirstValueRefusal text e }
-    ensures args { (text : List ℕ) (e : ValueFault) → Fails args_of text e ↔ FirstTextRefusal FirstArgsRefusal text e }
-    ensures one_value { (text : List ℕ) (d e : ValueFault) → FirstTextRefusal FirstValueRefusal text d → FirstTextRefusal FirstValueRefusal text e → d ≡ e }
-    ensures one_args { (text : List ℕ) (d e : ValueFault) → FirstTextRefusal FirstArgsRefusal text d → FirstTextRefusal FirstArgsRefusal text e → d ≡ e }
+    ensures values { (text : List ℕ) (e : ValueFault) → Fails value_of text e ↔ FirstTextRefusal
+        FirstValueRefusal text e }
+    ensures args { (text : List ℕ) (e : ValueFault) → Fails args_of text e ↔ FirstTextRefusal
+        FirstArgsRefusal text e }
+    ensures one_value { (text : List ℕ) (d e : ValueFault) → FirstTextRefusal FirstValueRefusal text
+        d → FirstTextRefusal FirstValueRefusal text e → d ≡ e }
+    ensures one_args { (text : List ℕ) (d e : ValueFault) → FirstTextRefusal FirstArgsRefusal text d
+        → FirstTextRefusal FirstArgsRefusal text e → d ≡ e }
 {}
 
 /// No first refusal of a value, or of arguments, is or holds `NoMemory`.

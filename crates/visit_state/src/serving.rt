@@ -23,7 +23,8 @@ pub fn ask_service<S: Services>(
     requires open { IsSome (S.stands svc.old).begun }
     requires safe { IsSafe (run.serve d.now args.now
         (joined_state state.old (S.stands svc.old))).asks }
-    ensures meets { Meets (run.serve d.now args.now (joined_state state.old (S.stands svc.old))) result (joined_state state.new (S.stands svc.new)) }
+    ensures meets { Meets (run.serve d.now args.now (joined_state state.old (S.stands svc.old)))
+        result (joined_state state.new (S.stands svc.new)) }
     ensures falls { state.new.work ≤ state.old.work }
     ensures offer { (S.stands svc.new).offer ≡ (S.stands svc.old).offer }
     ensures begun { (S.stands svc.new).begun ≡ (S.stands svc.old).begun }

@@ -56,7 +56,8 @@ impl Model for State {
 /// Whether a value of that weight and nesting passes the limits: weight 16,384 and nesting 4.
 #[tactic(auto, unfolding(plan_meaning::specs::Run::is_too_large))]
 fn is_too_large(size: u64, deep: u32) -> bool
-    ensures { (v : Value) → size ≡ min (weight v) 18446744073709551615 → deep ≡ min (nesting v) 4294967295 → result ≡ run.is_too_large v }
+    ensures { (v : Value) → size ≡ min (weight v) 18446744073709551615 → deep ≡ min (nesting v)
+        4294967295 → result ≡ run.is_too_large v }
 {
     size > 16384 || deep > 4
 }
@@ -79,7 +80,14 @@ impl State {
     pub fn new(alloc: Global, ctx: Ctx, family: Family, work: u64) -> State
         requires purse { ctx.purse ≤ 65535 }
         requires near { length ctx.neighbours ≤ 8 }
-        ensures { result ≡ record { ctx = ctx; family = family; work = work; evals = 0; outbox = []; notes = [] } }
+        ensures { result ≡ record {
+          ctx = ctx;
+          family = family;
+          work = work;
+          evals = 0;
+          outbox = [];
+          notes = [];
+        } }
     {
         State {
             ctx,
@@ -125,8 +133,11 @@ impl State {
     /// Spends work where there is as much, or says no.
     #[tactic(auto, unfolding(plan_meaning::specs::Run::spend))]
     pub fn pays(&mut self, n: u64) -> bool
-        ensures paid { IsTrue result → (s : ServiceState) → (run.spend n (joined_state self.old s)).after ≡ gave tt (joined_state self.new s) }
-        ensures unpaid { IsFalse result → (s : ServiceState) → (run.spend n (joined_state self.old s)).after ≡ stopped WorkSpent (joined_state self.new s) }
+        ensures paid { IsTrue result → (s : ServiceState) →
+            (run.spend n (joined_state self.old s)).after ≡ gave tt (joined_state self.new s) }
+        ensures unpaid { IsFalse result → (s : ServiceState) →
+            (run.spend n (joined_state self.old s)).after ≡ stopped WorkSpent
+            (joined_state self.new s) }
         ensures spends { IsTrue result → self.new.work + n ≡ self.old.work }
         ensures falls { self.new.work ≤ self.old.work }
     {
@@ -140,7 +151,8 @@ impl State {
     /// Spends the weight of a value with that nesting, unless it passes the limits.
     #[tactic(auto, unfolding(plan_meaning::specs::Run::weighed_value, plan_meaning::specs::Run::is_too_large))]
     pub fn weighs_as(&mut self, size: u64, deep: u32) -> Weighing
-        ensures weighs { (v : Value) (s : ServiceState) → size ≡ min (weight v) 18446744073709551615 → deep ≡ min (nesting v) 4294967295
+        ensures weighs { (v : Value) (s : ServiceState) → size ≡ min (weight v) 18446744073709551615
+            → deep ≡ min (nesting v) 4294967295
             → Weighs (run.weighed_value v (joined_state self.old s)) v
             result (joined_state self.new s) }
         ensures falls { self.new.work ≤ self.old.work }
@@ -157,7 +169,8 @@ impl State {
 
     /// Spends the weight of a value, unless it passes the limits.
     pub fn weighs(&mut self, v: &Value) -> Weighing
-        ensures weighs { (s : ServiceState) → Weighs (run.weighed_value v.now (joined_state self.old s)) v.now result (joined_state self.new s) }
+        ensures weighs { (s : ServiceState) → Weighs (run.weighed_value v.now
+            (joined_state self.old s)) v.now result (joined_state self.new s) }
         ensures falls { self.new.work ≤ self.old.work }
     {
         match plain_weight(v) {
@@ -168,7 +181,8 @@ impl State {
 
     /// Refuses a value over the limits, and spends the weight of another.
     pub fn weigh_value(&mut self, alloc: Global, v: Value) -> Result<Value, EvalStop>
-        ensures meets { (s : ServiceState) → Meets (run.weighed_value v (joined_state self.old s)) result (joined_state self.new s) }
+        ensures meets { (s : ServiceState) → Meets (run.weighed_value v (joined_state self.old s))
+            result (joined_state self.new s) }
         ensures falls { self.new.work ≤ self.old.work }
     {
         match self.weighs(&v) {
@@ -181,7 +195,8 @@ impl State {
     /// Pays for an eval.
     #[tactic(auto, unfolding(plan_meaning::specs::Meaning::pay_eval), using(crate::proofs::Paying::eval_is_paid, crate::proofs::Paying::eval_is_unpaid))]
     pub fn pay_eval(&mut self, alloc: Global) -> Result<(), EvalStop>
-        ensures meets { (s : ServiceState) → Meets (spec.pay_eval (joined_state self.old s)) result (joined_state self.new s) }
+        ensures meets { (s : ServiceState) → Meets (spec.pay_eval (joined_state self.old s)) result
+            (joined_state self.new s) }
         ensures falls { self.new.work ≤ self.old.work }
     {
         let mut purse = Purse::of(self.ctx.purse);
@@ -206,7 +221,8 @@ impl State {
     ) -> Result<(), EvalStop>
         requires good { IsGoodChunk chunk }
         requires paid { way.bound ≤ self.old.ctx.purse }
-        ensures meets { (s : ServiceState) → Meets (spec.sent_packet way.dev chunk host way.bound route (joined_state self.old s)) result (joined_state self.new s) }
+        ensures meets { (s : ServiceState) → Meets (spec.sent_packet way.dev chunk host way.bound
+            route (joined_state self.old s)) result (joined_state self.new s) }
         ensures falls { self.new.work ≤ self.old.work }
     {
         let chunk = CheckedChunk::of(chunk);
@@ -226,8 +242,10 @@ impl State {
         n: i64,
         route: &Name,
     ) -> Result<(), EvalStop>
-        requires safe { (s : ServiceState) × IsSafe (spec.send_remote chunk host n route.now (joined_state self.old s)).asks }
-        ensures meets { (s : ServiceState) → Meets (spec.send_remote chunk host n route.now (joined_state self.old s)) result (joined_state self.new s) }
+        requires safe { (s : ServiceState) × IsSafe (spec.send_remote chunk host n route.now
+            (joined_state self.old s)).asks }
+        ensures meets { (s : ServiceState) → Meets (spec.send_remote chunk host n route.now
+            (joined_state self.old s)) result (joined_state self.new s) }
         ensures falls { self.new.work ≤ self.old.work }
     {
         let purse = Purse::of(self.ctx.purse);
@@ -246,8 +264,10 @@ impl State {
         n: i64,
         dev: Dev,
     ) -> Result<(), EvalStop>
-        requires safe { (s : ServiceState) × IsSafe (spec.send_neighbour chunk host n dev (joined_state self.old s)).asks }
-        ensures meets { (s : ServiceState) → Meets (spec.send_neighbour chunk host n dev (joined_state self.old s)) result (joined_state self.new s) }
+        requires safe { (s : ServiceState) × IsSafe (spec.send_neighbour chunk host n dev
+            (joined_state self.old s)).asks }
+        ensures meets { (s : ServiceState) → Meets (spec.send_neighbour chunk host n dev
+            (joined_state self.old s)) result (joined_state self.new s) }
         ensures falls { self.new.work ≤ self.old.work }
     {
         let purse = Purse::of(self.ctx.purse);
@@ -259,7 +279,8 @@ impl State {
 
     /// Keeps the note of a service, if it made one.
     pub fn keep_note(&mut self, note: Option<Note>) -> Result<(), NoMemory>
-        ensures ok { OnOk result (self.new ≡ record self.old { notes = run.notes_after note self.old.notes }) }
+        ensures ok { OnOk result (self.new ≡ record self.old
+            { notes = run.notes_after note self.old.notes }) }
         ensures falls { self.new.work ≤ self.old.work }
     {
         match note {

@@ -20,7 +20,8 @@ pub enum Weighing {
 /// What values weigh in sum, or `None` where a chunk stands in one.
 #[cycle(plain_weight)]
 fn plain_weights(values: &[Value]) -> Option<u64>
-    ensures { IfSome result (λ w. (w ≡ min (sum_by weight values.now) 18446744073709551615) × (largest_by nesting values.now ≡ 0)) }
+    ensures { IfSome result (λ w. (w ≡ min (sum_by weight values.now) 18446744073709551615) ×
+        (largest_by nesting values.now ≡ 0)) }
 {
     let mut total = 0u64;
     for v in values {
@@ -36,7 +37,8 @@ fn plain_weights(values: &[Value]) -> Option<u64>
 #[cycle(plain_weight)]
 #[tactic(auto, using(plan_base::proofs::SizeLaws::weight_out, plan_base::proofs::SizeLaws::nesting_out, plan_base::specs::Trees::trees))]
 pub fn plain_weight(v: &Value) -> Option<u64>
-    ensures { IfSome result (λ w. (w ≡ min (weight v.now) 18446744073709551615) × (nesting v.now ≡ 0)) }
+    ensures { IfSome result (λ w. (w ≡ min (weight v.now) 18446744073709551615) ×
+        (nesting v.now ≡ 0)) }
 {
     match v {
         Value::Unit => Some(1),
