@@ -152,7 +152,8 @@ fn send_near(
     state: &mut State,
 ) -> Result<Next, EvalStop>
     requires safe { NearIsSafe chunk host u.now v.now state.old }
-    ensures decides { (code : Program) (seen : ℕ) (at : Spot) (s : ServiceState) → Decides code seen at
+    ensures decides { (code : Program) (seen : ℕ) (at : Spot) (s : ServiceState) →
+        Decides code seen at
         (near_step chunk host u.now v.now (joined_state state.old s))
         result (joined_state state.new s) }
     ensures unit { IfOk result (λ n. n ≡ next.Give value.Unit) }

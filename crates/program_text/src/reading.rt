@@ -49,10 +49,13 @@ fn byte_of(decls: &Places, nodes: &Places, fault: &TypeFault) -> u32
 /// A well-formed draft with the types that are missing in it, or the first refusal with its byte.
 fn fill_types(alloc: Global, draft: Draft) -> Result<Checked, TextFault>
     requires { IsWellFormedProgram draft.program }
-    ensures found { IfOk result (λ k. placed_result draft.decl_at draft.node_at (annotated_program draft.program) ≡ Ok k) }
+    ensures found { IfOk result (λ k. placed_result draft.decl_at draft.node_at
+        (annotated_program draft.program) ≡ Ok k) }
     ensures fills { IfOk result (λ k. Fills draft.program k × Typed k) }
-    ensures all { (p : Program) → Fills draft.program p → Typed p → MatchResult result (λ k. k ≡ p) (λ e. e ≡ TextFault.NoMemory) }
-    ensures fault { IfErr result (λ e. (e ≡ TextFault.NoMemory) ⊎ (placed_result draft.decl_at draft.node_at (annotated_program draft.program) ≡ Err e)) }
+    ensures all { (p : Program) → Fills draft.program p → Typed p → MatchResult result (λ k. k ≡ p)
+        (λ e. e ≡ TextFault.NoMemory) }
+    ensures fault { IfErr result (λ e. (e ≡ TextFault.NoMemory) ⊎
+        (placed_result draft.decl_at draft.node_at (annotated_program draft.program) ≡ Err e)) }
 {
     let Draft {
         program,
@@ -80,8 +83,10 @@ fn program_in(alloc: Global, tokens: &Tokens, len: u32) -> Result<Checked, TextF
     requires len { len ≤ 65536 }
     ensures found { IfOk result (λ k. typed_of (parsed.program_of tokens.now len) ≡ Ok k) }
     ensures says { IfOk result (IsProgram tokens.now len) }
-    ensures all { (p : Program) → IsProgram tokens.now len p → MatchResult result (λ k. k ≡ p) (λ e. e ≡ TextFault.NoMemory) }
-    ensures fault { IfErr result (λ e. (e ≡ TextFault.NoMemory) ⊎ (typed_of (parsed.program_of tokens.now len) ≡ Err e)) }
+    ensures all { (p : Program) → IsProgram tokens.now len p → MatchResult result (λ k. k ≡ p)
+        (λ e. e ≡ TextFault.NoMemory) }
+    ensures fault { IfErr result (λ e. (e ≡ TextFault.NoMemory) ⊎
+        (typed_of (parsed.program_of tokens.now len) ≡ Err e)) }
 {
     match parse(alloc, tokens, len) {
         Ok(draft) => fill_types(alloc, draft),
@@ -113,8 +118,10 @@ pub fn read_program(alloc: Global, text: &[u8]) -> Result<Checked, TextFault>
     requires { length text.now ≤ 65536 }
     ensures found { IfOk result (λ k. program_of text.now ≡ Ok k) }
     ensures says { IfOk result (Says text.now) }
-    ensures only { (p : Program) → program_of text.now ≡ Ok p → MatchResult result (λ k. k ≡ p) (λ e. e ≡ TextFault.NoMemory) }
-    ensures all { (p : Program) → Says text.now p → MatchResult result (λ k. k ≡ p) (λ e. e ≡ TextFault.NoMemory) }
+    ensures only { (p : Program) → program_of text.now ≡ Ok p → MatchResult result (λ k. k ≡ p)
+        (λ e. e ≡ TextFault.NoMemory) }
+    ensures all { (p : Program) → Says text.now p → MatchResult result (λ k. k ≡ p)
+        (λ e. e ≡ TextFault.NoMemory) }
     ensures fault { IfErr result (λ e. (e ≡ TextFault.NoMemory) ⊎ (program_of text.now ≡ Err e)) }
 {
     let tokens = tokens_in(alloc, text)?;

@@ -148,7 +148,8 @@ pub fn settle(alloc: Global, p: &CheckedPacket, v: Visit, ctx: &Ctx) -> Result<S
     requires left { v.left ≤ 65535 }
     requires source { ctx.now.source ≡ p.now.family.source }
     ensures settled { IfOk result (λ s. s ≡ spec.visit_settled p.now ctx.entry.now v) }
-    ensures balance { IfOk result (λ s. s.visit.evals + s.visit.left + bounds s.visit.outbox ≡ v.evals + v.left + bounds v.outbox) }
+    ensures balance { IfOk result (λ s. s.visit.evals + s.visit.left + bounds s.visit.outbox ≡
+        v.evals + v.left + bounds v.outbox) }
 {
     settle_parts(alloc, p, v, ctx)
 }

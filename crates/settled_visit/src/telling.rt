@@ -103,7 +103,8 @@ fn telling_why(
 ) -> Result<Option<Sent>, NoMemory>
     requires handler { is_handler p.now.chunk.code name.now ≡ true }
     requires left { left ≤ 65535 }
-    ensures { IfOk result (λ t. t ≡ spec.telling_why p.now name.now ctx.entry.now left (spec.reason_of outcome.now)) }
+    ensures { IfOk result (λ t. t ≡ spec.telling_why p.now name.now ctx.entry.now left
+        (spec.reason_of outcome.now)) }
 {
     let Some(reason) = reason_of(alloc, outcome)? else {
         return Ok(None);
@@ -126,7 +127,8 @@ pub fn telling_of(
     outcome: &Outcome,
 ) -> Result<Option<Sent>, NoMemory>
     requires { left ≤ 65535 }
-    ensures { IfOk result (λ t. t ≡ spec.telling_by p.now p.now.handler ctx.entry.now left outcome.now) }
+    ensures { IfOk result (λ t. t ≡ spec.telling_by p.now p.now.handler ctx.entry.now left
+        outcome.now) }
 {
     let Some(name) = p.handler() else {
         return Ok(None);
