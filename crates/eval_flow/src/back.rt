@@ -1,5 +1,6 @@
 //! What an open expression does when what it waits for came so far.
-ghost use Rattle.std.specs.Prelude.{◌≡◌, ◌≢◌, ◌≤◌, ℕ, List, Err, IfOk, IsSome, Some};
+ghost use Rattle.std.specs.Prelude.{◌≡◌, ◌≢◌, ◌≤◌, ℕ, List, Err, IfOk, IfSome, IsSome, Some, min};
+ghost use Rattle.plan_base.specs.Sizes.{weight, nesting};
 ghost use Rattle.plan_base.specs.declared.tree.Fun.{Fun as AFun};
 ghost use Rattle.plan_base.specs.declared.tree.Program.{Program as Code};
 ghost use Rattle.plan_base.specs.declared.tree.Value.{Value as AValue};
@@ -48,6 +49,36 @@ pub fn give(alloc: Global, v: Value, state: &mut State) -> Result<Turn, EvalStop
     }
 }
 
+/// What a value without values in it weighs.
+#[tactic(auto, using(plan_base::proofs::SizeLaws::weight_out, plan_base::proofs::SizeLaws::nesting_out, plan_base::specs::Trees::trees))]
+fn light_weight(v: &Value) -> Option<u64>
+    ensures { IfSome result (λ w. (w ≡ min (weight v.now) 18446744073709551615) × (nesting v.now ≡ 0)) }
+{
+    match v {
+        Value::Unit => Some(1),
+        Value::Bool(_) => Some(2),
+        Value::Int(_) => Some(9),
+        Value::Char(_) | Value::Host(_) | Value::Dev(_) => Some(5),
+        Value::Str(s) => Some((s.as_slice().len() as u64).saturating_add(3)),
+        _ => None,
+    }
+}
+
+/// The value of the whole, whatever it is, which is weighed first.
+#[inline(never)]
+fn ended_by_any(alloc: Global, v: Value, state: &mut State) -> Result<Flow, EvalStop>
+    ensures flows { (codes : List Code) (code : Code) (seen : ℕ) (at : Spot) (n : ServiceState)
+        → Flows codes code seen at (weighed_value v (joined_state state.old n))
+        result (joined_state state.new n) }
+    ensures lasts { Lasts 3 state.old.work result state.new.work }
+{
+    match state.weighs(&v) {
+        Weighing::Paid => Ok(Flow::Done(v)),
+        Weighing::Spent => Err(EvalStop::WorkSpent),
+        Weighing::TooLarge => Err(too_large(alloc)),
+    }
+}
+
 /// The value of the whole, which is weighed first.
 pub fn ended_by_value(alloc: Global, v: Value, state: &mut State) -> Result<Flow, EvalStop>
     ensures flows { (codes : List Code) (code : Code) (seen : ℕ) (at : Spot) (n : ServiceState)
@@ -55,7 +86,10 @@ pub fn ended_by_value(alloc: Global, v: Value, state: &mut State) -> Result<Flow
         result (joined_state state.new n) }
     ensures lasts { Lasts 3 state.old.work result state.new.work }
 {
-    match state.weighs(&v) {
+    let Some(size) = light_weight(&v) else {
+        return ended_by_any(alloc, v, state);
+    };
+    match state.weighs_as(size, 0) {
         Weighing::Paid => Ok(Flow::Done(v)),
         Weighing::Spent => Err(EvalStop::WorkSpent),
         Weighing::TooLarge => Err(too_large(alloc)),

@@ -43,6 +43,17 @@ fn order_of(op: Op, x: i64, y: i64) -> Option<bool>
     }
 }
 
+/// The number that a value is.
+#[tactic(auto, using(plan_base::specs::Trees::trees))]
+pub fn number_in(v: &Value) -> Option<i64>
+    ensures { IfSome result (λ n. v.now ≡ value.Int n) }
+{
+    match v {
+        Value::Int(n) => Some(*n),
+        _ => None,
+    }
+}
+
 /// Two values that are numbers.
 #[tactic(auto, using(plan_base::specs::Trees::trees))]
 fn both_numbers(x: &Value, y: &Value) -> Option<(i64, i64)>

@@ -2,17 +2,19 @@
 ghost use Rattle.std.specs.Prelude.{◌≡◌, ◌≤◌, [], ℕ, List, IfSome, IsSome, Some, option_copied};
 ghost use Rattle.plan_base.specs.declared.tree.Expr.{Expr-F, out-Expr};
 ghost use Rattle.plan_meaning.specs.State.{VisitState, joined_state};
+ghost use Rattle.plan_meaning.specs.Run.{weighed_value};
 ghost use Rattle.plan_meaning.specs.Meaning.{bound, value_of};
 ghost use Rattle.plan_meaning.specs.Safe.{IsSafe};
 ghost use Rattle.plan_base.specs.declared.tree.Program.{Program as AProgram};
 ghost use Rattle.service_api.specs.Services.{ServiceState};
 ghost use Rattle.eval_steps.specs.Forms.{literal};
+ghost use Rattle.eval_steps.specs.Stack.{Spot};
 ghost use Rattle.eval_flow.specs.Direct.{spot, env_at_here, Flows, IsNumber, Lasts};
 ghost use Rattle.eval_steps.specs.Nexts.{Decides, Starts, begins};
 
 use crate::back::ended_by_value;
 use crate::here::{Here, bound_value};
-use crate::integers::ended_by_number;
+use crate::integers::{ended_by_number, number_in};
 use crate::place::argument_of;
 use crate::rest::Flow;
 use eval_steps::{Kind, Next, StackFrame, begin_call, kind_of, value_from};
@@ -48,6 +50,19 @@ fn give_named_value(alloc: Global, here: &Here<'_>, e: &Expr, name: &Name) -> Re
     }
 }
 
+/// Ends with a copy of a value, which is weighed first: that of a number takes no memory.
+fn ended_by_copy(alloc: Global, v: &Value, state: &mut State) -> Result<Flow, EvalStop>
+    ensures flows { (codes : List AProgram) (code : AProgram) (seen : ℕ) (at : Spot) (n : ServiceState)
+        → Flows codes code seen at (weighed_value v.now (joined_state state.old n))
+        result (joined_state state.new n) }
+    ensures lasts { Lasts 3 state.old.work result state.new.work }
+{
+    match number_in(v) {
+        Some(n) => ended_by_number(n, state),
+        None => ended_by_value(alloc, v.copy(alloc)?, state),
+    }
+}
+
 /// What a name stands for.
 #[tactic(auto, using(crate::proofs::Beginning::gives_name, crate::proofs::Beginning::no_name))]
 pub fn variable(
@@ -64,7 +79,7 @@ pub fn variable(
     ensures lasts { Lasts 3 state.old.work result state.new.work }
 {
     match named_value(here, name) {
-        Some(value) => ended_by_value(alloc, value.copy(alloc)?, state),
+        Some(value) => ended_by_copy(alloc, value, state),
         None => Err(EvalStop::Wrong),
     }
 }

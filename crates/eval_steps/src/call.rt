@@ -1,5 +1,5 @@
 //! Calls with their arguments.
-ghost use Rattle.std.specs.Prelude.{◌≡◌, ◌≤◌, IsSome};
+ghost use Rattle.std.specs.Prelude.{◌≡◌, ◌≤◌, IsSome, length};
 ghost use Rattle.std.specs.Option.{option_copied};
 ghost use Rattle.plan_meaning.specs.State.{joined_state};
 ghost use Rattle.plan_meaning.specs.Safe.{IsSafe};
@@ -8,7 +8,7 @@ ghost use Rattle.typing_rules.specs.TypingNames.{prim_of, service_of};
 ghost use Rattle.eval_steps.specs.Nexts.{Decides, call_of};
 
 use crate::next::Next;
-use crate::walk::same_name;
+use crate::walk::{same_bytes, same_name};
 use plan_base::{Name, Primitive, Program, Svc, Values};
 use plan_items::Shared;
 use plan_meaning::EvalStop;
@@ -17,13 +17,44 @@ use std::alloc::Global;
 use typing_rules::prim_of;
 use visit_state::{State, ask_service, place_among, primitive};
 
-/// The primitive of that name: only a name that is as long as a primitive's is compared.
+/// The primitive of a name of two letters.
+#[tactic(auto, using(crate::proofs::Calling::is_hd, crate::proofs::Calling::is_tl, crate::proofs::Calling::none_of_two))]
+fn short_primitive(name: &[u8]) -> Option<Primitive>
+    requires { length name.now ≡ 2 }
+    ensures { result ≡ prim_of name.now }
+{
+    if same_bytes(name, b"hd".as_slice()) {
+        return Some(Primitive::Hd);
+    }
+    if same_bytes(name, b"tl".as_slice()) {
+        return Some(Primitive::Tl);
+    }
+    None
+}
+
+/// The primitive of a name of six letters.
+#[tactic(auto, using(crate::proofs::Calling::is_length, crate::proofs::Calling::none_of_six))]
+fn middle_primitive(name: &[u8]) -> Option<Primitive>
+    requires { length name.now ≡ 6 }
+    ensures { result ≡ prim_of name.now }
+{
+    if same_bytes(name, b"length".as_slice()) {
+        return Some(Primitive::Length);
+    }
+    None
+}
+
+/// The primitive of that name: only a name that is as long as a primitive's is compared, and with those of its length
+/// alone where it is short.
 #[tactic(auto, using(crate::proofs::Calling::no_primitive))]
 fn primitive_of(f: &Name) -> Option<Primitive>
     ensures { result ≡ prim_of f.now }
 {
-    match f.as_slice().len() {
-        2 | 6 | 8 | 10 | 11 | 12 => prim_of(f),
+    let name = f.as_slice();
+    match name.len() {
+        2 => short_primitive(name),
+        6 => middle_primitive(name),
+        8 | 10 | 11 | 12 => prim_of(f),
         _ => None,
     }
 }

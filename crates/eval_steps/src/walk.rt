@@ -36,12 +36,12 @@ pub fn expr_from<'a>(start: &'a Expr, frames: &[StackFrame]) -> Option<&'a Expr>
     Some(e)
 }
 
-/// Whether two names are the same, by byte for byte: names are short.
-pub fn same_name(a: &Name, b: &Name) -> bool
+/// Whether two slices have the same bytes, one by one: names are short.
+pub fn same_bytes(a: &[u8], b: &[u8]) -> bool
     ensures { result ≡ bytes_eq a.now b.now }
 {
-    let mut left = a.as_slice();
-    let mut right = b.as_slice();
+    let mut left = a;
+    let mut right = b;
     while let [x, xs @ ..] = left {
         let [y, ys @ ..] = right else {
             return false;
@@ -53,6 +53,13 @@ pub fn same_name(a: &Name, b: &Name) -> bool
         right = ys;
     }
     right.is_empty()
+}
+
+/// Whether two names are the same.
+pub fn same_name(a: &Name, b: &Name) -> bool
+    ensures { result ≡ bytes_eq a.now b.now }
+{
+    same_bytes(a.as_slice(), b.as_slice())
 }
 
 /// What a name is bound to inside a frame, where it is bound to `before` outside.
