@@ -120,12 +120,10 @@ impl Services for Registry {
 
     fn ready(&mut self, alloc: Global) -> Result<(), NoMemory> {
         let _unused = alloc;
-        let Some(changes) = self.changes.take() else {
-            unreachable!()
-        };
-        let reserved = self.tables.reserve(&changes);
-        self.changes = Some(changes);
-        reserved?;
+        match &self.changes {
+            None => unreachable!(),
+            Some(changes) => self.tables.reserve(changes)?,
+        }
         self.is_ready = true;
         Ok(())
     }
