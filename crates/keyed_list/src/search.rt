@@ -50,10 +50,14 @@ fn compare_names(a: &[u8], b: &[u8]) -> Ordering
 pub fn compare<A: HasKey, B: HasKey>(a: &A, b: &B) -> Ordering
     ensures { result ≡ key_cmp (A.key_of a.now) (B.key_of b.now) }
 {
-    match a.number().cmp(&b.number()) {
-        Ordering::Less => Ordering::Less,
-        Ordering::Equal => compare_names(a.name(), b.name()),
-        Ordering::Greater => Ordering::Greater,
+    let number = a.number();
+    let other = b.number();
+    if number == other {
+        compare_names(a.name(), b.name())
+    } else if number < other {
+        Ordering::Less
+    } else {
+        Ordering::Greater
     }
 }
 
