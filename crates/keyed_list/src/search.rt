@@ -1,5 +1,7 @@
 ghost use Rattle.std.specs.Prelude.{◌≡◌, ◌<◌, length, map, Option};
 ghost use Rattle.std.specs.Option.{option_copied};
+ghost use Rattle.std.specs.Ordering.{nat_cmp};
+ghost use Rattle.std.specs.Cmp.Lexicographic.{slice_cmp};
 ghost use Rattle.item_keys.specs.Keys.{IsUnique, first_of_key};
 ghost use Rattle.keyed_list.specs.Order.{key_cmp};
 ghost use Rattle.keyed_list.specs.Index.{IsIndex, IsSpot};
@@ -7,15 +9,55 @@ ghost use Rattle.keyed_list.specs.Index.{IsIndex, IsSpot};
 use item_keys::HasKey;
 use std::cmp::Ordering;
 
+/// How some bytes stand to others, byte for byte: for names that are short.
+fn compare_short(a: &[u8], b: &[u8]) -> Ordering
+    ensures { result ≡ slice_cmp nat_cmp a.now b.now }
+{
+    let mut left = a;
+    let mut right = b;
+    while let [x, xs @ ..] = left {
+        let [y, ys @ ..] = right else {
+            return Ordering::Greater;
+        };
+        match x.cmp(y) {
+            Ordering::Less => return Ordering::Less,
+            Ordering::Equal => {}
+            Ordering::Greater => return Ordering::Greater,
+        }
+        left = xs;
+        right = ys;
+    }
+    if right.is_empty() {
+        Ordering::Equal
+    } else {
+        Ordering::Less
+    }
+}
+
+/// How the bytes of a name stand to those of another.
+fn compare_names(a: &[u8], b: &[u8]) -> Ordering
+    ensures { result ≡ slice_cmp nat_cmp a.now b.now }
+{
+    if a.len() <= 24 {
+        compare_short(a, b)
+    } else {
+        a.cmp(b)
+    }
+}
+
 /// How the key of `a` stands to that of `b`.
 #[tactic(auto, unfolding(crate::specs::Order::key_cmp))]
 pub fn compare<A: HasKey, B: HasKey>(a: &A, b: &B) -> Ordering
     ensures { result ≡ key_cmp (A.key_of a.now) (B.key_of b.now) }
 {
-    match a.number().cmp(&b.number()) {
-        Ordering::Less => Ordering::Less,
-        Ordering::Equal => a.name().cmp(b.name()),
-        Ordering::Greater => Ordering::Greater,
+    let number = a.number();
+    let other = b.number();
+    if number == other {
+        compare_names(a.name(), b.name())
+    } else if number < other {
+        Ordering::Less
+    } else {
+        Ordering::Greater
     }
 }
 

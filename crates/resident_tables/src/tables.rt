@@ -213,7 +213,10 @@ impl Tables {
         ensures next_key { self.new.«next» ≡ self.old.«next» }
         ensures kept { self.old.spare ≤ self.new.spare }
     {
-        self.rows.reserve(changes.room())?;
+        let room = changes.room();
+        if room > 0 {
+            self.rows.reserve(room)?;
+        }
         Ok(())
     }
 

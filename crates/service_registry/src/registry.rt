@@ -95,21 +95,19 @@ impl Services for Registry {
         args: &Values,
         ctx: &Ctx,
     ) -> Result<Answer, NoMemory> {
-        let Some(mut changes) = self.changes.take() else {
-            unreachable!()
-        };
-        let answer = answer_call(
-            alloc,
-            self.there,
-            &self.tables,
-            &mut changes,
-            svc,
-            args.as_slice(),
-            ctx,
-        );
-        self.changes = Some(changes);
         self.is_ready = false;
-        answer
+        match &mut self.changes {
+            None => unreachable!(),
+            Some(changes) => answer_call(
+                alloc,
+                self.there,
+                &self.tables,
+                changes,
+                svc,
+                args.as_slice(),
+                ctx,
+            ),
+        }
     }
 
     fn begin(&mut self, alloc: Global) -> Result<(), NoMemory> {
@@ -120,12 +118,10 @@ impl Services for Registry {
 
     fn ready(&mut self, alloc: Global) -> Result<(), NoMemory> {
         let _unused = alloc;
-        let Some(changes) = self.changes.take() else {
-            unreachable!()
-        };
-        let reserved = self.tables.reserve(&changes);
-        self.changes = Some(changes);
-        reserved?;
+        match &self.changes {
+            None => unreachable!(),
+            Some(changes) => self.tables.reserve(changes)?,
+        }
         self.is_ready = true;
         Ok(())
     }
