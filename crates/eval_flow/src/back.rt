@@ -52,7 +52,8 @@ pub fn give(alloc: Global, v: Value, state: &mut State) -> Result<Turn, EvalStop
 /// What a value without values in it weighs.
 #[tactic(auto, using(plan_base::proofs::SizeLaws::weight_out, plan_base::proofs::SizeLaws::nesting_out, plan_base::specs::Trees::trees))]
 fn light_weight(v: &Value) -> Option<u64>
-    ensures { IfSome result (λ w. (w ≡ min (weight v.now) 18446744073709551615) × (nesting v.now ≡ 0)) }
+    ensures { IfSome result (λ w. (w ≡ min (weight v.now) 18446744073709551615) ×
+        (nesting v.now ≡ 0)) }
 {
     match v {
         Value::Unit => Some(1),
@@ -103,10 +104,13 @@ pub fn last_back(
     flow: Result<Flow, EvalStop>,
     state: &mut State,
 ) -> Result<Flow, EvalStop>
-    ensures flows { (codes : List Code) (code : Code) (seen : ℕ) (at inner : Spot) (c : RunStep AValue) (m : ServiceState) → deeper at (frame.Last n) ≡ Some inner
+    ensures flows { (codes : List Code) (code : Code) (seen : ℕ) (at inner : Spot)
+        (c : RunStep AValue) (m : ServiceState) → deeper at (frame.Last n) ≡ Some inner
         → Flows codes code seen inner c flow (joined_state state.old m)
-        → Flows codes code seen at (resume code seen at (frame.Last n) c) result (joined_state state.new m) }
-    ensures lasts { (depth old : ℕ) → Spends depth old flow state.old.work → Lasts 3 old result state.new.work }
+        → Flows codes code seen at (resume code seen at (frame.Last n) c) result
+        (joined_state state.new m) }
+    ensures lasts { (depth old : ℕ) → Spends depth old flow state.old.work → Lasts 3 old result
+        state.new.work }
 {
     match flow {
         Ok(Flow::Done(v)) => ended_by_value(alloc, v, state),
@@ -122,10 +126,13 @@ pub fn bound_back(
     flow: Result<Flow, EvalStop>,
     state: &mut State,
 ) -> Result<Flow, EvalStop>
-    ensures flows { (codes : List Code) (code : Code) (seen : ℕ) (at inner : Spot) (c : RunStep AValue) (m : ServiceState) → deeper at (frame.Bound v) ≡ Some inner
+    ensures flows { (codes : List Code) (code : Code) (seen : ℕ) (at inner : Spot)
+        (c : RunStep AValue) (m : ServiceState) → deeper at (frame.Bound v) ≡ Some inner
         → Flows codes code seen inner c flow (joined_state state.old m)
-        → Flows codes code seen at (resume code seen at (frame.Bound v) c) result (joined_state state.new m) }
-    ensures lasts { (depth old : ℕ) → Spends depth old flow state.old.work → Lasts 3 old result state.new.work }
+        → Flows codes code seen at (resume code seen at (frame.Bound v) c) result
+        (joined_state state.new m) }
+    ensures lasts { (depth old : ℕ) → Spends depth old flow state.old.work → Lasts 3 old result
+        state.new.work }
 {
     match flow {
         Ok(Flow::Done(value)) => ended_by_value(alloc, value, state),
@@ -136,7 +143,8 @@ pub fn bound_back(
 
 /// A function that was called came so far.
 pub fn called_back(alloc: Global, flow: Result<Flow, EvalStop>) -> Result<Turn, EvalStop>
-    ensures advances { (codes : List Code) (code : Code) (seen : ℕ) (at : Spot) (c : RunStep AValue) (s : VisitState) → Enters codes c flow s
+    ensures advances { (codes : List Code) (code : Code) (seen : ℕ) (at : Spot) (c : RunStep AValue)
+        (s : VisitState) → Enters codes c flow s
         → Advances codes code seen at (resume code seen at frame.Body c) result s }
     ensures turns { (old new : ℕ) → Goes old flow new → Turns old result new }
 {
@@ -153,7 +161,8 @@ pub fn body_back(
     flow: Result<Flow, EvalStop>,
     state: &mut State,
 ) -> Result<Flow, EvalStop>
-    ensures flows { (codes : List Code) (code : Code) (seen : ℕ) (at : Spot) (c : RunStep AValue) (m : ServiceState) → Enters codes c flow (joined_state state.old m)
+    ensures flows { (codes : List Code) (code : Code) (seen : ℕ) (at : Spot) (c : RunStep AValue)
+        (m : ServiceState) → Enters codes c flow (joined_state state.old m)
         → Flows codes code seen at (resume code seen at frame.Body c)
         result (joined_state state.new m) }
     ensures lasts { (old : ℕ) → Goes old flow state.old.work → Lasts 3 old result state.new.work }
@@ -171,7 +180,8 @@ pub fn chunk_back(
     flow: Result<Flow, EvalStop>,
     state: &mut State,
 ) -> Result<Flow, EvalStop>
-    ensures flows { (codes : List Code) (code : Code) (seen : ℕ) (at : Spot) (c : RunStep AValue) (m : ServiceState) → Enters codes c flow (joined_state state.old m)
+    ensures flows { (codes : List Code) (code : Code) (seen : ℕ) (at : Spot) (c : RunStep AValue)
+        (m : ServiceState) → Enters codes c flow (joined_state state.old m)
         → Flows codes code seen at (resume code seen at frame.Chunk c)
         result (joined_state state.new m) }
     ensures lasts { (old : ℕ) → Goes old flow state.old.work → Lasts 3 old result state.new.work }
@@ -185,7 +195,8 @@ pub fn chunk_back(
 
 /// The chunk of an `eval` came so far.
 pub fn visited_back(alloc: Global, flow: Result<Flow, EvalStop>) -> Result<Turn, EvalStop>
-    ensures advances { (codes : List Code) (code : Code) (seen : ℕ) (at : Spot) (c : RunStep AValue) (s : VisitState) → Enters codes c flow s
+    ensures advances { (codes : List Code) (code : Code) (seen : ℕ) (at : Spot) (c : RunStep AValue)
+        (s : VisitState) → Enters codes c flow s
         → Advances codes code seen at (resume code seen at frame.Chunk c) result s }
     ensures turns { (old new : ℕ) → Goes old flow new → Turns old result new }
 {
@@ -206,7 +217,8 @@ fn item_back(
 ) -> Result<Turn, EvalStop>
     ensures advances { (codes : List Code) (env : Env) (s : VisitState)
         → Advances codes here.now.code.now here.now.fun (record { expr = e.now; env = env })
-        (fold_on here.now.code.now here.now.fun (record { expr = e.now; env = env }) v left s) result s }
+        (fold_on here.now.code.now here.now.fun (record { expr = e.now; env = env }) v left s)
+        result s }
     ensures more { IfOk result IsMore }
 {
     match item_gave(alloc, here.code, here.fun, e, v, left) {
@@ -223,9 +235,11 @@ pub fn stepped_back(
     left: Values,
     flow: Result<Flow, EvalStop>,
 ) -> Result<Turn, EvalStop>
-    ensures advances { (codes : List Code) (env : Env) (c : RunStep AValue) (s : VisitState) → Enters codes c flow s
+    ensures advances { (codes : List Code) (env : Env) (c : RunStep AValue) (s : VisitState) →
+        Enters codes c flow s
         → Advances codes here.now.code.now here.now.fun (record { expr = e.now; env = env })
-        (resume here.now.code.now here.now.fun (record { expr = e.now; env = env }) (frame.Items left) c) result s }
+        (resume here.now.code.now here.now.fun (record { expr = e.now; env = env })
+        (frame.Items left) c) result s }
     ensures turns { (old new : ℕ) → Goes old flow new → Turns old result new }
 {
     match flow {
@@ -246,9 +260,12 @@ fn value_back<S: Services>(
     svc: &mut S,
 ) -> Result<Turn, EvalStop>
     requires open { IsSome (S.stands svc.old).begun }
-    requires safe { IsSafe (resume here.now.code.now here.now.fun (spot here.now e.now) frame (quiet (gave v (joined_state state.old (S.stands svc.old))))).asks }
-    ensures advances { (codes : List Code) → Advances codes here.now.code.now here.now.fun (spot here.now e.now)
-        (resume here.now.code.now here.now.fun (spot here.now e.now) frame (quiet (gave v (joined_state state.old (S.stands svc.old)))))
+    requires safe { IsSafe (resume here.now.code.now here.now.fun (spot here.now e.now) frame
+        (quiet (gave v (joined_state state.old (S.stands svc.old))))).asks }
+    ensures advances { (codes : List Code) → Advances codes here.now.code.now here.now.fun
+        (spot here.now e.now)
+        (resume here.now.code.now here.now.fun (spot here.now e.now) frame
+        (quiet (gave v (joined_state state.old (S.stands svc.old)))))
         result (joined_state state.new (S.stands svc.new)) }
     ensures more { IfOk result IsMore }
     ensures falls { state.new.work ≤ state.old.work }
@@ -265,7 +282,8 @@ fn value_back<S: Services>(
 fn exception_back(e: &Expr, frame: &StackFrame, x: Exn) -> Result<Turn, EvalStop>
     ensures advances { (codes : List Code) (code : Code) (seen : ℕ) (env : Env) (s : VisitState)
         → Advances codes code seen (record { expr = e.now; env = env })
-        (resume code seen (record { expr = e.now; env = env }) frame.now (quiet (stopped (Raised x) s))) result s }
+        (resume code seen (record { expr = e.now; env = env }) frame.now
+        (quiet (stopped (Raised x) s))) result s }
     ensures more { IfOk result IsMore }
 {
     match frame_raised(e, frame, x) {
@@ -278,9 +296,11 @@ fn exception_back(e: &Expr, frame: &StackFrame, x: Exn) -> Result<Turn, EvalStop
 #[tactic(auto, using(crate::proofs::Ending::resume_final))]
 #[inline(never)]
 fn stop_back(e: &Expr, frame: &StackFrame, stop: EvalStop) -> Result<Turn, EvalStop>
-    ensures advances { (codes : List Code) (code : Code) (seen : ℕ) (env : Env) (c : RunStep AValue) (s : VisitState)
+    ensures advances { (codes : List Code) (code : Code) (seen : ℕ) (env : Env) (c : RunStep AValue)
+        (s : VisitState)
         → (stop ≢ stops.NoMemory → c.after ≡ stopped stop s)
-        → Advances codes code seen (record { expr = e.now; env = env }) (resume code seen (record { expr = e.now; env = env }) frame.now c) result s }
+        → Advances codes code seen (record { expr = e.now; env = env })
+        (resume code seen (record { expr = e.now; env = env }) frame.now c) result s }
     ensures turns { (depth old new : ℕ) → Spends depth old (Err stop) new → Turns old result new }
 {
     match stop {
@@ -304,13 +324,18 @@ pub fn part_back<S: Services>(
 ) -> Result<Turn, EvalStop>
     requires open { IsSome (S.stands svc.old).begun }
     requires safe { (codes : List Code) × (inner : Spot) × (c : RunStep AValue)
-        × Flows codes here.now.code.now here.now.fun inner c flow (joined_state state.old (S.stands svc.old))
+        × Flows codes here.now.code.now here.now.fun inner c flow
+        (joined_state state.old (S.stands svc.old))
         × IsSafe (resume here.now.code.now here.now.fun (spot here.now e.now) frame c).asks }
-    ensures advances { (codes : List Code) (inner : Spot) (c : RunStep AValue) → deeper (spot here.now e.now) frame ≡ Some inner
-        → Flows codes here.now.code.now here.now.fun inner c flow (joined_state state.old (S.stands svc.old))
+    ensures advances { (codes : List Code) (inner : Spot) (c : RunStep AValue) → deeper
+        (spot here.now e.now) frame ≡ Some inner
+        → Flows codes here.now.code.now here.now.fun inner c flow
+        (joined_state state.old (S.stands svc.old))
         → Advances codes here.now.code.now here.now.fun (spot here.now e.now)
-        (resume here.now.code.now here.now.fun (spot here.now e.now) frame c) result (joined_state state.new (S.stands svc.new)) }
-    ensures turns { (depth old : ℕ) → Spends depth old flow state.old.work → Turns old result state.new.work }
+        (resume here.now.code.now here.now.fun (spot here.now e.now) frame c) result
+        (joined_state state.new (S.stands svc.new)) }
+    ensures turns { (depth old : ℕ) → Spends depth old flow state.old.work → Turns old result
+        state.new.work }
     ensures offer { (S.stands svc.new).offer ≡ (S.stands svc.old).offer }
     ensures begun { (S.stands svc.new).begun ≡ (S.stands svc.old).begun }
 {
@@ -329,7 +354,8 @@ pub fn args_back(
     args: Values,
     flow: Result<Flow, EvalStop>,
 ) -> Result<Flow, EvalStop>
-    ensures enters { (codes : List Code) (code : Code) (f : AFun) (c : RunStep AValue) (s : VisitState) → Bodies codes code number fun f args c flow s
+    ensures enters { (codes : List Code) (code : Code) (f : AFun) (c : RunStep AValue)
+        (s : VisitState) → Bodies codes code number fun f args c flow s
         → Enters codes c result s }
     ensures goes { (depth old new : ℕ) → Spends depth old flow new → Goes old result new }
 {

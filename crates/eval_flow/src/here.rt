@@ -43,7 +43,8 @@ pub fn bound_value<'a>(
     before: Option<&'a Value>,
     bindings: &[Binding<'a>],
 ) -> Option<&'a Value>
-    ensures { option_copied result ≡ bound_value name.now (option_copied before.entry) bindings.now }
+    ensures { option_copied result ≡ bound_value name.now (option_copied before.entry)
+        bindings.now }
 {
     let mut found = before;
     let mut left = bindings;

@@ -32,7 +32,8 @@ fn number_of(op: Op, x: i64, y: i64) -> Option<i64>
 /// What a test of the order of two numbers gives.
 #[tactic(auto, using(crate::proofs::Counted::lt_is, crate::proofs::Counted::le_is, crate::proofs::Counted::gt_is, crate::proofs::Counted::ge_is))]
 fn order_of(op: Op, x: i64, y: i64) -> Option<bool>
-    ensures { IfSome result (λ b. rules.binary op (value.Int x) (value.Int y) ≡ rules.gives (value.Bool b)) }
+    ensures { IfSome result (λ b. rules.binary op (value.Int x) (value.Int y) ≡ rules.gives
+        (value.Bool b)) }
 {
     match op {
         Op::Lt => Some(x < y),
@@ -94,7 +95,8 @@ pub fn order_given(op: Op, x: &Value, y: &Value) -> Option<bool>
 #[tactic(auto, using(crate::proofs::Hot::weighs_nine, crate::proofs::Hot::stops_nine))]
 pub fn ended_by_number(n: i64, state: &mut State) -> Result<Flow, EvalStop>
     ensures flows { (codes : List Code) (code : Code) (seen : ℕ) (at : Spot) (m : ServiceState)
-        → Flows codes code seen at (weighed_value (value.Int n) (joined_state state.old m)) result (joined_state state.new m) }
+        → Flows codes code seen at (weighed_value (value.Int n) (joined_state state.old m)) result
+        (joined_state state.new m) }
     ensures lasts { Lasts 3 state.old.work result state.new.work }
 {
     if !state.pays(9) {
@@ -107,7 +109,8 @@ pub fn ended_by_number(n: i64, state: &mut State) -> Result<Flow, EvalStop>
 #[tactic(auto, using(crate::proofs::Hot::weighs_two, crate::proofs::Hot::stops_two))]
 pub fn ended_by_test(b: bool, state: &mut State) -> Result<Flow, EvalStop>
     ensures flows { (codes : List Code) (code : Code) (seen : ℕ) (at : Spot) (m : ServiceState)
-        → Flows codes code seen at (weighed_value (value.Bool b) (joined_state state.old m)) result (joined_state state.new m) }
+        → Flows codes code seen at (weighed_value (value.Bool b) (joined_state state.old m)) result
+        (joined_state state.new m) }
     ensures lasts { Lasts 3 state.old.work result state.new.work }
 {
     if !state.pays(2) {

@@ -42,7 +42,8 @@ fn named_value<'a>(here: &Here<'a>, name: &Name) -> Option<&'a Value>
 fn give_named_value(alloc: Global, here: &Here<'_>, e: &Expr, name: &Name) -> Result<Next, EvalStop>
     requires form { out-Expr e.now ≡ Expr-F.Var name.now }
     requires binds { IsSome (bound here.now.function.now.params here.now.args.now) }
-    ensures { (s : VisitState) → Decides here.now.code.now here.now.fun (spot here.now e.now) (begins here.now.code.now here.now.fun (spot here.now e.now) s) result s }
+    ensures { (s : VisitState) → Decides here.now.code.now here.now.fun (spot here.now e.now)
+        (begins here.now.code.now here.now.fun (spot here.now e.now) s) result s }
 {
     match named_value(here, name) {
         Some(value) => Ok(Next::Give(value.copy(alloc)?)),
@@ -52,7 +53,8 @@ fn give_named_value(alloc: Global, here: &Here<'_>, e: &Expr, name: &Name) -> Re
 
 /// Ends with a copy of a value, which is weighed first: that of a number takes no memory.
 fn ended_by_copy(alloc: Global, v: &Value, state: &mut State) -> Result<Flow, EvalStop>
-    ensures flows { (codes : List AProgram) (code : AProgram) (seen : ℕ) (at : Spot) (n : ServiceState)
+    ensures flows { (codes : List AProgram) (code : AProgram) (seen : ℕ) (at : Spot)
+        (n : ServiceState)
         → Flows codes code seen at (weighed_value v.now (joined_state state.old n))
         result (joined_state state.new n) }
     ensures lasts { Lasts 3 state.old.work result state.new.work }
@@ -74,8 +76,10 @@ pub fn variable(
 ) -> Result<Flow, EvalStop>
     requires form { out-Expr e.now ≡ Expr-F.Var name.now }
     requires binds { IsSome (bound here.now.function.now.params here.now.args.now) }
-    ensures flows { (codes : List AProgram) (n : ServiceState) → Flows codes here.now.code.now here.now.fun (spot here.now e.now)
-        (begins here.now.code.now here.now.fun (spot here.now e.now) (joined_state state.old n)) result (joined_state state.new n) }
+    ensures flows { (codes : List AProgram) (n : ServiceState) → Flows codes here.now.code.now
+        here.now.fun (spot here.now e.now)
+        (begins here.now.code.now here.now.fun (spot here.now e.now) (joined_state state.old n))
+        result (joined_state state.new n) }
     ensures lasts { Lasts 3 state.old.work result state.new.work }
 {
     match named_value(here, name) {
@@ -87,8 +91,10 @@ pub fn variable(
 /// What a numeral gives.
 pub fn number(here: &Here<'_>, e: &Expr, n: i64, state: &mut State) -> Result<Flow, EvalStop>
     requires form { out-Expr e.now ≡ Expr-F.Int n }
-    ensures flows { (codes : List AProgram) (m : ServiceState) → Flows codes here.now.code.now here.now.fun (spot here.now e.now)
-        (begins here.now.code.now here.now.fun (spot here.now e.now) (joined_state state.old m)) result (joined_state state.new m) }
+    ensures flows { (codes : List AProgram) (m : ServiceState) → Flows codes here.now.code.now
+        here.now.fun (spot here.now e.now)
+        (begins here.now.code.now here.now.fun (spot here.now e.now) (joined_state state.old m))
+        result (joined_state state.new m) }
     ensures lasts { Lasts 3 state.old.work result state.new.work }
 {
     ended_by_number(n, state)
@@ -141,7 +147,8 @@ pub fn leaf_number(here: &Here<'_>, e: &Expr) -> Option<i64>
 /// A chunk without arguments.
 #[tactic(auto, using(crate::proofs::Beginning::packs_bare))]
 fn bare_chunk(alloc: Global, code: &Shared<Program>, entry: &Name) -> Result<Next, EvalStop>
-    ensures { (seen : ℕ) (s : VisitState) → Starts code.now seen (Expr-F.ChunkOf entry.now []) s result s }
+    ensures { (seen : ℕ) (s : VisitState) → Starts code.now seen
+        (Expr-F.ChunkOf entry.now []) s result s }
 {
     let chunk = Chunk {
         code: code.share()?,
@@ -162,9 +169,11 @@ pub fn begin<S: Services>(
 ) -> Result<Next, EvalStop>
     requires open { IsSome (S.stands svc.old).begun }
     requires binds { IsSome (bound here.now.function.now.params here.now.args.now) }
-    requires safe { IsSafe (begins here.now.code.now here.now.fun (spot here.now e.now) (joined_state state.old (S.stands svc.old))).asks }
+    requires safe { IsSafe (begins here.now.code.now here.now.fun (spot here.now e.now)
+        (joined_state state.old (S.stands svc.old))).asks }
     ensures decides { Decides here.now.code.now here.now.fun (spot here.now e.now)
-        (begins here.now.code.now here.now.fun (spot here.now e.now) (joined_state state.old (S.stands svc.old)))
+        (begins here.now.code.now here.now.fun (spot here.now e.now)
+        (joined_state state.old (S.stands svc.old)))
         result (joined_state state.new (S.stands svc.new)) }
     ensures falls { state.new.work ≤ state.old.work }
     ensures offer { (S.stands svc.new).offer ≡ (S.stands svc.old).offer }

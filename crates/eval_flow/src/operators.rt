@@ -27,8 +27,10 @@ use visit_state::{State, binary, cons};
 /// What an operator gives of two values, which isn't weighed yet.
 #[tactic(auto, using(eval_steps::proofs::Gathering::list_gives, eval_steps::proofs::Gathering::list_stops, eval_steps::proofs::Gathering::operator_gives, eval_steps::proofs::Gathering::operator_stops))]
 fn compute_value(alloc: Global, op: Op, x: Value, v: Value) -> Result<Value, EvalStop>
-    ensures { (code : Program) (seen : ℕ) (e a b : Expr) (env : Env) (s : VisitState) → out-Expr e ≡ Expr-F.Binary op a b
-        → Carries (part_gave code seen (record { expr = e; env = env }) 1 (x ∷ []) v s) (λ w. weighed_value w s) result s }
+    ensures { (code : Program) (seen : ℕ) (e a b : Expr) (env : Env) (s : VisitState) → out-Expr e ≡
+        Expr-F.Binary op a b
+        → Carries (part_gave code seen (record { expr = e; env = env }) 1 (x ∷ []) v s)
+        (λ w. weighed_value w s) result s }
 {
     match op {
         Op::Cons => cons(x, v),
@@ -45,9 +47,11 @@ fn operate_values(
     v: Value,
     state: &mut State,
 ) -> Result<Flow, EvalStop>
-    ensures flows { (codes : List Program) (code : Program) (seen : ℕ) (e a b : Expr) (env : Env) (m : ServiceState) → out-Expr e ≡ Expr-F.Binary op a b
+    ensures flows { (codes : List Program) (code : Program) (seen : ℕ) (e a b : Expr) (env : Env)
+        (m : ServiceState) → out-Expr e ≡ Expr-F.Binary op a b
         → Flows codes code seen (record { expr = e; env = env })
-        (part_gave code seen (record { expr = e; env = env }) 1 (x ∷ []) v (joined_state state.old m)) result (joined_state state.new m) }
+        (part_gave code seen (record { expr = e; env = env }) 1 (x ∷ []) v
+        (joined_state state.old m)) result (joined_state state.new m) }
     ensures lasts { Lasts 3 state.old.work result state.new.work }
 {
     match compute_value(alloc, op, x, v) {
@@ -58,9 +62,11 @@ fn operate_values(
 
 /// Both operands gave values.
 fn operate(alloc: Global, op: Op, x: Value, v: Value, state: &mut State) -> Result<Flow, EvalStop>
-    ensures flows { (codes : List Program) (code : Program) (seen : ℕ) (e a b : Expr) (env : Env) (m : ServiceState) → out-Expr e ≡ Expr-F.Binary op a b
+    ensures flows { (codes : List Program) (code : Program) (seen : ℕ) (e a b : Expr) (env : Env)
+        (m : ServiceState) → out-Expr e ≡ Expr-F.Binary op a b
         → Flows codes code seen (record { expr = e; env = env })
-        (part_gave code seen (record { expr = e; env = env }) 1 (x ∷ []) v (joined_state state.old m)) result (joined_state state.new m) }
+        (part_gave code seen (record { expr = e; env = env }) 1 (x ∷ []) v
+        (joined_state state.old m)) result (joined_state state.new m) }
     ensures lasts { Lasts 3 state.old.work result state.new.work }
 {
     if let Some(n) = number_given(op, &x, &v) {
@@ -75,10 +81,14 @@ fn operate(alloc: Global, op: Op, x: Value, v: Value, state: &mut State) -> Resu
 /// Spends what an expression spends that gives a number at once, or says no.
 #[tactic(auto, using(crate::proofs::Hot::number_comes))]
 fn number_paid(state: &mut State) -> bool
-    ensures paid { IsTrue result → (code : Program) (seen : ℕ) (at : Spot) (n : ℤ) (m : ServiceState) → IsNumber code seen at n
-        → (meaning code seen at.env at.expr (joined_state state.old m)).after ≡ gave (value.Int n) (joined_state state.new m) }
-    ensures unpaid { IsFalse result → (code : Program) (seen : ℕ) (at : Spot) (n : ℤ) (m : ServiceState) → IsNumber code seen at n
-        → (meaning code seen at.env at.expr (joined_state state.old m)).after ≡ stopped stops.WorkSpent (joined_state state.new m) }
+    ensures paid { IsTrue result → (code : Program) (seen : ℕ) (at : Spot) (n : ℤ)
+        (m : ServiceState) → IsNumber code seen at n
+        → (meaning code seen at.env at.expr (joined_state state.old m)).after ≡ gave (value.Int n)
+        (joined_state state.new m) }
+    ensures unpaid { IsFalse result → (code : Program) (seen : ℕ) (at : Spot) (n : ℤ)
+        (m : ServiceState) → IsNumber code seen at n
+        → (meaning code seen at.env at.expr (joined_state state.old m)).after ≡ stopped
+        stops.WorkSpent (joined_state state.new m) }
     ensures falls { state.new.work ≤ state.old.work }
 {
     if !state.pays(1) {
@@ -92,9 +102,13 @@ fn number_paid(state: &mut State) -> bool
 
 /// Both operands are numbers that are at hand.
 pub fn numbers(alloc: Global, op: Op, x: i64, y: i64, state: &mut State) -> Result<Flow, EvalStop>
-    ensures flows { (codes : List Program) (code : Program) (seen : ℕ) (e a b : Expr) (env : Env) (m : ServiceState) → out-Expr e ≡ Expr-F.Binary op a b
-        → IsNumber code seen (record { expr = a; env = env }) x → IsNumber code seen (record { expr = b; env = env }) y
-        → Flows codes code seen (record { expr = e; env = env }) (begins code seen (record { expr = e; env = env }) (joined_state state.old m)) result (joined_state state.new m) }
+    ensures flows { (codes : List Program) (code : Program) (seen : ℕ) (e a b : Expr) (env : Env)
+        (m : ServiceState) → out-Expr e ≡ Expr-F.Binary op a b
+        → IsNumber code seen (record { expr = a; env = env }) x → IsNumber code seen
+        (record { expr = b; env = env }) y
+        → Flows codes code seen (record { expr = e; env = env })
+        (begins code seen (record { expr = e; env = env }) (joined_state state.old m)) result
+        (joined_state state.new m) }
     ensures lasts { Lasts 3 state.old.work result state.new.work }
 {
     if !number_paid(state) {
@@ -114,11 +128,15 @@ pub fn operands_back(
     flow: Result<Flow, EvalStop>,
     state: &mut State,
 ) -> Result<Flow, EvalStop>
-    ensures flows { (codes : List Program) (code : Program) (seen : ℕ) (e a b : Expr) (env : Env) (inner : Spot) (c : RunStep Value) (m : ServiceState) → out-Expr e ≡ Expr-F.Binary op a b
+    ensures flows { (codes : List Program) (code : Program) (seen : ℕ) (e a b : Expr) (env : Env)
+        (inner : Spot) (c : RunStep Value) (m : ServiceState) → out-Expr e ≡ Expr-F.Binary op a b
         → deeper (record { expr = e; env = env }) (frame.Part 1 (x ∷ [])) ≡ Some inner
         → Flows codes code seen inner c flow (joined_state state.old m)
-        → Flows codes code seen (record { expr = e; env = env }) (resume code seen (record { expr = e; env = env }) (frame.Part 1 (x ∷ [])) c) result (joined_state state.new m) }
-    ensures lasts { (depth old : ℕ) → Spends depth old flow state.old.work → Lasts 3 old result state.new.work }
+        → Flows codes code seen (record { expr = e; env = env })
+        (resume code seen (record { expr = e; env = env }) (frame.Part 1 (x ∷ [])) c) result
+        (joined_state state.new m) }
+    ensures lasts { (depth old : ℕ) → Spends depth old flow state.old.work → Lasts 3 old result
+        state.new.work }
 {
     match flow {
         Ok(Flow::Done(y)) => operate(alloc, op, x, y, state),

@@ -38,7 +38,8 @@ pub fn argument_of<'a>(name: &Name, params: &[Param], args: &'a [Value]) -> Opti
 #[tactic(auto, using(crate::proofs::Naming::enters_by, crate::proofs::Naming::enters_none, crate::proofs::Naming::enters_other))]
 pub fn enters(code: &Shared<Program>, fun: usize, args: &Values) -> bool
     ensures yes { IsTrue result → Enters code.now fun args.now }
-    ensures no { IsFalse result → (s : VisitState) → (entered_function meaning code.now fun args.now s).after ≡ stopped Wrong s }
+    ensures no { IsFalse result → (s : VisitState) → (entered_function meaning code.now fun args.now
+        s).after ≡ stopped Wrong s }
 {
     match code.get().funs.get(fun) {
         Some(function) => function.params.len() == args.len(),

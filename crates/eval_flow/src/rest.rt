@@ -76,7 +76,8 @@ pub fn pause_in(alloc: Global, frame: StackFrame) -> Result<Flow, NoMemory>
 #[cold]
 #[inline(never)]
 pub fn inside(alloc: Global, rest: Rest, frame: StackFrame) -> Result<Flow, NoMemory>
-    ensures { IfOk result (λ f. f ≡ flow.Wait (record rest { frames = rest.frames ++ frame ∷ [] })) }
+    ensures { IfOk result (λ f. f ≡ flow.Wait (record rest
+        { frames = rest.frames ++ frame ∷ [] })) }
 {
     let Rest {
         frames,
@@ -132,7 +133,11 @@ pub fn above(
     fun: usize,
     args: Values,
 ) -> Result<Flow, NoMemory>
-    ensures { IfOk result (λ f. f ≡ flow.Wait (record { frames = []; activations = rest.activations ++ record { code = code; fun = fun; args = args; frames = reverse rest.frames } ∷ [] })) }
+    ensures { IfOk result (λ f. f ≡ flow.Wait (record {
+      frames = [];
+      activations = rest.activations
+          ++ record { code = code; fun = fun; args = args; frames = reverse rest.frames } ∷ [];
+    })) }
 {
     let Rest {
         frames,
@@ -154,7 +159,8 @@ pub fn above(
 #[cold]
 #[inline(never)]
 pub fn stack_rest(outer: &mut Activations, top: Activation, rest: Rest) -> Result<(), NoMemory>
-    ensures { IfOk result (λ _. outer.new ≡ (outer.old ++ record top { frames = top.frames ++ reverse rest.frames } ∷ []) ++ reverse rest.activations) }
+    ensures { IfOk result (λ _. outer.new ≡ (outer.old ++ record top
+        { frames = top.frames ++ reverse rest.frames } ∷ []) ++ reverse rest.activations) }
 {
     let Rest {
         frames,
