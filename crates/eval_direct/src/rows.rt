@@ -1,5 +1,5 @@
 //! Tuples, calls and chunks, whose parts are evaluated in a row, and chunks that are entered unmade.
-ghost use Rattle.std.specs.Prelude.{◌≡◌, [], IsSome, Some};
+ghost use Rattle.std.specs.Prelude.{◌≡◌, [], IfOk, IsSome, Some};
 ghost use Rattle.plan_base.specs.declared.tree.Expr.{Expr, Expr-F, out-Expr};
 ghost use Rattle.eval_steps.specs.declared.stack_frame.StackFrame.TheVariants as frame;
 ghost use Rattle.plan_base.specs.declared.tree.Value as value;
@@ -18,7 +18,7 @@ use eval_flow::{
     stopped_in,
 };
 use eval_steps::{Codes, Next, StackFrame, begin_call, part_at};
-use plan_base::{Expr, Exprs, Name, Value, Values};
+use plan_base::{Expr, Exprs, Name, NoMemory, Value, Values};
 use plan_items::Items;
 use plan_meaning::EvalStop;
 use service_api::Services;
@@ -57,6 +57,13 @@ pub(crate) fn row<S: Services>(
     }
 }
 
+/// No values yet, with room for so many.
+fn room_for(alloc: Global, n: usize) -> Result<Values, NoMemory>
+    ensures { IfOk result (λ held. held ≡ []) }
+{
+    Ok(Items::from_vec(Vec::with_capacity(alloc, n)?))
+}
+
 /// Evaluates the parts of a tuple, a call or a chunk in their order.
 #[cycle(evaluate)]
 #[inline]
@@ -83,7 +90,7 @@ fn all_parts<S: Services>(
     ensures offer { (S.stands svc.new).offer ≡ (S.stands svc.old).offer }
     ensures begun { (S.stands svc.new).begun ≡ (S.stands svc.old).begun }
 {
-    let mut held = Items::new(alloc);
+    let mut held = room_for(alloc, es.len())?;
     while let Some(x) = part_at(es, held.len()) {
         match evaluate(alloc, codes, here, x, depth, state, svc) {
             Ok(Flow::Done(v)) => held.add(v)?,

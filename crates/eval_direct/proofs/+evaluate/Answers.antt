@@ -301,7 +301,7 @@ direct::visit-returns-clause-grown g t c = grows_on _ _ _ c.open_code.ensures.gr
 pub rows::all_parts-loop-x-init : goal.rows::all_parts-loop-x-init
 rows::all_parts-loop-x-init g t c = record {
   here = c.requires.here;
-  leads = rw c.new-held.ensures (row_begins c.args.here.now.code.now c.args.here.now.fun c.args.e.now (spot c.args.here.now c.args.e.now).env c.args.es.now c.requires.form c.requires.parts (joined_state c.args.state.now (g.S.Services.stands c.args.svc.now)));
+  leads = rw c.in_ok-held.ensures (row_begins c.args.here.now.code.now c.args.here.now.fun c.args.e.now (spot c.args.here.now c.args.e.now).env c.args.es.now c.requires.form c.requires.parts (joined_state c.args.state.now (g.S.Services.stands c.args.svc.now)));
   falls = omega arith;
   grown = grows_none _ _ refl;
   offer = refl;
