@@ -538,8 +538,6 @@ fn body_flow<S: Services>(
     ensures offer { (S.stands svc.new).offer ≡ (S.stands svc.old).offer }
     ensures begun { (S.stands svc.new).begun ≡ (S.stands svc.old).begun }
 {
-    let none = Items::new(alloc);
-    let bare = Items::new(alloc);
     let here = Here {
         code,
         number,
@@ -547,8 +545,8 @@ fn body_flow<S: Services>(
         fun,
         function,
         args: args.as_slice(),
-        frames: none.as_slice(),
-        bindings: bare.as_slice(),
+        frames: &[],
+        bindings: &[],
     };
     evaluate(alloc, codes, &here, &function.body, depth, state, svc)
 }

@@ -263,17 +263,15 @@ direct::enter-returns-then-len-clause-enters g t c = λ other.
 pub direct::body_flow-evaluate-requires : goal.direct::body_flow-evaluate-requires
 direct::body_flow-evaluate-requires g t c =
     let args : c.as_slice.result.now ≡ c.args.args.now = c.as_slice.ensures in
-    let none = c.as_slice-2.ensures ∙ c.new-none.ensures in
-    let bare = c.as_slice-3.ensures ∙ c.new-bare.ensures in
     let binds : IsSome (bound c.args.function.now.params c.as_slice.result.now) =
-    body_binds c.args.code.now c.args.fun c.args.function.now c.args.args.now c.as_slice.result.now c.as_slice-2.result.now c.as_slice-3.result.now (joined_state c.args.state.now (g.S.Services.stands c.args.svc.now)) c.requires.function c.requires.many args none bare in
-    let safe : IsSafe (meaning c.args.code.now c.args.fun (env_of c.args.function.now c.as_slice.result.now c.as_slice-2.result.now ++ bound_here c.as_slice-3.result.now) c.args.function.now.body (joined_state c.args.state.now (g.S.Services.stands c.args.svc.now))).asks =
-    (body_leads c.args.code.now c.args.fun c.args.function.now c.args.args.now c.as_slice.result.now c.as_slice-2.result.now c.as_slice-3.result.now (joined_state c.args.state.now (g.S.Services.stands c.args.svc.now)) c.requires.function c.requires.many args none bare).safe c.requires.safe in
+    body_binds c.args.code.now c.args.fun c.args.function.now c.args.args.now c.as_slice.result.now [] [] (joined_state c.args.state.now (g.S.Services.stands c.args.svc.now)) c.requires.function c.requires.many args refl refl in
+    let safe : IsSafe (meaning c.args.code.now c.args.fun (env_of c.args.function.now c.as_slice.result.now [] ++ bound_here []) c.args.function.now.body (joined_state c.args.state.now (g.S.Services.stands c.args.svc.now))).asks =
+    (body_leads c.args.code.now c.args.fun c.args.function.now c.args.args.now c.as_slice.result.now [] [] (joined_state c.args.state.now (g.S.Services.stands c.args.svc.now)) c.requires.function c.requires.many args refl refl).safe c.requires.safe in
     search rules
 
 pub direct::body_flow-returns-clause-flows : goal.direct::body_flow-returns-clause-flows
 direct::body_flow-returns-clause-flows g t c =
-    bodies_from c.args.code.now c.args.fun c.args.function.now c.args.args.now c.as_slice.result.now c.as_slice-2.result.now c.as_slice-3.result.now (joined_state c.args.state.now (g.S.Services.stands c.args.svc.now)) c.requires.function c.requires.many c.as_slice.ensures (c.as_slice-2.ensures ∙ c.new-none.ensures) (c.as_slice-3.ensures ∙ c.new-bare.ensures)
+    bodies_from c.args.code.now c.args.fun c.args.function.now c.args.args.now c.as_slice.result.now [] [] (joined_state c.args.state.now (g.S.Services.stands c.args.svc.now)) c.requires.function c.requires.many c.as_slice.ensures refl refl
     c.evaluate.new.codes c.args.number c.evaluate.result _ (grown_get c.args.codes.now c.evaluate.new.codes c.args.number c.args.code.now c.evaluate.ensures.grown c.requires.program) c.evaluate.ensures.flows
 
 pub direct::visit-returns-in_default-clause-enters : goal.direct::visit-returns-in_default-clause-enters
