@@ -1,34 +1,32 @@
 //! Evaluation by recursion on the native stack, down to a depth; what is left there waits.
-ghost use Rattle.std.specs.Prelude.{◌≡◌, ◌∷◌, [], length, min, IsSome, Some, slice_get};
+ghost use Rattle.std.specs.Prelude.{◌≡◌, length, min, IsSome, Some, slice_get};
 ghost use Rattle.plan_base.specs.declared.tree.Expr.{Expr, Expr-F, out-Expr};
 ghost use Rattle.plan_base.specs.declared.tree.Ty.{Ty};
 ghost use Rattle.plan_base.specs.Sizes.{code_size};
 ghost use Rattle.eval_steps.specs.declared.stack_frame.StackFrame.TheVariants as frame;
-ghost use Rattle.plan_base.specs.declared.tree.Value as value;
-ghost use Rattle.plan_meaning.specs.Run.{weighed_value};
-ghost use Rattle.eval_steps.specs.Forms.{IsRow};
-ghost use Rattle.eval_steps.specs.Stack.{part_or_self, parts_of, resume};
+ghost use Rattle.eval_steps.specs.Stack.{part_or_self};
+ghost use Rattle.typing_rules.specs.TypingNames.{place_of};
 ghost use Rattle.plan_meaning.specs.State.{joined_state};
 ghost use Rattle.plan_meaning.specs.Meaning.{entered_function, meaning, visited_chunk};
 ghost use Rattle.plan_meaning.specs.Safe.{IsSafe};
 ghost use Rattle.eval_steps.specs.declared.next.Next.TheVariants as next;
-ghost use Rattle.eval_steps.specs.Nexts.{begins, call_of, next_step};
-ghost use Rattle.eval_flow.specs.Direct.{spot, IsHere, Flows, Bodies, Enters, Advances, Grows, Goes, Lasts, RowLasts, Rows, Spends, Turns, named_spot, row_gave};
+ghost use Rattle.eval_steps.specs.Nexts.{begins, next_step};
+ghost use Rattle.eval_flow.specs.Direct.{spot, IsHere, Flows, Bodies, Enters, Advances, Grows, Goes, Lasts, Spends, Turns, named_spot};
 
+use crate::rows::{eval, row};
+use crate::sends::near;
 use eval_flow::{
-    Binding, Flow, Here, Row, Turn, args_back, begin, behind_three, behind_two, body_back,
-    bound_back, called_back, chunk_back, ended_by_value, give, inside, is_bound, last_back,
-    leaf_number, number, numbers, open_code, operands_back, pack_chunk, part_back, pause, pause_in,
-    pay_packed, send_values, stepped_back, stopped_in, variable, visited_back, written,
+    Binding, Flow, Here, Turn, args_back, begin, bound_back, called_back, give, inside, is_bound,
+    last_back, leaf_number, number, numbers, open_code, operands_back, part_back, pause, pause_in,
+    stepped_back, variable, visited_back, written,
 };
-use eval_steps::{Codes, Next, StackFrame, begin_call, behind_one, part_at, part_or_self};
-use plan_base::{Chunk, Expr, Exprs, Fun, Name, NoMemory, Op, Program, Value, Values};
+use eval_steps::{Codes, Next, StackFrame, part_or_self, same_name};
+use plan_base::{Chunk, Expr, Fun, Name, Op, Program, Value, Values};
 use plan_items::{Items, Shared};
 use plan_meaning::EvalStop;
 use plan_sizes::code_size;
 use service_api::Services;
 use std::alloc::Global;
-use typing_rules::place_of;
 use visit_state::{State, as_bool};
 
 /// Evaluates an expression, down to a depth.
@@ -159,191 +157,6 @@ fn sequence<S: Services>(
     }
 }
 
-/// Evaluates a send to a neighbour: first its chunk.
-#[cycle(evaluate)]
-fn near<S: Services>(
-    alloc: Global,
-    codes: &mut Codes,
-    here: &Here<'_>,
-    e: &Expr,
-    a: &Expr,
-    h: &Expr,
-    b: &Expr,
-    d: &Expr,
-    depth: u64,
-    state: &mut State,
-    svc: &mut S,
-) -> Result<Flow, EvalStop>
-    requires form { out-Expr e.now ≡ Expr-F.OnNeighbor a.now h.now b.now d.now }
-    requires open { IsSome (S.stands svc.old).begun }
-    requires here { IsHere codes.old here.now }
-    requires safe { IsSafe (begins here.now.code.now here.now.fun (spot here.now e.now)
-        (joined_state state.old (S.stands svc.old))).asks }
-    ensures flows { Flows codes.new here.now.code.now here.now.fun (spot here.now e.now)
-        (begins here.now.code.now here.now.fun (spot here.now e.now)
-        (joined_state state.old (S.stands svc.old)))
-        result (joined_state state.new (S.stands svc.new)) }
-    ensures lasts { Lasts 3 state.old.work result state.new.work }
-    ensures grown { Grows codes.old codes.new }
-    ensures offer { (S.stands svc.new).offer ≡ (S.stands svc.old).offer }
-    ensures begun { (S.stands svc.new).begun ≡ (S.stands svc.old).begun }
-{
-    match evaluate(alloc, codes, here, a, depth, state, svc) {
-        Ok(Flow::Done(c)) => near_host(alloc, codes, here, e, c, h, b, d, depth, state, svc),
-        Ok(Flow::Wait(rest)) => Ok(inside(alloc, rest, StackFrame::Part(0, Items::new(alloc)))?),
-        Err(stop) => Err(stop),
-    }
-}
-
-/// Evaluates its host.
-#[cycle(evaluate)]
-fn near_host<S: Services>(
-    alloc: Global,
-    codes: &mut Codes,
-    here: &Here<'_>,
-    e: &Expr,
-    c: Value,
-    h: &Expr,
-    b: &Expr,
-    d: &Expr,
-    depth: u64,
-    state: &mut State,
-    svc: &mut S,
-) -> Result<Flow, EvalStop>
-    requires form { (a : Expr) × (out-Expr e.now ≡ Expr-F.OnNeighbor a h.now b.now d.now) }
-    requires open { IsSome (S.stands svc.old).begun }
-    requires here { IsHere codes.old here.now }
-    requires safe { IsSafe (resume here.now.code.now here.now.fun (spot here.now e.now)
-        (frame.Part 1 (c ∷ []))
-        (meaning here.now.code.now here.now.fun (spot here.now e.now).env h.now
-        (joined_state state.old (S.stands svc.old)))).asks }
-    ensures flows { Flows codes.new here.now.code.now here.now.fun (spot here.now e.now)
-        (resume here.now.code.now here.now.fun (spot here.now e.now)
-        (frame.Part 1 (c ∷ []))
-        (meaning here.now.code.now here.now.fun (spot here.now e.now).env h.now
-        (joined_state state.old (S.stands svc.old))))
-        result (joined_state state.new (S.stands svc.new)) }
-    ensures lasts { Lasts 3 state.old.work result state.new.work }
-    ensures grown { Grows codes.old codes.new }
-    ensures offer { (S.stands svc.new).offer ≡ (S.stands svc.old).offer }
-    ensures begun { (S.stands svc.new).begun ≡ (S.stands svc.old).begun }
-{
-    match evaluate(alloc, codes, here, h, depth, state, svc) {
-        Ok(Flow::Done(w)) => near_bound(alloc, codes, here, e, c, w, b, d, depth, state, svc),
-        Ok(Flow::Wait(rest)) => Ok(inside(alloc, rest, behind_one(alloc, 1, c)?)?),
-        Err(stop) => Err(stop),
-    }
-}
-
-/// Evaluates its bound.
-#[cycle(evaluate)]
-fn near_bound<S: Services>(
-    alloc: Global,
-    codes: &mut Codes,
-    here: &Here<'_>,
-    e: &Expr,
-    c: Value,
-    w: Value,
-    b: &Expr,
-    d: &Expr,
-    depth: u64,
-    state: &mut State,
-    svc: &mut S,
-) -> Result<Flow, EvalStop>
-    requires form { (a h : Expr) × (out-Expr e.now ≡ Expr-F.OnNeighbor a h b.now d.now) }
-    requires open { IsSome (S.stands svc.old).begun }
-    requires here { IsHere codes.old here.now }
-    requires safe { IsSafe (resume here.now.code.now here.now.fun (spot here.now e.now)
-        (frame.Part 2 (c ∷ w ∷ []))
-        (meaning here.now.code.now here.now.fun (spot here.now e.now).env b.now
-        (joined_state state.old (S.stands svc.old)))).asks }
-    ensures flows { Flows codes.new here.now.code.now here.now.fun (spot here.now e.now)
-        (resume here.now.code.now here.now.fun (spot here.now e.now)
-        (frame.Part 2 (c ∷ w ∷ []))
-        (meaning here.now.code.now here.now.fun (spot here.now e.now).env b.now
-        (joined_state state.old (S.stands svc.old))))
-        result (joined_state state.new (S.stands svc.new)) }
-    ensures lasts { Lasts 3 state.old.work result state.new.work }
-    ensures grown { Grows codes.old codes.new }
-    ensures offer { (S.stands svc.new).offer ≡ (S.stands svc.old).offer }
-    ensures begun { (S.stands svc.new).begun ≡ (S.stands svc.old).begun }
-{
-    match evaluate(alloc, codes, here, b, depth, state, svc) {
-        Ok(Flow::Done(u)) => near_dev(alloc, codes, here, e, c, w, u, d, depth, state, svc),
-        Ok(Flow::Wait(rest)) => Ok(inside(alloc, rest, behind_two(alloc, c, w)?)?),
-        Err(stop) => Err(stop),
-    }
-}
-
-/// Evaluates its device, and sends.
-#[cycle(evaluate)]
-fn near_dev<S: Services>(
-    alloc: Global,
-    codes: &mut Codes,
-    here: &Here<'_>,
-    e: &Expr,
-    c: Value,
-    w: Value,
-    u: Value,
-    d: &Expr,
-    depth: u64,
-    state: &mut State,
-    svc: &mut S,
-) -> Result<Flow, EvalStop>
-    requires form { (a h b : Expr) × (out-Expr e.now ≡ Expr-F.OnNeighbor a h b d.now) }
-    requires open { IsSome (S.stands svc.old).begun }
-    requires here { IsHere codes.old here.now }
-    requires safe { IsSafe (resume here.now.code.now here.now.fun (spot here.now e.now)
-        (frame.Part 3 (c ∷ w ∷ u ∷ []))
-        (meaning here.now.code.now here.now.fun (spot here.now e.now).env d.now
-        (joined_state state.old (S.stands svc.old)))).asks }
-    ensures flows { Flows codes.new here.now.code.now here.now.fun (spot here.now e.now)
-        (resume here.now.code.now here.now.fun (spot here.now e.now)
-        (frame.Part 3 (c ∷ w ∷ u ∷ []))
-        (meaning here.now.code.now here.now.fun (spot here.now e.now).env d.now
-        (joined_state state.old (S.stands svc.old))))
-        result (joined_state state.new (S.stands svc.new)) }
-    ensures lasts { Lasts 3 state.old.work result state.new.work }
-    ensures grown { Grows codes.old codes.new }
-    ensures offer { (S.stands svc.new).offer ≡ (S.stands svc.old).offer }
-    ensures begun { (S.stands svc.new).begun ≡ (S.stands svc.old).begun }
-{
-    match evaluate(alloc, codes, here, d, depth, state, svc) {
-        Ok(Flow::Done(v)) => send_values(alloc, c, &w, &u, &v, state),
-        Ok(Flow::Wait(rest)) => Ok(inside(alloc, rest, behind_three(alloc, c, w, u)?)?),
-        Err(stop) => Err(stop),
-    }
-}
-
-/// Evaluates an expression of any form, once it spent 1.
-#[cycle(evaluate)]
-#[inline(never)]
-fn general<S: Services>(
-    alloc: Global,
-    codes: &mut Codes,
-    here: &Here<'_>,
-    e: &Expr,
-    depth: u64,
-    state: &mut State,
-    svc: &mut S,
-) -> Result<Flow, EvalStop>
-    requires open { IsSome (S.stands svc.old).begun }
-    requires here { IsHere codes.old here.now }
-    requires safe { IsSafe (begins here.now.code.now here.now.fun (spot here.now e.now) (joined_state state.old (S.stands svc.old))).asks }
-    ensures flows { Flows codes.new here.now.code.now here.now.fun (spot here.now e.now)
-        (begins here.now.code.now here.now.fun (spot here.now e.now) (joined_state state.old (S.stands svc.old)))
-        result (joined_state state.new (S.stands svc.new)) }
-    ensures lasts { Lasts 3 state.old.work result state.new.work }
-    ensures grown { Grows codes.old codes.new }
-    ensures offer { (S.stands svc.new).offer ≡ (S.stands svc.old).offer }
-    ensures begun { (S.stands svc.new).begun ≡ (S.stands svc.old).begun }
-{
-    match begin(alloc, here, e, state, svc) {
-        Ok(next) => proceed(alloc, codes, here, e, next, depth, state, svc),
-        Err(stop) => Err(stop),
-    }
-}
-
 /// Evaluates a test and a branch.
 #[cycle(evaluate)]
 fn choice<S: Services>(
@@ -451,284 +264,6 @@ fn operation<S: Services>(
     }
 }
 
-/// Evaluates the parts of a tuple, a call or a chunk in their order.
-#[cycle(evaluate)]
-#[inline]
-fn all_parts<S: Services>(
-    alloc: Global,
-    codes: &mut Codes,
-    here: &Here<'_>,
-    e: &Expr,
-    es: &[Expr],
-    depth: u64,
-    state: &mut State,
-    svc: &mut S,
-) -> Result<Row, EvalStop>
-    requires form { IsRow (out-Expr e.now) }
-    requires parts { parts_of (out-Expr e.now) ≡ es.now }
-    requires open { IsSome (S.stands svc.old).begun }
-    requires here { IsHere codes.old here.now }
-    requires safe { IsSafe (begins here.now.code.now here.now.fun (spot here.now e.now) (joined_state state.old (S.stands svc.old))).asks }
-    ensures rows { Rows codes.new here.now.code.now here.now.fun (spot here.now e.now)
-        (begins here.now.code.now here.now.fun (spot here.now e.now) (joined_state state.old (S.stands svc.old)))
-        result (joined_state state.new (S.stands svc.new)) }
-    ensures lasts { RowLasts state.old.work result state.new.work }
-    ensures grown { Grows codes.old codes.new }
-    ensures offer { (S.stands svc.new).offer ≡ (S.stands svc.old).offer }
-    ensures begun { (S.stands svc.new).begun ≡ (S.stands svc.old).begun }
-{
-    let mut held = Items::new(alloc);
-    while let Some(x) = part_at(es, held.len()) {
-        match evaluate(alloc, codes, here, x, depth, state, svc) {
-            Ok(Flow::Done(v)) => held.add(v)?,
-            Ok(Flow::Wait(rest)) => return Ok(stopped_in(
-                alloc,
-                rest,
-                StackFrame::Part(held.len(), held),
-            )?),
-            Err(stop) => return Err(stop),
-        }
-    }
-    Ok(Row::All(held))
-}
-
-/// Evaluates a tuple, a call or a chunk.
-#[cycle(evaluate)]
-fn row<S: Services>(
-    alloc: Global,
-    codes: &mut Codes,
-    here: &Here<'_>,
-    e: &Expr,
-    es: &Exprs,
-    depth: u64,
-    state: &mut State,
-    svc: &mut S,
-) -> Result<Flow, EvalStop>
-    requires form { IsRow (out-Expr e.now) }
-    requires parts { parts_of (out-Expr e.now) ≡ es.now }
-    requires open { IsSome (S.stands svc.old).begun }
-    requires here { IsHere codes.old here.now }
-    requires safe { IsSafe (begins here.now.code.now here.now.fun (spot here.now e.now) (joined_state state.old (S.stands svc.old))).asks }
-    ensures flows { Flows codes.new here.now.code.now here.now.fun (spot here.now e.now)
-        (begins here.now.code.now here.now.fun (spot here.now e.now) (joined_state state.old (S.stands svc.old)))
-        result (joined_state state.new (S.stands svc.new)) }
-    ensures lasts { Lasts 3 state.old.work result state.new.work }
-    ensures grown { Grows codes.old codes.new }
-    ensures offer { (S.stands svc.new).offer ≡ (S.stands svc.old).offer }
-    ensures begun { (S.stands svc.new).begun ≡ (S.stands svc.old).begun }
-{
-    match all_parts(alloc, codes, here, e, es.as_slice(), depth, state, svc) {
-        Ok(Row::All(values)) => finish_row(alloc, codes, here, e, values, depth, state, svc),
-        Ok(Row::Wait(rest)) => Ok(Flow::Wait(rest)),
-        Err(stop) => Err(stop),
-    }
-}
-
-/// What a tuple, a call or a chunk makes of the values of its parts.
-#[cycle(evaluate)]
-#[tactic(auto, using(plan_base::specs::Trees::trees))]
-fn finish_row<S: Services>(
-    alloc: Global,
-    codes: &mut Codes,
-    here: &Here<'_>,
-    e: &Expr,
-    values: Values,
-    depth: u64,
-    state: &mut State,
-    svc: &mut S,
-) -> Result<Flow, EvalStop>
-    requires open { IsSome (S.stands svc.old).begun }
-    requires here { IsHere codes.old here.now }
-    requires safe { IsSafe (row_gave here.now.code.now here.now.fun (spot here.now e.now) values (joined_state state.old (S.stands svc.old))).asks }
-    ensures flows { Flows codes.new here.now.code.now here.now.fun (spot here.now e.now)
-        (row_gave here.now.code.now here.now.fun (spot here.now e.now) values (joined_state state.old (S.stands svc.old)))
-        result (joined_state state.new (S.stands svc.new)) }
-    ensures lasts { Lasts 3 state.old.work result state.new.work }
-    ensures grown { Grows codes.old codes.new }
-    ensures offer { (S.stands svc.new).offer ≡ (S.stands svc.old).offer }
-    ensures begun { (S.stands svc.new).begun ≡ (S.stands svc.old).begun }
-{
-    match e {
-        Expr::Call(f, _) => invoke(alloc, codes, here, e, f, values, depth, state, svc),
-        Expr::ChunkOf(f, _) => pack_chunk(alloc, here, f, values, state),
-        Expr::Tuple(_) => ended_by_value(alloc, Value::Tuple(values), state),
-        _ => Err(EvalStop::Wrong),
-    }
-}
-
-/// Calls a function, a service or a primitive.
-#[cycle(evaluate)]
-fn invoke<S: Services>(
-    alloc: Global,
-    codes: &mut Codes,
-    here: &Here<'_>,
-    e: &Expr,
-    f: &Name,
-    args: Values,
-    depth: u64,
-    state: &mut State,
-    svc: &mut S,
-) -> Result<Flow, EvalStop>
-    requires open { IsSome (S.stands svc.old).begun }
-    requires here { IsHere codes.old here.now }
-    requires safe { IsSafe (call_of here.now.code.now here.now.fun f.now args (joined_state state.old (S.stands svc.old))).asks }
-    ensures flows { Flows codes.new here.now.code.now here.now.fun (spot here.now e.now)
-        (call_of here.now.code.now here.now.fun f.now args
-        (joined_state state.old (S.stands svc.old)))
-        result (joined_state state.new (S.stands svc.new)) }
-    ensures lasts { Lasts 3 state.old.work result state.new.work }
-    ensures grown { Grows codes.old codes.new }
-    ensures offer { (S.stands svc.new).offer ≡ (S.stands svc.old).offer }
-    ensures begun { (S.stands svc.new).begun ≡ (S.stands svc.old).begun }
-{
-    let (code, number, size) = (here.code, here.number, here.size);
-    match begin_call(alloc, code, here.fun, f, args, state, svc) {
-        Ok(Next::Give(v)) => ended_by_value(alloc, v, state),
-        Ok(Next::Call(fun, passed)) => {
-            let flow = enter(
-                alloc, codes, code, number, size, fun, passed, depth, state, svc,
-            );
-            body_back(alloc, flow, state)
-        }
-        Ok(next) => proceed(alloc, codes, here, e, next, depth, state, svc),
-        Err(stop) => Err(stop),
-    }
-}
-
-/// Evaluates a chunk.
-#[cycle(evaluate)]
-fn eval<S: Services>(
-    alloc: Global,
-    codes: &mut Codes,
-    here: &Here<'_>,
-    e: &Expr,
-    a: &Expr,
-    depth: u64,
-    state: &mut State,
-    svc: &mut S,
-) -> Result<Flow, EvalStop>
-    requires form { out-Expr e.now ≡ Expr-F.Eval a.now }
-    requires open { IsSome (S.stands svc.old).begun }
-    requires here { IsHere codes.old here.now }
-    requires safe { IsSafe (begins here.now.code.now here.now.fun (spot here.now e.now) (joined_state state.old (S.stands svc.old))).asks }
-    ensures flows { Flows codes.new here.now.code.now here.now.fun (spot here.now e.now)
-        (begins here.now.code.now here.now.fun (spot here.now e.now) (joined_state state.old (S.stands svc.old)))
-        result (joined_state state.new (S.stands svc.new)) }
-    ensures lasts { Lasts 3 state.old.work result state.new.work }
-    ensures grown { Grows codes.old codes.new }
-    ensures offer { (S.stands svc.new).offer ≡ (S.stands svc.old).offer }
-    ensures begun { (S.stands svc.new).begun ≡ (S.stands svc.old).begun }
-{
-    match a {
-        Expr::ChunkOf(f, es) if depth > 0 => {
-            eval_packing(alloc, codes, here, e, a, f, es, depth - 1, state, svc)
-        }
-        _ => general(alloc, codes, here, e, depth, state, svc),
-    }
-}
-
-/// Evaluates a chunk of this program, which is not made: first its arguments.
-#[cycle(evaluate)]
-fn eval_packing<S: Services>(
-    alloc: Global,
-    codes: &mut Codes,
-    here: &Here<'_>,
-    e: &Expr,
-    a: &Expr,
-    f: &Name,
-    es: &Exprs,
-    depth: u64,
-    state: &mut State,
-    svc: &mut S,
-) -> Result<Flow, EvalStop>
-    requires form { out-Expr e.now ≡ Expr-F.Eval a.now }
-    requires packs { out-Expr a.now ≡ Expr-F.ChunkOf f.now es.now }
-    requires open { IsSome (S.stands svc.old).begun }
-    requires here { IsHere codes.old here.now }
-    requires safe { IsSafe (begins here.now.code.now here.now.fun (spot here.now e.now) (joined_state state.old (S.stands svc.old))).asks }
-    ensures flows { Flows codes.new here.now.code.now here.now.fun (spot here.now e.now)
-        (begins here.now.code.now here.now.fun (spot here.now e.now) (joined_state state.old (S.stands svc.old)))
-        result (joined_state state.new (S.stands svc.new)) }
-    ensures lasts { Lasts 3 state.old.work result state.new.work }
-    ensures grown { Grows codes.old codes.new }
-    ensures offer { (S.stands svc.new).offer ≡ (S.stands svc.old).offer }
-    ensures begun { (S.stands svc.new).begun ≡ (S.stands svc.old).begun }
-{
-    if !state.pays(1) {
-        return Err(EvalStop::WorkSpent);
-    }
-    match all_parts(alloc, codes, here, a, es.as_slice(), depth, state, svc) {
-        Ok(Row::All(args)) => eval_packed(alloc, codes, here, e, f, args, depth, state, svc),
-        Ok(Row::Wait(rest)) => Ok(inside(alloc, rest, StackFrame::Part(0, Items::new(alloc)))?),
-        Err(stop) => Err(stop),
-    }
-}
-
-/// Weighs it, pays and evaluates it.
-#[cycle(evaluate)]
-fn eval_packed<S: Services>(
-    alloc: Global,
-    codes: &mut Codes,
-    here: &Here<'_>,
-    e: &Expr,
-    f: &Name,
-    args: Values,
-    depth: u64,
-    state: &mut State,
-    svc: &mut S,
-) -> Result<Flow, EvalStop>
-    requires form { (a : Expr) × (out-Expr e.now ≡ Expr-F.Eval a) }
-    requires open { IsSome (S.stands svc.old).begun }
-    requires here { IsHere codes.old here.now }
-    requires safe { IsSafe (resume here.now.code.now here.now.fun (spot here.now e.now) (frame.Part 0 []) (weighed_value (value.Chunk (record { code = here.now.code.now; entry = f.now; args = args })) (joined_state state.old (S.stands svc.old)))).asks }
-    ensures flows { Flows codes.new here.now.code.now here.now.fun (spot here.now e.now)
-        (resume here.now.code.now here.now.fun (spot here.now e.now) (frame.Part 0 []) (weighed_value (value.Chunk (record { code = here.now.code.now; entry = f.now; args = args })) (joined_state state.old (S.stands svc.old))))
-        result (joined_state state.new (S.stands svc.new)) }
-    ensures lasts { Lasts 3 state.old.work result state.new.work }
-    ensures grown { Grows codes.old codes.new }
-    ensures offer { (S.stands svc.new).offer ≡ (S.stands svc.old).offer }
-    ensures begun { (S.stands svc.new).begun ≡ (S.stands svc.old).begun }
-{
-    match pay_packed(alloc, here, f, args.as_slice(), state) {
-        Ok(()) => visit_here(alloc, codes, here, e, f, args, depth, state, svc),
-        Err(stop) => Err(stop),
-    }
-}
-
-/// Enters a chunk of this program, which was paid.
-#[cycle(evaluate)]
-fn visit_here<S: Services>(
-    alloc: Global,
-    codes: &mut Codes,
-    here: &Here<'_>,
-    e: &Expr,
-    f: &Name,
-    args: Values,
-    depth: u64,
-    state: &mut State,
-    svc: &mut S,
-) -> Result<Flow, EvalStop>
-    requires open { IsSome (S.stands svc.old).begun }
-    requires here { IsHere codes.old here.now }
-    requires safe { IsSafe (next_step here.now.code.now here.now.fun (spot here.now e.now) (next.Visit (record { code = here.now.code.now; entry = f.now; args = args })) (joined_state state.old (S.stands svc.old))).asks }
-    ensures flows { Flows codes.new here.now.code.now here.now.fun (spot here.now e.now)
-        (next_step here.now.code.now here.now.fun (spot here.now e.now) (next.Visit (record { code = here.now.code.now; entry = f.now; args = args })) (joined_state state.old (S.stands svc.old)))
-        result (joined_state state.new (S.stands svc.new)) }
-    ensures lasts { Lasts 3 state.old.work result state.new.work }
-    ensures grown { Grows codes.old codes.new }
-    ensures offer { (S.stands svc.new).offer ≡ (S.stands svc.old).offer }
-    ensures begun { (S.stands svc.new).begun ≡ (S.stands svc.old).begun }
-{
-    let Some(fun) = place_of(f, here.code.get().funs.as_slice()) else {
-        return Err(EvalStop::Wrong);
-    };
-    let (code, number, size) = (here.code, here.number, here.size);
-    let flow = enter(
-        alloc, codes, code, number, size, fun, args, depth, state, svc,
-    );
-    chunk_back(alloc, flow, state)
-}
-
 /// Evaluates a value, and what sees it under a name.
 #[cycle(evaluate)]
 fn binding<S: Services>(
@@ -796,6 +331,35 @@ fn under_name<S: Services>(
         ..*here
     };
     evaluate(alloc, codes, &inner, b, depth, state, svc)
+}
+
+/// Evaluates an expression of any form, once it spent 1.
+#[cycle(evaluate)]
+#[inline(never)]
+pub(crate) fn general<S: Services>(
+    alloc: Global,
+    codes: &mut Codes,
+    here: &Here<'_>,
+    e: &Expr,
+    depth: u64,
+    state: &mut State,
+    svc: &mut S,
+) -> Result<Flow, EvalStop>
+    requires open { IsSome (S.stands svc.old).begun }
+    requires here { IsHere codes.old here.now }
+    requires safe { IsSafe (begins here.now.code.now here.now.fun (spot here.now e.now) (joined_state state.old (S.stands svc.old))).asks }
+    ensures flows { Flows codes.new here.now.code.now here.now.fun (spot here.now e.now)
+        (begins here.now.code.now here.now.fun (spot here.now e.now) (joined_state state.old (S.stands svc.old)))
+        result (joined_state state.new (S.stands svc.new)) }
+    ensures lasts { Lasts 3 state.old.work result state.new.work }
+    ensures grown { Grows codes.old codes.new }
+    ensures offer { (S.stands svc.new).offer ≡ (S.stands svc.old).offer }
+    ensures begun { (S.stands svc.new).begun ≡ (S.stands svc.old).begun }
+{
+    match begin(alloc, here, e, state, svc) {
+        Ok(next) => proceed(alloc, codes, here, e, next, depth, state, svc),
+        Err(stop) => Err(stop),
+    }
 }
 
 /// Goes on with an open expression.
@@ -913,7 +477,7 @@ fn evaluate_part<S: Services>(
 
 /// Evaluates the body of a function.
 #[cycle(evaluate)]
-fn enter<S: Services>(
+pub(crate) fn enter<S: Services>(
     alloc: Global,
     codes: &mut Codes,
     code: &Shared<Program>,
@@ -974,8 +538,6 @@ fn body_flow<S: Services>(
     ensures offer { (S.stands svc.new).offer ≡ (S.stands svc.old).offer }
     ensures begun { (S.stands svc.new).begun ≡ (S.stands svc.old).begun }
 {
-    let none = Items::new(alloc);
-    let bare = Items::new(alloc);
     let here = Here {
         code,
         number,
@@ -983,10 +545,17 @@ fn body_flow<S: Services>(
         fun,
         function,
         args: args.as_slice(),
-        frames: none.as_slice(),
-        bindings: bare.as_slice(),
+        frames: &[],
+        bindings: &[],
     };
     evaluate(alloc, codes, &here, &function.body, depth, state, svc)
+}
+
+/// The place of the first function of that name.
+pub(crate) fn function_named(name: &Name, funs: &[Fun]) -> Option<usize>
+    ensures { result ≡ place_of name.now funs.now }
+{
+    funs.iter().position(|f| same_name(&f.name, name))
 }
 
 /// Evaluates a chunk.
@@ -1010,7 +579,7 @@ fn visit<S: Services>(
     ensures begun { (S.stands svc.new).begun ≡ (S.stands svc.old).begun }
 {
     let Chunk { code, entry, args } = chunk;
-    let Some(fun) = place_of(&entry, code.get().funs.as_slice()) else {
+    let Some(fun) = function_named(&entry, code.get().funs.as_slice()) else {
         return Err(EvalStop::Wrong);
     };
     let number = open_code(codes, &code)?;

@@ -2,5 +2,7 @@
 #![tactic(auto)]
 
 mod direct;
+mod rows;
+mod sends;
 
 pub use direct::{evaluate, proceed};

@@ -1,5 +1,5 @@
 //! The turns of a visit.
-ghost use Rattle.std.specs.Prelude.{◌≡◌, ◌+◌, ◌<◌, ◌≤◌, ◌∷◌, ◌++◌, [], ℕ, List, IfOk, IsSome, Some, slice_get};
+ghost use Rattle.std.specs.Prelude.{◌≡◌, ◌≢◌, ◌+◌, ◌<◌, ◌≤◌, ◌∷◌, ◌++◌, [], ℕ, List, IfOk, IsSome, Some, slice_get};
 ghost use Rattle.plan_meaning.specs.State.{joined_state};
 ghost use Rattle.plan_meaning.specs.Safe.{IsSafe};
 ghost use Rattle.visit_state.specs.Meets.{Meets};
@@ -7,13 +7,14 @@ ghost use Rattle.eval_steps.specs.declared.stack_frame.Mode.TheVariants as mode;
 ghost use Rattle.plan_base.specs.declared.tree.Program.{Program as Code};
 ghost use Rattle.plan_base.specs.declared.tree.Value.{Value as AValue};
 ghost use Rattle.plan_meaning.specs.State.{VisitState};
-ghost use Rattle.plan_meaning.specs.Run.{RunStep};
+ghost use Rattle.plan_meaning.specs.declared.stop.EvalStop.TheVariants.{Raised, NoMemory};
+ghost use Rattle.plan_meaning.specs.Run.{RunStep, stopped};
 ghost use Rattle.eval_flow.specs.Direct.{Flows, Grows, IsProgramSize, Lasts, Spends};
 ghost use Rattle.plan_eval.specs.Tasks.{Performs, task_step};
 ghost use Rattle.eval_steps.specs.Stack.{Spot, spot_in, ended_frame, all_ended, AreLinked, stands_for};
 ghost use Rattle.eval_flow.specs.Turns.{Stands, Turned, load};
 
-use crate::task::{Task, perform};
+use crate::task::{Task, passes_on, perform};
 use eval_flow::{Flow, Here, ProgramSize, size_of, stack_rest};
 use eval_steps::{Activation, Activations, Codes, Mode, expr_from};
 use plan_base::{Exn, Value};
@@ -56,6 +57,23 @@ fn land_flow(
         Err(EvalStop::Wrong) => Err(EvalStop::Wrong),
         Err(EvalStop::NoMemory) => Err(EvalStop::NoMemory),
     }
+}
+
+/// Raises an exception that a frame of an activation passed on: it ends the activation where no
+/// frame is left.
+fn leave(outer: &mut Activations, top: Activation, x: Exn) -> Result<Mode, EvalStop>
+    ensures turned { (codes : List Code) (code : Code) (at : Spot) (want : RunStep AValue)
+        (s : VisitState) → Stands codes outer.old top code at
+        → (Raised x ≢ NoMemory → want.after ≡ stopped (Raised x) s)
+        → Turned (all_ended codes outer.old (ended_frame codes top want)) result codes outer.new s }
+    ensures bounded { (work : ℕ) → IfOk result (λ how. load how outer.new work
+        ≤ load mode.Run (outer.old ++ top ∷ []) work + 3) }
+{
+    if top.frames.is_empty() {
+        return Ok(Mode::Raise(x));
+    }
+    outer.add(top)?;
+    Ok(Mode::Raise(x))
 }
 
 /// How far the innermost expression of an activation comes with a task on the native stack.
@@ -187,6 +205,9 @@ fn raise<S: Services>(
     let Some(frame) = below.frames.pop() else {
         return Ok(Mode::Raise(x));
     };
+    if passes_on(&frame) {
+        return leave(outer, below, x);
+    }
     let task = Task::Raise(frame, x);
     let flow = run_top(alloc, codes, last, &below, task, state, svc);
     land_flow(outer, below, flow)

@@ -6,7 +6,7 @@ ghost use Rattle.plan_meaning.specs.Safe.{IsSafe};
 ghost use Rattle.plan_meaning.specs.declared.stop.EvalStop.TheVariants.{Raised};
 ghost use Rattle.eval_steps.specs.Stack.{resume};
 ghost use Rattle.eval_flow.specs.Direct.{spot, IsHere, Flows, Grows, Lasts};
-ghost use Rattle.plan_eval.specs.Tasks.{Performs, task_step};
+ghost use Rattle.plan_eval.specs.Tasks.{Performs, passes_on, task_step};
 
 use eval_direct::{evaluate, proceed};
 use eval_flow::{Flow, Here};
@@ -29,6 +29,16 @@ pub enum Task {
     Give(StackFrame, Value),
     /// An exception reaches it in place of that value.
     Raise(StackFrame, Exn),
+}
+
+/// Whether a frame passes every exception on: it waits for no part that a `try` may have.
+pub fn passes_on(frame: &StackFrame) -> bool
+    ensures { result ≡ passes_on frame.now }
+{
+    match frame {
+        StackFrame::Part(_, _) => false,
+        _ => true,
+    }
 }
 
 /// Goes on with a value.

@@ -31,95 +31,80 @@ use Rattle.eval_steps.proofs.Delivering.{visited_on}
 use Rattle.eval_flow.proofs.Waiting.{nothing_begun_waits, waits_inside}
 use Rattle.eval_flow.proofs.Backs.{flows_from, enters_from}
 use Rattle.eval_flow.proofs.Diving.{grown_get, here_grown, grows_on, grows_none, deeper_here, opened_paused, opened_safe, part_safe, body_leads, body_binds, bodies_from}
-use Rattle.eval_direct.proofs.direct.+evaluate.Goals as goal
+use Rattle.eval_direct.proofs.Begun.{begun_flows, begun_safe}
+use Rattle.eval_direct.proofs.+evaluate.Goals as goal
 
 -- ---- an expression
 
-pub evaluate-returns-then-depth-eq0-clause-flows : goal.evaluate-returns-then-depth-eq0-clause-flows
-evaluate-returns-then-depth-eq0-clause-flows g t c =
+pub direct::evaluate-returns-then-depth-eq0-clause-flows : goal.direct::evaluate-returns-then-depth-eq0-clause-flows
+direct::evaluate-returns-then-depth-eq0-clause-flows g t c =
     rw c.pause.ensures (nothing_begun_waits c.args.codes.now c.args.here.now.code.now c.args.here.now.fun (spot c.args.here.now c.args.e.now) (joined_state c.args.state.now (g.S.Services.stands c.args.svc.now)))
 
-pub evaluate-returns-then-not-pays-clause-flows : goal.evaluate-returns-then-not-pays-clause-flows
-evaluate-returns-then-not-pays-clause-flows g t c = λ other.
+pub direct::evaluate-returns-then-not-pays-clause-flows : goal.direct::evaluate-returns-then-not-pays-clause-flows
+direct::evaluate-returns-then-not-pays-clause-flows g t c = λ other.
     begun_spent c.args.here.now.code.now c.args.here.now.fun (spot c.args.here.now c.args.e.now).env c.args.e.now WorkSpent (joined_state c.args.state.now (g.S.Services.stands c.args.svc.now)) _
     (c.if-not-pays.ensures.unpaid refl (g.S.Services.stands c.args.svc.now))
 
-pub evaluate-returns-in-Int-clause-flows : goal.evaluate-returns-in-Int-clause-flows
-evaluate-returns-in-Int-clause-flows g t c =
-    let leads = begun_here c.args.here.now.code.now c.args.here.now.fun (spot c.args.here.now c.args.e.now).env c.args.e.now (joined_state c.args.state.now (g.S.Services.stands c.args.svc.now)) (joined_state c.pays.new.self (g.S.Services.stands c.args.svc.now))
-    (c.if-not-pays.ensures.paid refl (g.S.Services.stands c.args.svc.now)) in
-    flows_from c.args.codes.now c.args.here.now.code.now c.args.here.now.fun (spot c.args.here.now c.args.e.now) _ _ c.number.result (joined_state c.number.new.state (g.S.Services.stands c.args.svc.now)) leads (c.number.ensures.flows c.args.codes.now (g.S.Services.stands c.args.svc.now))
+pub direct::evaluate-returns-in-Int-clause-flows : goal.direct::evaluate-returns-in-Int-clause-flows
+direct::evaluate-returns-in-Int-clause-flows g t c =
+    begun_flows c.args.codes.now c.args.here.now.code.now c.args.here.now.fun (spot c.args.here.now c.args.e.now).env c.args.e.now (joined_state c.args.state.now (g.S.Services.stands c.args.svc.now)) (joined_state c.pays.new.self (g.S.Services.stands c.args.svc.now)) (joined_state c.number.new.state (g.S.Services.stands c.args.svc.now)) c.number.result (c.if-not-pays.ensures.paid refl (g.S.Services.stands c.args.svc.now)) (c.number.ensures.flows c.args.codes.now (g.S.Services.stands c.args.svc.now))
 
-pub evaluate-returns-in-Var-clause-flows : goal.evaluate-returns-in-Var-clause-flows
-evaluate-returns-in-Var-clause-flows g t c =
-    let leads = begun_here c.args.here.now.code.now c.args.here.now.fun (spot c.args.here.now c.args.e.now).env c.args.e.now (joined_state c.args.state.now (g.S.Services.stands c.args.svc.now)) (joined_state c.pays.new.self (g.S.Services.stands c.args.svc.now))
-    (c.if-not-pays.ensures.paid refl (g.S.Services.stands c.args.svc.now)) in
-    flows_from c.args.codes.now c.args.here.now.code.now c.args.here.now.fun (spot c.args.here.now c.args.e.now) _ _ c.variable.result (joined_state c.variable.new.state (g.S.Services.stands c.args.svc.now)) leads (c.variable.ensures.flows c.args.codes.now (g.S.Services.stands c.args.svc.now))
+pub direct::evaluate-returns-in-Var-clause-flows : goal.direct::evaluate-returns-in-Var-clause-flows
+direct::evaluate-returns-in-Var-clause-flows g t c =
+    begun_flows c.args.codes.now c.args.here.now.code.now c.args.here.now.fun (spot c.args.here.now c.args.e.now).env c.args.e.now (joined_state c.args.state.now (g.S.Services.stands c.args.svc.now)) (joined_state c.pays.new.self (g.S.Services.stands c.args.svc.now)) (joined_state c.variable.new.state (g.S.Services.stands c.args.svc.now)) c.variable.result (c.if-not-pays.ensures.paid refl (g.S.Services.stands c.args.svc.now)) (c.variable.ensures.flows c.args.codes.now (g.S.Services.stands c.args.svc.now))
 
-pub evaluate-choice-requires : goal.evaluate-choice-requires
-evaluate-choice-requires g t c =
+pub direct::evaluate-choice-requires : goal.direct::evaluate-choice-requires
+direct::evaluate-choice-requires g t c =
     let form : out-Expr c.args.e.now ≡ Expr-F.If c.get-t.result.now c.get-a.result.now c.get-b.result.now =
     rw (c.in-If.is, c.get-t.ensures, c.get-a.ensures, c.get-b.ensures) (if_form c.in-If.t c.in-If.a c.in-If.b) in
-    let leads = begun_here c.args.here.now.code.now c.args.here.now.fun (spot c.args.here.now c.args.e.now).env c.args.e.now (joined_state c.args.state.now (g.S.Services.stands c.args.svc.now)) (joined_state c.pays.new.self (g.S.Services.stands c.args.svc.now))
-    (c.if-not-pays.ensures.paid refl (g.S.Services.stands c.args.svc.now)) in
-    let safe : IsSafe (begins c.args.here.now.code.now c.args.here.now.fun (spot c.args.here.now c.args.e.now) (joined_state c.pays.new.self (g.S.Services.stands c.args.svc.now))).asks = leads.safe c.requires.safe in
+    let safe : IsSafe (begins c.args.here.now.code.now c.args.here.now.fun (spot c.args.here.now c.args.e.now) (joined_state c.pays.new.self (g.S.Services.stands c.args.svc.now))).asks = begun_safe c.args.here.now.code.now c.args.here.now.fun (spot c.args.here.now c.args.e.now).env c.args.e.now (joined_state c.args.state.now (g.S.Services.stands c.args.svc.now)) (joined_state c.pays.new.self (g.S.Services.stands c.args.svc.now)) (c.if-not-pays.ensures.paid refl (g.S.Services.stands c.args.svc.now)) c.requires.safe in
     search rules
 
-pub evaluate-returns-in-If-clause-flows : goal.evaluate-returns-in-If-clause-flows
-evaluate-returns-in-If-clause-flows g t c =
-    let leads = begun_here c.args.here.now.code.now c.args.here.now.fun (spot c.args.here.now c.args.e.now).env c.args.e.now (joined_state c.args.state.now (g.S.Services.stands c.args.svc.now)) (joined_state c.pays.new.self (g.S.Services.stands c.args.svc.now))
-    (c.if-not-pays.ensures.paid refl (g.S.Services.stands c.args.svc.now)) in
-    flows_from c.choice.new.codes c.args.here.now.code.now c.args.here.now.fun (spot c.args.here.now c.args.e.now) _ _ c.choice.result (joined_state c.choice.new.state (g.S.Services.stands c.choice.new.svc)) leads c.choice.ensures.flows
+pub direct::evaluate-returns-in-If-clause-flows : goal.direct::evaluate-returns-in-If-clause-flows
+direct::evaluate-returns-in-If-clause-flows g t c =
+    begun_flows c.choice.new.codes c.args.here.now.code.now c.args.here.now.fun (spot c.args.here.now c.args.e.now).env c.args.e.now (joined_state c.args.state.now (g.S.Services.stands c.args.svc.now)) (joined_state c.pays.new.self (g.S.Services.stands c.args.svc.now)) (joined_state c.choice.new.state (g.S.Services.stands c.choice.new.svc)) c.choice.result (c.if-not-pays.ensures.paid refl (g.S.Services.stands c.args.svc.now)) c.choice.ensures.flows
 
-pub evaluate-operation-requires : goal.evaluate-operation-requires
-evaluate-operation-requires g t c =
+pub direct::evaluate-operation-requires : goal.direct::evaluate-operation-requires
+direct::evaluate-operation-requires g t c =
     let form : out-Expr c.args.e.now ≡ Expr-F.Binary c.in-Binary.op c.get-a-in-Binary.result.now c.get-b-in-Binary.result.now =
     rw (c.in-Binary.is, c.get-a-in-Binary.ensures, c.get-b-in-Binary.ensures) (binary_form c.in-Binary.op c.in-Binary.a c.in-Binary.b) in
-    let leads = begun_here c.args.here.now.code.now c.args.here.now.fun (spot c.args.here.now c.args.e.now).env c.args.e.now (joined_state c.args.state.now (g.S.Services.stands c.args.svc.now)) (joined_state c.pays.new.self (g.S.Services.stands c.args.svc.now))
-    (c.if-not-pays.ensures.paid refl (g.S.Services.stands c.args.svc.now)) in
-    let safe : IsSafe (begins c.args.here.now.code.now c.args.here.now.fun (spot c.args.here.now c.args.e.now) (joined_state c.pays.new.self (g.S.Services.stands c.args.svc.now))).asks = leads.safe c.requires.safe in
+    let safe : IsSafe (begins c.args.here.now.code.now c.args.here.now.fun (spot c.args.here.now c.args.e.now) (joined_state c.pays.new.self (g.S.Services.stands c.args.svc.now))).asks = begun_safe c.args.here.now.code.now c.args.here.now.fun (spot c.args.here.now c.args.e.now).env c.args.e.now (joined_state c.args.state.now (g.S.Services.stands c.args.svc.now)) (joined_state c.pays.new.self (g.S.Services.stands c.args.svc.now)) (c.if-not-pays.ensures.paid refl (g.S.Services.stands c.args.svc.now)) c.requires.safe in
     search rules
 
-pub evaluate-returns-in-Binary-clause-flows : goal.evaluate-returns-in-Binary-clause-flows
-evaluate-returns-in-Binary-clause-flows g t c =
-    let leads = begun_here c.args.here.now.code.now c.args.here.now.fun (spot c.args.here.now c.args.e.now).env c.args.e.now (joined_state c.args.state.now (g.S.Services.stands c.args.svc.now)) (joined_state c.pays.new.self (g.S.Services.stands c.args.svc.now))
-    (c.if-not-pays.ensures.paid refl (g.S.Services.stands c.args.svc.now)) in
-    flows_from c.operation.new.codes c.args.here.now.code.now c.args.here.now.fun (spot c.args.here.now c.args.e.now) _ _ c.operation.result (joined_state c.operation.new.state (g.S.Services.stands c.operation.new.svc)) leads c.operation.ensures.flows
+pub direct::evaluate-returns-in-Binary-clause-flows : goal.direct::evaluate-returns-in-Binary-clause-flows
+direct::evaluate-returns-in-Binary-clause-flows g t c =
+    begun_flows c.operation.new.codes c.args.here.now.code.now c.args.here.now.fun (spot c.args.here.now c.args.e.now).env c.args.e.now (joined_state c.args.state.now (g.S.Services.stands c.args.svc.now)) (joined_state c.pays.new.self (g.S.Services.stands c.args.svc.now)) (joined_state c.operation.new.state (g.S.Services.stands c.operation.new.svc)) c.operation.result (c.if-not-pays.ensures.paid refl (g.S.Services.stands c.args.svc.now)) c.operation.ensures.flows
 
-pub evaluate-other_form-requires : goal.evaluate-other_form-requires
-evaluate-other_form-requires g t c =
-    let leads = begun_here c.args.here.now.code.now c.args.here.now.fun (spot c.args.here.now c.args.e.now).env c.args.e.now (joined_state c.args.state.now (g.S.Services.stands c.args.svc.now)) (joined_state c.pays.new.self (g.S.Services.stands c.args.svc.now))
-    (c.if-not-pays.ensures.paid refl (g.S.Services.stands c.args.svc.now)) in
-    let safe : IsSafe (begins c.args.here.now.code.now c.args.here.now.fun (spot c.args.here.now c.args.e.now) (joined_state c.pays.new.self (g.S.Services.stands c.args.svc.now))).asks = leads.safe c.requires.safe in
+pub direct::evaluate-other_form-requires : goal.direct::evaluate-other_form-requires
+direct::evaluate-other_form-requires g t c =
+    let safe : IsSafe (begins c.args.here.now.code.now c.args.here.now.fun (spot c.args.here.now c.args.e.now) (joined_state c.pays.new.self (g.S.Services.stands c.args.svc.now))).asks = begun_safe c.args.here.now.code.now c.args.here.now.fun (spot c.args.here.now c.args.e.now).env c.args.e.now (joined_state c.args.state.now (g.S.Services.stands c.args.svc.now)) (joined_state c.pays.new.self (g.S.Services.stands c.args.svc.now)) (c.if-not-pays.ensures.paid refl (g.S.Services.stands c.args.svc.now)) c.requires.safe in
     search rules
 
-pub evaluate-returns-in_default : goal.evaluate-returns-in_default
-evaluate-returns-in_default g t c =
-    let leads = begun_here c.args.here.now.code.now c.args.here.now.fun (spot c.args.here.now c.args.e.now).env c.args.e.now (joined_state c.args.state.now (g.S.Services.stands c.args.svc.now)) (joined_state c.pays.new.self (g.S.Services.stands c.args.svc.now))
-    (c.if-not-pays.ensures.paid refl (g.S.Services.stands c.args.svc.now)) in
-    let flows = flows_from c.other_form.new.codes c.args.here.now.code.now c.args.here.now.fun (spot c.args.here.now c.args.e.now) _ _ c.other_form.result (joined_state c.other_form.new.state (g.S.Services.stands c.other_form.new.svc)) leads c.other_form.ensures.flows in
+pub direct::evaluate-returns-in_default : goal.direct::evaluate-returns-in_default
+direct::evaluate-returns-in_default g t c =
+    let flows = begun_flows c.other_form.new.codes c.args.here.now.code.now c.args.here.now.fun (spot c.args.here.now c.args.e.now).env c.args.e.now (joined_state c.args.state.now (g.S.Services.stands c.args.svc.now)) (joined_state c.pays.new.self (g.S.Services.stands c.args.svc.now)) (joined_state c.other_form.new.state (g.S.Services.stands c.other_form.new.svc)) c.other_form.result (c.if-not-pays.ensures.paid refl (g.S.Services.stands c.args.svc.now)) c.other_form.ensures.flows in
     search rules
 
 -- ---- forms by themselves
 
-pub last_part-evaluate-flow-requires : goal.last_part-evaluate-flow-requires
-last_part-evaluate-flow-requires g t c =
+pub direct::last_part-evaluate-flow-requires : goal.direct::last_part-evaluate-flow-requires
+direct::last_part-evaluate-flow-requires g t c =
     let deep = deeper_here (spot c.args.here.now c.args.e.now) (frame.Last c.args.n) c.args.part.now c.requires.part refl in
     let safe : IsSafe (meaning c.args.here.now.code.now c.args.here.now.fun (spot c.args.here.now c.args.e.now).env c.args.part.now (joined_state c.args.state.now (g.S.Services.stands c.args.svc.now))).asks = part_safe c.args.here.now.code.now c.args.here.now.fun (spot c.args.here.now c.args.e.now) (frame.Last c.args.n) (joined_state c.args.state.now (g.S.Services.stands c.args.svc.now)) c.args.part.now deep c.requires.safe in
     search rules
 
-pub last_part-returns-clause-flows : goal.last_part-returns-clause-flows
-last_part-returns-clause-flows g t c =
+pub direct::last_part-returns-clause-flows : goal.direct::last_part-returns-clause-flows
+direct::last_part-returns-clause-flows g t c =
     let deep = deeper_here (spot c.args.here.now c.args.e.now) (frame.Last c.args.n) c.args.part.now c.requires.part refl in
     rw deep (c.last_back.ensures.flows c.evaluate-flow.new.codes c.args.here.now.code.now c.args.here.now.fun (spot c.args.here.now c.args.e.now) _ _ (g.S.Services.stands c.evaluate-flow.new.svc) deep c.evaluate-flow.ensures.flows)
 
-pub choice-evaluate-requires : goal.choice-evaluate-requires
-choice-evaluate-requires g t c =
+pub direct::choice-evaluate-requires : goal.direct::choice-evaluate-requires
+direct::choice-evaluate-requires g t c =
     let safe : IsSafe (meaning c.args.here.now.code.now c.args.here.now.fun (spot c.args.here.now c.args.e.now).env c.args.t.now (joined_state c.args.state.now (g.S.Services.stands c.args.svc.now))).asks = first_safe c.args.here.now.code.now c.args.here.now.fun (spot c.args.here.now c.args.e.now) c.args.t.now (joined_state c.args.state.now (g.S.Services.stands c.args.svc.now)) (if_parts c.args.here.now.code.now c.args.here.now.fun c.args.e.now c.args.t.now c.args.a.now c.args.b.now (spot c.args.here.now c.args.e.now).env c.requires.form) (if_test c.args.here.now.code.now c.args.here.now.fun c.args.e.now c.args.t.now c.args.a.now c.args.b.now (spot c.args.here.now c.args.e.now).env c.requires.form) c.requires.safe in
     search rules
 
-pub choice-last_part-requires : goal.choice-last_part-requires
-choice-last_part-requires g t c =
+pub direct::choice-last_part-requires : goal.direct::choice-last_part-requires
+direct::choice-last_part-requires g t c =
     let is : c.evaluate.result ≡ Ok (flow.Done c.in-Ok-Done.v) = cc in
     let came : (meaning c.args.here.now.code.now c.args.here.now.fun (spot c.args.here.now c.args.e.now).env c.args.t.now (joined_state c.args.state.now (g.S.Services.stands c.args.svc.now))).after ≡ gave c.in-Ok-Done.v (joined_state c.evaluate.new.state (g.S.Services.stands c.evaluate.new.svc)) = rw is at c.evaluate.ensures.flows in
     let test : as_bool c.in-Ok-Done.v ≡ Some true = cc in
@@ -129,16 +114,16 @@ choice-last_part-requires g t c =
     (if_true c.args.here.now.code.now c.args.here.now.fun c.args.e.now c.args.t.now c.args.a.now c.args.b.now (spot c.args.here.now c.args.e.now).env c.requires.form (joined_state c.args.state.now (g.S.Services.stands c.args.svc.now)) (joined_state c.evaluate.new.state (g.S.Services.stands c.evaluate.new.svc)) c.in-Ok-Done.v came test).safe c.requires.safe in
     search rules
 
-pub choice-returns-in-Some-true-clause-flows : goal.choice-returns-in-Some-true-clause-flows
-choice-returns-in-Some-true-clause-flows g t c =
+pub direct::choice-returns-in-Some-true-clause-flows : goal.direct::choice-returns-in-Some-true-clause-flows
+direct::choice-returns-in-Some-true-clause-flows g t c =
     let is : c.evaluate.result ≡ Ok (flow.Done c.in-Ok-Done.v) = cc in
     let came : (meaning c.args.here.now.code.now c.args.here.now.fun (spot c.args.here.now c.args.e.now).env c.args.t.now (joined_state c.args.state.now (g.S.Services.stands c.args.svc.now))).after ≡ gave c.in-Ok-Done.v (joined_state c.evaluate.new.state (g.S.Services.stands c.evaluate.new.svc)) = rw is at c.evaluate.ensures.flows in
     let test : as_bool c.in-Ok-Done.v ≡ Some true = cc in
     flows_from c.last_part.new.codes c.args.here.now.code.now c.args.here.now.fun (spot c.args.here.now c.args.e.now) _ _ c.last_part.result (joined_state c.last_part.new.state (g.S.Services.stands c.last_part.new.svc))
     (if_true c.args.here.now.code.now c.args.here.now.fun c.args.e.now c.args.t.now c.args.a.now c.args.b.now (spot c.args.here.now c.args.e.now).env c.requires.form (joined_state c.args.state.now (g.S.Services.stands c.args.svc.now)) (joined_state c.evaluate.new.state (g.S.Services.stands c.evaluate.new.svc)) c.in-Ok-Done.v came test) c.last_part.ensures.flows
 
-pub choice-last_part-requires-in-Some-false : goal.choice-last_part-requires-in-Some-false
-choice-last_part-requires-in-Some-false g t c =
+pub direct::choice-last_part-requires-in-Some-false : goal.direct::choice-last_part-requires-in-Some-false
+direct::choice-last_part-requires-in-Some-false g t c =
     let is : c.evaluate.result ≡ Ok (flow.Done c.in-Ok-Done.v) = cc in
     let came : (meaning c.args.here.now.code.now c.args.here.now.fun (spot c.args.here.now c.args.e.now).env c.args.t.now (joined_state c.args.state.now (g.S.Services.stands c.args.svc.now))).after ≡ gave c.in-Ok-Done.v (joined_state c.evaluate.new.state (g.S.Services.stands c.evaluate.new.svc)) = rw is at c.evaluate.ensures.flows in
     let test : as_bool c.in-Ok-Done.v ≡ Some false = cc in
@@ -148,72 +133,70 @@ choice-last_part-requires-in-Some-false g t c =
     (if_false c.args.here.now.code.now c.args.here.now.fun c.args.e.now c.args.t.now c.args.a.now c.args.b.now (spot c.args.here.now c.args.e.now).env c.requires.form (joined_state c.args.state.now (g.S.Services.stands c.args.svc.now)) (joined_state c.evaluate.new.state (g.S.Services.stands c.evaluate.new.svc)) c.in-Ok-Done.v came test).safe c.requires.safe in
     search rules
 
-pub choice-returns-in-Some-false-clause-flows : goal.choice-returns-in-Some-false-clause-flows
-choice-returns-in-Some-false-clause-flows g t c =
+pub direct::choice-returns-in-Some-false-clause-flows : goal.direct::choice-returns-in-Some-false-clause-flows
+direct::choice-returns-in-Some-false-clause-flows g t c =
     let is : c.evaluate.result ≡ Ok (flow.Done c.in-Ok-Done.v) = cc in
     let came : (meaning c.args.here.now.code.now c.args.here.now.fun (spot c.args.here.now c.args.e.now).env c.args.t.now (joined_state c.args.state.now (g.S.Services.stands c.args.svc.now))).after ≡ gave c.in-Ok-Done.v (joined_state c.evaluate.new.state (g.S.Services.stands c.evaluate.new.svc)) = rw is at c.evaluate.ensures.flows in
     let test : as_bool c.in-Ok-Done.v ≡ Some false = cc in
     flows_from c.last_part-in-Some-false.new.codes c.args.here.now.code.now c.args.here.now.fun (spot c.args.here.now c.args.e.now) _ _ c.last_part-in-Some-false.result (joined_state c.last_part-in-Some-false.new.state (g.S.Services.stands c.last_part-in-Some-false.new.svc))
     (if_false c.args.here.now.code.now c.args.here.now.fun c.args.e.now c.args.t.now c.args.a.now c.args.b.now (spot c.args.here.now c.args.e.now).env c.requires.form (joined_state c.args.state.now (g.S.Services.stands c.args.svc.now)) (joined_state c.evaluate.new.state (g.S.Services.stands c.evaluate.new.svc)) c.in-Ok-Done.v came test) c.last_part-in-Some-false.ensures.flows
 
-pub choice-returns-in-Ok-Done-clause-flows : goal.choice-returns-in-Ok-Done-clause-flows
-choice-returns-in-Ok-Done-clause-flows g t c = λ other.
+pub direct::choice-returns-in-Ok-Done-clause-flows : goal.direct::choice-returns-in-Ok-Done-clause-flows
+direct::choice-returns-in-Ok-Done-clause-flows g t c = λ other.
     let is : c.evaluate.result ≡ Ok (flow.Done c.in-Ok-Done.v) = cc in
     let came : (meaning c.args.here.now.code.now c.args.here.now.fun (spot c.args.here.now c.args.e.now).env c.args.t.now (joined_state c.args.state.now (g.S.Services.stands c.args.svc.now))).after ≡ gave c.in-Ok-Done.v (joined_state c.evaluate.new.state (g.S.Services.stands c.evaluate.new.svc)) = rw is at c.evaluate.ensures.flows in
     let test : as_bool c.in-Ok-Done.v ≡ None = cc in
     if_wrong c.args.here.now.code.now c.args.here.now.fun c.args.e.now c.args.t.now c.args.a.now c.args.b.now (spot c.args.here.now c.args.e.now).env c.requires.form (joined_state c.args.state.now (g.S.Services.stands c.args.svc.now)) (joined_state c.evaluate.new.state (g.S.Services.stands c.evaluate.new.svc)) c.in-Ok-Done.v came test
 
-pub choice-returns-in-Ok-Wait-clause-flows : goal.choice-returns-in-Ok-Wait-clause-flows
-choice-returns-in-Ok-Wait-clause-flows g t c =
+pub direct::choice-returns-in-Ok-Wait-clause-flows : goal.direct::choice-returns-in-Ok-Wait-clause-flows
+direct::choice-returns-in-Ok-Wait-clause-flows g t c =
     let is : c.evaluate.result ≡ Ok (flow.Wait c.in-Ok-Wait.rest) = cc in
     let none = c.new.ensures in
     rw (c.in_ok-inside-in-Ok-Wait.ensures, none)
     (waits_inside c.evaluate.new.codes c.args.here.now.code.now c.args.here.now.fun (spot c.args.here.now c.args.e.now) (frame.Part 0 []) _ (if_test c.args.here.now.code.now c.args.here.now.fun c.args.e.now c.args.t.now c.args.a.now c.args.b.now (spot c.args.here.now c.args.e.now).env c.requires.form) c.in-Ok-Wait.rest (joined_state c.evaluate.new.state (g.S.Services.stands c.evaluate.new.svc)) _ _ (first_leads c.args.here.now.code.now c.args.here.now.fun (spot c.args.here.now c.args.e.now) c.args.t.now (joined_state c.args.state.now (g.S.Services.stands c.args.svc.now)) (if_parts c.args.here.now.code.now c.args.here.now.fun c.args.e.now c.args.t.now c.args.a.now c.args.b.now (spot c.args.here.now c.args.e.now).env c.requires.form) (if_test c.args.here.now.code.now c.args.here.now.fun c.args.e.now c.args.t.now c.args.a.now c.args.b.now (spot c.args.here.now c.args.e.now).env c.requires.form)) (rw is at c.evaluate.ensures.flows))
 
-pub choice-returns-clause-flows : goal.choice-returns-clause-flows
-choice-returns-clause-flows g t c = λ other.
+pub direct::choice-returns-clause-flows : goal.direct::choice-returns-clause-flows
+direct::choice-returns-clause-flows g t c = λ other.
     let is : c.evaluate.result ≡ Err c.in-Err.stop = cc in
-    let ends = (rw is at c.evaluate.ensures.flows) other in
-    (first_leads c.args.here.now.code.now c.args.here.now.fun (spot c.args.here.now c.args.e.now) c.args.t.now (joined_state c.args.state.now (g.S.Services.stands c.args.svc.now)) (if_parts c.args.here.now.code.now c.args.here.now.fun c.args.e.now c.args.t.now c.args.a.now c.args.b.now (spot c.args.here.now c.args.e.now).env c.requires.form) (if_test c.args.here.now.code.now c.args.here.now.fun c.args.e.now c.args.t.now c.args.a.now c.args.b.now (spot c.args.here.now c.args.e.now).env c.requires.form)).same ∙ part_stops_so c.args.here.now.code.now c.args.here.now.fun (spot c.args.here.now c.args.e.now) 0 [] _ c.in-Err.stop _ (if_no_try c.args.here.now.code.now c.args.here.now.fun c.args.e.now c.args.t.now c.args.a.now c.args.b.now (spot c.args.here.now c.args.e.now).env c.requires.form) ends
+    (first_leads c.args.here.now.code.now c.args.here.now.fun (spot c.args.here.now c.args.e.now) c.args.t.now (joined_state c.args.state.now (g.S.Services.stands c.args.svc.now)) (if_parts c.args.here.now.code.now c.args.here.now.fun c.args.e.now c.args.t.now c.args.a.now c.args.b.now (spot c.args.here.now c.args.e.now).env c.requires.form) (if_test c.args.here.now.code.now c.args.here.now.fun c.args.e.now c.args.t.now c.args.a.now c.args.b.now (spot c.args.here.now c.args.e.now).env c.requires.form)).same ∙ part_stops_so c.args.here.now.code.now c.args.here.now.fun (spot c.args.here.now c.args.e.now) 0 [] _ c.in-Err.stop _ (if_no_try c.args.here.now.code.now c.args.here.now.fun c.args.e.now c.args.t.now c.args.a.now c.args.b.now (spot c.args.here.now c.args.e.now).env c.requires.form) ((rw is at c.evaluate.ensures.flows) other)
 
-pub operation-evaluate-requires : goal.operation-evaluate-requires
-operation-evaluate-requires g t c =
+pub direct::operation-evaluate-requires : goal.direct::operation-evaluate-requires
+direct::operation-evaluate-requires g t c =
     let safe : IsSafe (meaning c.args.here.now.code.now c.args.here.now.fun (spot c.args.here.now c.args.e.now).env c.args.a.now (joined_state c.args.state.now (g.S.Services.stands c.args.svc.now))).asks = first_safe c.args.here.now.code.now c.args.here.now.fun (spot c.args.here.now c.args.e.now) c.args.a.now (joined_state c.args.state.now (g.S.Services.stands c.args.svc.now)) (operator_parts c.args.here.now.code.now c.args.here.now.fun c.args.op c.args.e.now c.args.a.now c.args.b.now (spot c.args.here.now c.args.e.now).env c.requires.form) (left_part c.args.here.now.code.now c.args.here.now.fun c.args.op c.args.e.now c.args.a.now c.args.b.now (spot c.args.here.now c.args.e.now).env c.requires.form) c.requires.safe in
     search rules
 
-pub operation-evaluate-flow-requires : goal.operation-evaluate-flow-requires
-operation-evaluate-flow-requires g t c =
+pub direct::operation-evaluate-flow-requires : goal.direct::operation-evaluate-flow-requires
+direct::operation-evaluate-flow-requires g t c =
     let is : c.evaluate.result ≡ Ok (flow.Done c.in-Ok-Done.x) = cc in
     let came : (meaning c.args.here.now.code.now c.args.here.now.fun (spot c.args.here.now c.args.e.now).env c.args.a.now (joined_state c.args.state.now (g.S.Services.stands c.args.svc.now))).after ≡ gave c.in-Ok-Done.x (joined_state c.evaluate.new.state (g.S.Services.stands c.evaluate.new.svc)) = rw is at c.evaluate.ensures.flows in
     let here = here_grown _ _ _ c.evaluate.ensures.grown c.requires.here in
     let safe : IsSafe (meaning c.args.here.now.code.now c.args.here.now.fun (spot c.args.here.now c.args.e.now).env c.args.b.now (joined_state c.evaluate.new.state (g.S.Services.stands c.evaluate.new.svc))).asks = resume_asks c.args.here.now.code.now c.args.here.now.fun (spot c.args.here.now c.args.e.now) (frame.Part 1 (c.in-Ok-Done.x ∷ [])) _ ((right_leads c.args.here.now.code.now c.args.here.now.fun c.args.op c.args.e.now c.args.a.now c.args.b.now (spot c.args.here.now c.args.e.now).env c.requires.form (joined_state c.args.state.now (g.S.Services.stands c.args.svc.now)) (joined_state c.evaluate.new.state (g.S.Services.stands c.evaluate.new.svc)) c.in-Ok-Done.x came).safe c.requires.safe) in
     search rules
 
-pub operation-returns-in-Ok-Done-clause-flows : goal.operation-returns-in-Ok-Done-clause-flows
-operation-returns-in-Ok-Done-clause-flows g t c =
+pub direct::operation-returns-in-Ok-Done-clause-flows : goal.direct::operation-returns-in-Ok-Done-clause-flows
+direct::operation-returns-in-Ok-Done-clause-flows g t c =
     let is : c.evaluate.result ≡ Ok (flow.Done c.in-Ok-Done.x) = cc in
     let came : (meaning c.args.here.now.code.now c.args.here.now.fun (spot c.args.here.now c.args.e.now).env c.args.a.now (joined_state c.args.state.now (g.S.Services.stands c.args.svc.now))).after ≡ gave c.in-Ok-Done.x (joined_state c.evaluate.new.state (g.S.Services.stands c.evaluate.new.svc)) = rw is at c.evaluate.ensures.flows in
     flows_from c.evaluate-flow.new.codes c.args.here.now.code.now c.args.here.now.fun (spot c.args.here.now c.args.e.now) _ _ c.operands_back.result (joined_state c.operands_back.new.state (g.S.Services.stands c.evaluate-flow.new.svc))
     (right_leads c.args.here.now.code.now c.args.here.now.fun c.args.op c.args.e.now c.args.a.now c.args.b.now (spot c.args.here.now c.args.e.now).env c.requires.form (joined_state c.args.state.now (g.S.Services.stands c.args.svc.now)) (joined_state c.evaluate.new.state (g.S.Services.stands c.evaluate.new.svc)) c.in-Ok-Done.x came)
     (c.operands_back.ensures.flows c.evaluate-flow.new.codes c.args.here.now.code.now c.args.here.now.fun c.args.e.now c.args.a.now c.args.b.now (spot c.args.here.now c.args.e.now).env _ _ (g.S.Services.stands c.evaluate-flow.new.svc) c.requires.form (right_part c.args.here.now.code.now c.args.here.now.fun c.args.op c.args.e.now c.args.a.now c.args.b.now (spot c.args.here.now c.args.e.now).env c.requires.form c.in-Ok-Done.x) c.evaluate-flow.ensures.flows)
 
-pub operation-returns-in_ok-inside-in-Ok-Wait-clause-flows : goal.operation-returns-in_ok-inside-in-Ok-Wait-clause-flows
-operation-returns-in_ok-inside-in-Ok-Wait-clause-flows g t c =
+pub direct::operation-returns-in_ok-inside-in-Ok-Wait-clause-flows : goal.direct::operation-returns-in_ok-inside-in-Ok-Wait-clause-flows
+direct::operation-returns-in_ok-inside-in-Ok-Wait-clause-flows g t c =
     let is : c.evaluate.result ≡ Ok (flow.Wait c.in-Ok-Wait.rest) = cc in
     let none = c.new.ensures in
     rw (c.in_ok-inside-in-Ok-Wait.ensures, none)
     (waits_inside c.evaluate.new.codes c.args.here.now.code.now c.args.here.now.fun (spot c.args.here.now c.args.e.now) (frame.Part 0 []) _ (left_part c.args.here.now.code.now c.args.here.now.fun c.args.op c.args.e.now c.args.a.now c.args.b.now (spot c.args.here.now c.args.e.now).env c.requires.form) c.in-Ok-Wait.rest (joined_state c.evaluate.new.state (g.S.Services.stands c.evaluate.new.svc)) _ _ (first_leads c.args.here.now.code.now c.args.here.now.fun (spot c.args.here.now c.args.e.now) c.args.a.now (joined_state c.args.state.now (g.S.Services.stands c.args.svc.now)) (operator_parts c.args.here.now.code.now c.args.here.now.fun c.args.op c.args.e.now c.args.a.now c.args.b.now (spot c.args.here.now c.args.e.now).env c.requires.form) (left_part c.args.here.now.code.now c.args.here.now.fun c.args.op c.args.e.now c.args.a.now c.args.b.now (spot c.args.here.now c.args.e.now).env c.requires.form)) (rw is at c.evaluate.ensures.flows))
 
-pub operation-returns-in-Err-clause-flows : goal.operation-returns-in-Err-clause-flows
-operation-returns-in-Err-clause-flows g t c = λ other.
+pub direct::operation-returns-in-Err-clause-flows : goal.direct::operation-returns-in-Err-clause-flows
+direct::operation-returns-in-Err-clause-flows g t c = λ other.
     let is : c.evaluate.result ≡ Err c.in-Err.stop = cc in
-    let ends = (rw is at c.evaluate.ensures.flows) other in
-    (first_leads c.args.here.now.code.now c.args.here.now.fun (spot c.args.here.now c.args.e.now) c.args.a.now (joined_state c.args.state.now (g.S.Services.stands c.args.svc.now)) (operator_parts c.args.here.now.code.now c.args.here.now.fun c.args.op c.args.e.now c.args.a.now c.args.b.now (spot c.args.here.now c.args.e.now).env c.requires.form) (left_part c.args.here.now.code.now c.args.here.now.fun c.args.op c.args.e.now c.args.a.now c.args.b.now (spot c.args.here.now c.args.e.now).env c.requires.form)).same ∙ part_stops_so c.args.here.now.code.now c.args.here.now.fun (spot c.args.here.now c.args.e.now) 0 [] _ c.in-Err.stop _ (operator_no_try c.args.here.now.code.now c.args.here.now.fun c.args.op c.args.e.now c.args.a.now c.args.b.now (spot c.args.here.now c.args.e.now).env c.requires.form) ends
+    (first_leads c.args.here.now.code.now c.args.here.now.fun (spot c.args.here.now c.args.e.now) c.args.a.now (joined_state c.args.state.now (g.S.Services.stands c.args.svc.now)) (operator_parts c.args.here.now.code.now c.args.here.now.fun c.args.op c.args.e.now c.args.a.now c.args.b.now (spot c.args.here.now c.args.e.now).env c.requires.form) (left_part c.args.here.now.code.now c.args.here.now.fun c.args.op c.args.e.now c.args.a.now c.args.b.now (spot c.args.here.now c.args.e.now).env c.requires.form)).same ∙ part_stops_so c.args.here.now.code.now c.args.here.now.fun (spot c.args.here.now c.args.e.now) 0 [] _ c.in-Err.stop _ (operator_no_try c.args.here.now.code.now c.args.here.now.fun c.args.op c.args.e.now c.args.a.now c.args.b.now (spot c.args.here.now c.args.e.now).env c.requires.form) ((rw is at c.evaluate.ensures.flows) other)
 
 -- ---- an open expression
 
-pub proceed-loop-more-preserved : goal.proceed-loop-more-preserved
-proceed-loop-more-preserved g t c =
+pub direct::proceed-loop-more-preserved : goal.direct::proceed-loop-more-preserved
+direct::proceed-loop-more-preserved g t c =
     let i = c.loop-more.invariant in
     let is : c.advance.result ≡ Ok (turn.More c.in-Ok-More.more) = cc in
     let less : c.advance.new.state.work < c.loop-more.state.work = rw is at c.advance.ensures.turns in
@@ -226,27 +209,27 @@ proceed-loop-more-preserved g t c =
       begun = c.advance.ensures.begun ∙ i.begun;
     }
 
-pub evaluate_part-returns-in_default-clause-advances : goal.evaluate_part-returns-in_default-clause-advances
-evaluate_part-returns-in_default-clause-advances g t c = λ other.
+pub direct::evaluate_part-returns-in_default-clause-advances : goal.direct::evaluate_part-returns-in_default-clause-advances
+direct::evaluate_part-returns-in_default-clause-advances g t c = λ other.
     let none : part_or_self c.args.e.now (part_number c.args.frame) ≡ None = sym c.in_default.ensures in
     no_part c.args.here.now.code.now c.args.here.now.fun (spot c.args.here.now c.args.e.now) _ (joined_state c.args.state.now (g.S.Services.stands c.args.svc.now)) c.args.frame none (itself _)
 
-pub evaluate_part-returns-then-is_bound-clause-advances : goal.evaluate_part-returns-then-is_bound-clause-advances
-evaluate_part-returns-then-is_bound-clause-advances g t c =
+pub direct::evaluate_part-returns-then-is_bound-clause-advances : goal.direct::evaluate_part-returns-then-is_bound-clause-advances
+direct::evaluate_part-returns-then-is_bound-clause-advances g t c =
     let part : part_or_self c.args.e.now (part_number c.args.frame) ≡ Some c.in-Some.part.now = sym c.in-Some.ensures in
     rw c.in_ok-pause_in.ensures
     (opened_paused c.args.here.now.code.now c.args.here.now.fun (spot c.args.here.now c.args.e.now) c.args.frame (joined_state c.args.state.now (g.S.Services.stands c.args.svc.now)) c.args.codes.now c.in-Some.part.now part)
 
-pub evaluate_part-evaluate-flow-requires : goal.evaluate_part-evaluate-flow-requires
-evaluate_part-evaluate-flow-requires g t c =
+pub direct::evaluate_part-evaluate-flow-requires : goal.direct::evaluate_part-evaluate-flow-requires
+direct::evaluate_part-evaluate-flow-requires g t c =
     let part : part_or_self c.args.e.now (part_number c.args.frame) ≡ Some c.in-Some.part.now = sym c.in-Some.ensures in
     let deep = deeper_here (spot c.args.here.now c.args.e.now) c.args.frame c.in-Some.part.now part (sym c.is_bound.ensures ∙ c.if-is_bound.false) in
     let safe : IsSafe (meaning c.args.here.now.code.now c.args.here.now.fun (spot c.args.here.now c.args.e.now).env c.in-Some.part.now (joined_state c.args.state.now (g.S.Services.stands c.args.svc.now))).asks =
     part_safe c.args.here.now.code.now c.args.here.now.fun (spot c.args.here.now c.args.e.now) c.args.frame (joined_state c.args.state.now (g.S.Services.stands c.args.svc.now)) c.in-Some.part.now deep c.requires.safe in
     search rules
 
-pub evaluate_part-part_back-requires-clause-safe : goal.evaluate_part-part_back-requires-clause-safe
-evaluate_part-part_back-requires-clause-safe g t c =
+pub direct::evaluate_part-part_back-requires-clause-safe : goal.direct::evaluate_part-part_back-requires-clause-safe
+direct::evaluate_part-part_back-requires-clause-safe g t c =
     let part : part_or_self c.args.e.now (part_number c.args.frame) ≡ Some c.in-Some.part.now = sym c.in-Some.ensures in
     let deep = deeper_here (spot c.args.here.now c.args.e.now) c.args.frame c.in-Some.part.now part (sym c.is_bound.ensures ∙ c.if-is_bound.false) in (
       _,
@@ -256,50 +239,48 @@ evaluate_part-part_back-requires-clause-safe g t c =
       opened_safe c.args.here.now.code.now c.args.here.now.fun (spot c.args.here.now c.args.e.now) c.args.frame (joined_state c.args.state.now (g.S.Services.stands c.args.svc.now)) c.in-Some.part.now deep c.requires.safe,
     )
 
-pub evaluate_part-returns-clause-advances : goal.evaluate_part-returns-clause-advances
-evaluate_part-returns-clause-advances g t c =
+pub direct::evaluate_part-returns-clause-advances : goal.direct::evaluate_part-returns-clause-advances
+direct::evaluate_part-returns-clause-advances g t c =
     let part : part_or_self c.args.e.now (part_number c.args.frame) ≡ Some c.in-Some.part.now = sym c.in-Some.ensures in
     let deep = deeper_here (spot c.args.here.now c.args.e.now) c.args.frame c.in-Some.part.now part (sym c.is_bound.ensures ∙ c.if-is_bound.false) in
     rw deep (c.part_back.ensures.advances _ _ _ deep c.evaluate-flow.ensures.flows)
 
 -- ---- functions and chunks
 
-pub enter-returns-in_default-clause-enters : goal.enter-returns-in_default-clause-enters
-enter-returns-in_default-clause-enters g t c = λ other.
+pub direct::enter-returns-in_default-clause-enters : goal.direct::enter-returns-in_default-clause-enters
+direct::enter-returns-in_default-clause-enters g t c = λ other.
     let found : slice_get c.get.result.now.funs c.args.fun ≡ None = sym c.in_default.ensures.value in
     let none : slice_get c.args.code.now.funs c.args.fun ≡ None = rw c.get.ensures at found in
     enters_none c.args.code.now c.args.fun c.args.args (joined_state c.args.state.now (g.S.Services.stands c.args.svc.now)) none
 
-pub enter-returns-then-len-clause-enters : goal.enter-returns-then-len-clause-enters
-enter-returns-then-len-clause-enters g t c = λ other.
+pub direct::enter-returns-then-len-clause-enters : goal.direct::enter-returns-then-len-clause-enters
+direct::enter-returns-then-len-clause-enters g t c = λ other.
     let found : Some c.in-Some.function.now ≡ slice_get c.get.result.now.funs c.args.fun = c.in-Some.ensures.value in
     let has : slice_get c.args.code.now.funs c.args.fun ≡ Some c.in-Some.function.now = rw c.get.ensures at (sym found) in
     enters_other c.args.code.now c.args.fun c.args.args c.in-Some.function.now (joined_state c.args.state.now (g.S.Services.stands c.args.svc.now)) has
     (λ (e : length c.in-Some.function.now.params ≡ length c.args.args). c.if-len.true (c.len.ensures ∙ e ∙ sym c.len-2.ensures))
 
-pub body_flow-evaluate-requires : goal.body_flow-evaluate-requires
-body_flow-evaluate-requires g t c =
+pub direct::body_flow-evaluate-requires : goal.direct::body_flow-evaluate-requires
+direct::body_flow-evaluate-requires g t c =
     let args : c.as_slice.result.now ≡ c.args.args.now = c.as_slice.ensures in
-    let none = c.as_slice-2.ensures ∙ c.new-none.ensures in
-    let bare = c.as_slice-3.ensures ∙ c.new-bare.ensures in
     let binds : IsSome (bound c.args.function.now.params c.as_slice.result.now) =
-    body_binds c.args.code.now c.args.fun c.args.function.now c.args.args.now c.as_slice.result.now c.as_slice-2.result.now c.as_slice-3.result.now (joined_state c.args.state.now (g.S.Services.stands c.args.svc.now)) c.requires.function c.requires.many args none bare in
-    let safe : IsSafe (meaning c.args.code.now c.args.fun (env_of c.args.function.now c.as_slice.result.now c.as_slice-2.result.now ++ bound_here c.as_slice-3.result.now) c.args.function.now.body (joined_state c.args.state.now (g.S.Services.stands c.args.svc.now))).asks =
-    (body_leads c.args.code.now c.args.fun c.args.function.now c.args.args.now c.as_slice.result.now c.as_slice-2.result.now c.as_slice-3.result.now (joined_state c.args.state.now (g.S.Services.stands c.args.svc.now)) c.requires.function c.requires.many args none bare).safe c.requires.safe in
+    body_binds c.args.code.now c.args.fun c.args.function.now c.args.args.now c.as_slice.result.now [] [] (joined_state c.args.state.now (g.S.Services.stands c.args.svc.now)) c.requires.function c.requires.many args refl refl in
+    let safe : IsSafe (meaning c.args.code.now c.args.fun (env_of c.args.function.now c.as_slice.result.now [] ++ bound_here []) c.args.function.now.body (joined_state c.args.state.now (g.S.Services.stands c.args.svc.now))).asks =
+    (body_leads c.args.code.now c.args.fun c.args.function.now c.args.args.now c.as_slice.result.now [] [] (joined_state c.args.state.now (g.S.Services.stands c.args.svc.now)) c.requires.function c.requires.many args refl refl).safe c.requires.safe in
     search rules
 
-pub body_flow-returns-clause-flows : goal.body_flow-returns-clause-flows
-body_flow-returns-clause-flows g t c =
-    bodies_from c.args.code.now c.args.fun c.args.function.now c.args.args.now c.as_slice.result.now c.as_slice-2.result.now c.as_slice-3.result.now (joined_state c.args.state.now (g.S.Services.stands c.args.svc.now)) c.requires.function c.requires.many c.as_slice.ensures (c.as_slice-2.ensures ∙ c.new-none.ensures) (c.as_slice-3.ensures ∙ c.new-bare.ensures)
+pub direct::body_flow-returns-clause-flows : goal.direct::body_flow-returns-clause-flows
+direct::body_flow-returns-clause-flows g t c =
+    bodies_from c.args.code.now c.args.fun c.args.function.now c.args.args.now c.as_slice.result.now [] [] (joined_state c.args.state.now (g.S.Services.stands c.args.svc.now)) c.requires.function c.requires.many c.as_slice.ensures refl refl
     c.evaluate.new.codes c.args.number c.evaluate.result _ (grown_get c.args.codes.now c.evaluate.new.codes c.args.number c.args.code.now c.evaluate.ensures.grown c.requires.program) c.evaluate.ensures.flows
 
-pub visit-returns-in_default-clause-enters : goal.visit-returns-in_default-clause-enters
-visit-returns-in_default-clause-enters g t c = λ other.
+pub direct::visit-returns-in_default-clause-enters : goal.direct::visit-returns-in_default-clause-enters
+direct::visit-returns-in_default-clause-enters g t c = λ other.
     let none : place_of c.args.chunk.entry c.args.chunk.code.funs ≡ None = cc in
     visited_nowhere c.args.chunk _ none
 
-pub visit-enter-requires : goal.visit-enter-requires
-visit-enter-requires g t c =
+pub direct::visit-enter-requires : goal.direct::visit-enter-requires
+direct::visit-enter-requires g t c =
     let place : place_of c.args.chunk.entry c.args.chunk.code.funs ≡ Some c.in-Some.fun = cc in
     let safe : IsSafe (entered_function meaning c.args.chunk.code c.in-Some.fun c.args.chunk.args (joined_state c.args.state.now (g.S.Services.stands c.args.svc.now))).asks =
     (visited_on c.args.chunk c.in-Some.fun (joined_state c.args.state.now (g.S.Services.stands c.args.svc.now)) place).safe c.requires.safe in
@@ -307,26 +288,26 @@ visit-enter-requires g t c =
     let size : c.code_size-size.result ≡ min (code_size c.args.chunk.code) 18446744073709551615 = rw c.get-2.ensures at c.code_size-size.ensures in
     search rules
 
-pub visit-returns-clause-enters : goal.visit-returns-clause-enters
-visit-returns-clause-enters g t c =
+pub direct::visit-returns-clause-enters : goal.direct::visit-returns-clause-enters
+direct::visit-returns-clause-enters g t c =
     let place : place_of c.args.chunk.entry c.args.chunk.code.funs ≡ Some c.in-Some.fun = cc in
     enters_from c.enter.new.codes _ _ c.enter.result _ (visited_on c.args.chunk c.in-Some.fun (joined_state c.args.state.now (g.S.Services.stands c.args.svc.now)) place) c.enter.ensures.enters
 
-pub visit-returns-clause-grown : goal.visit-returns-clause-grown
-visit-returns-clause-grown g t c = grows_on _ _ _ c.open_code.ensures.grown c.enter.ensures.grown
+pub direct::visit-returns-clause-grown : goal.direct::visit-returns-clause-grown
+direct::visit-returns-clause-grown g t c = grows_on _ _ _ c.open_code.ensures.grown c.enter.ensures.grown
 
-pub all_parts-loop-x-init : goal.all_parts-loop-x-init
-all_parts-loop-x-init g t c = record {
+pub rows::all_parts-loop-x-init : goal.rows::all_parts-loop-x-init
+rows::all_parts-loop-x-init g t c = record {
   here = c.requires.here;
-  leads = rw c.new-held.ensures (row_begins c.args.here.now.code.now c.args.here.now.fun c.args.e.now (spot c.args.here.now c.args.e.now).env c.args.es.now c.requires.form c.requires.parts (joined_state c.args.state.now (g.S.Services.stands c.args.svc.now)));
+  leads = rw c.in_ok-held.ensures (row_begins c.args.here.now.code.now c.args.here.now.fun c.args.e.now (spot c.args.here.now c.args.e.now).env c.args.es.now c.requires.form c.requires.parts (joined_state c.args.state.now (g.S.Services.stands c.args.svc.now)));
   falls = omega arith;
   grown = grows_none _ _ refl;
   offer = refl;
   begun = refl;
 }
 
-pub all_parts-evaluate-requires : goal.all_parts-evaluate-requires
-all_parts-evaluate-requires g t c =
+pub rows::all_parts-evaluate-requires : goal.rows::all_parts-evaluate-requires
+rows::all_parts-evaluate-requires g t c =
     let found : Some c.in-Some.x.now ≡ slice_get c.args.es.now c.len.result = c.in-Some.ensures in
     let is_x : slice_get c.args.es.now (length c.loop-x.held) ≡ Some c.in-Some.x.now = rw c.len.ensures at (sym found) in
     let i = c.loop-x.invariant in
@@ -336,8 +317,8 @@ all_parts-evaluate-requires g t c =
     let falls = i.falls in
     search rules
 
-pub all_parts-loop-x-preserved : goal.all_parts-loop-x-preserved
-all_parts-loop-x-preserved g t c =
+pub rows::all_parts-loop-x-preserved : goal.rows::all_parts-loop-x-preserved
+rows::all_parts-loop-x-preserved g t c =
     let found : Some c.in-Some.x.now ≡ slice_get c.args.es.now c.len.result = c.in-Some.ensures in
     let is_x : slice_get c.args.es.now (length c.loop-x.held) ≡ Some c.in-Some.x.now = rw c.len.ensures at (sym found) in
     let i = c.loop-x.invariant in
@@ -352,8 +333,8 @@ all_parts-loop-x-preserved g t c =
       begun = c.evaluate.ensures.begun ∙ i.begun;
     }
 
-pub all_parts-returns-in-Ok-Wait-clause-rows : goal.all_parts-returns-in-Ok-Wait-clause-rows
-all_parts-returns-in-Ok-Wait-clause-rows g t c =
+pub rows::all_parts-returns-in-Ok-Wait-clause-rows : goal.rows::all_parts-returns-in-Ok-Wait-clause-rows
+rows::all_parts-returns-in-Ok-Wait-clause-rows g t c =
     let found : Some c.in-Some.x.now ≡ slice_get c.args.es.now c.len.result = c.in-Some.ensures in
     let is_x : slice_get c.args.es.now (length c.loop-x.held) ≡ Some c.in-Some.x.now = rw c.len.ensures at (sym found) in
     let i = c.loop-x.invariant in
@@ -362,192 +343,170 @@ all_parts-returns-in-Ok-Wait-clause-rows g t c =
     (waits_inside c.evaluate.new.codes c.args.here.now.code.now c.args.here.now.fun (spot c.args.here.now c.args.e.now) (frame.Part (length c.loop-x.held) c.loop-x.held) _ (next_deep c.args.here.now.code.now c.args.here.now.fun c.args.e.now (spot c.args.here.now c.args.e.now).env c.args.es.now c.requires.form c.requires.parts c.loop-x.held c.in-Some.x.now is_x) c.in-Ok-Wait.rest (joined_state c.evaluate.new.state (g.S.Services.stands c.evaluate.new.svc)) _ _
     (row_next c.args.here.now.code.now c.args.here.now.fun c.args.e.now (spot c.args.here.now c.args.e.now).env c.args.es.now c.requires.form c.requires.parts c.loop-x.held c.in-Some.x.now (joined_state c.args.state.now (g.S.Services.stands c.args.svc.now)) (joined_state c.loop-x.state (g.S.Services.stands c.loop-x.svc)) is_x i.leads) (rw is at c.evaluate.ensures.flows))
 
-pub all_parts-returns-in-Err-clause-rows : goal.all_parts-returns-in-Err-clause-rows
-all_parts-returns-in-Err-clause-rows g t c = λ other.
+pub rows::all_parts-returns-in-Err-clause-rows : goal.rows::all_parts-returns-in-Err-clause-rows
+rows::all_parts-returns-in-Err-clause-rows g t c = λ other.
     let found : Some c.in-Some.x.now ≡ slice_get c.args.es.now c.len.result = c.in-Some.ensures in
     let is_x : slice_get c.args.es.now (length c.loop-x.held) ≡ Some c.in-Some.x.now = rw c.len.ensures at (sym found) in
     let i = c.loop-x.invariant in
     let is : c.evaluate.result ≡ Err c.in-Err.stop = cc in
-    let ends = (rw is at c.evaluate.ensures.flows) other in
-    (row_next c.args.here.now.code.now c.args.here.now.fun c.args.e.now (spot c.args.here.now c.args.e.now).env c.args.es.now c.requires.form c.requires.parts c.loop-x.held c.in-Some.x.now (joined_state c.args.state.now (g.S.Services.stands c.args.svc.now)) (joined_state c.loop-x.state (g.S.Services.stands c.loop-x.svc)) is_x i.leads).same ∙ part_stops_so c.args.here.now.code.now c.args.here.now.fun (spot c.args.here.now c.args.e.now) (length c.loop-x.held) c.loop-x.held _ c.in-Err.stop _ (row_no_try (out-Expr c.args.e.now) c.requires.form) ends
+    (row_next c.args.here.now.code.now c.args.here.now.fun c.args.e.now (spot c.args.here.now c.args.e.now).env c.args.es.now c.requires.form c.requires.parts c.loop-x.held c.in-Some.x.now (joined_state c.args.state.now (g.S.Services.stands c.args.svc.now)) (joined_state c.loop-x.state (g.S.Services.stands c.loop-x.svc)) is_x i.leads).same ∙ part_stops_so c.args.here.now.code.now c.args.here.now.fun (spot c.args.here.now c.args.e.now) (length c.loop-x.held) c.loop-x.held _ c.in-Err.stop _ (row_no_try (out-Expr c.args.e.now) c.requires.form) ((rw is at c.evaluate.ensures.flows) other)
 
-pub all_parts-returns-clause-rows : goal.all_parts-returns-clause-rows
-all_parts-returns-clause-rows g t c =
+pub rows::all_parts-returns-clause-rows : goal.rows::all_parts-returns-clause-rows
+rows::all_parts-returns-clause-rows g t c =
     let found : slice_get c.args.es.now c.len.result ≡ None = sym c.in_default.ensures in
     let none : slice_get c.args.es.now (length c.loop-x.held) ≡ None = rw c.len.ensures at found in
     row_done c.args.here.now.code.now c.args.here.now.fun c.args.e.now (spot c.args.here.now c.args.e.now).env c.args.es.now c.requires.form c.requires.parts c.loop-x.held (joined_state c.args.state.now (g.S.Services.stands c.args.svc.now)) (joined_state c.loop-x.state (g.S.Services.stands c.loop-x.svc)) none c.loop-x.invariant.leads
 
-pub evaluate-eval-requires : goal.evaluate-eval-requires
-evaluate-eval-requires g t c =
+pub direct::evaluate-eval-requires : goal.direct::evaluate-eval-requires
+direct::evaluate-eval-requires g t c =
     let form : out-Expr c.args.e.now ≡ Expr-F.Eval c.get.result.now = rw (c.in-Eval.is, c.get.ensures) (eval_form c.in-Eval.a) in
-    let leads = begun_here c.args.here.now.code.now c.args.here.now.fun (spot c.args.here.now c.args.e.now).env c.args.e.now (joined_state c.args.state.now (g.S.Services.stands c.args.svc.now)) (joined_state c.pays.new.self (g.S.Services.stands c.args.svc.now))
-    (c.if-not-pays.ensures.paid refl (g.S.Services.stands c.args.svc.now)) in
-    let safe : IsSafe (begins c.args.here.now.code.now c.args.here.now.fun (spot c.args.here.now c.args.e.now) (joined_state c.pays.new.self (g.S.Services.stands c.args.svc.now))).asks = leads.safe c.requires.safe in
+    let safe : IsSafe (begins c.args.here.now.code.now c.args.here.now.fun (spot c.args.here.now c.args.e.now) (joined_state c.pays.new.self (g.S.Services.stands c.args.svc.now))).asks = begun_safe c.args.here.now.code.now c.args.here.now.fun (spot c.args.here.now c.args.e.now).env c.args.e.now (joined_state c.args.state.now (g.S.Services.stands c.args.svc.now)) (joined_state c.pays.new.self (g.S.Services.stands c.args.svc.now)) (c.if-not-pays.ensures.paid refl (g.S.Services.stands c.args.svc.now)) c.requires.safe in
     search rules
 
-pub evaluate-returns-in-Eval-clause-flows : goal.evaluate-returns-in-Eval-clause-flows
-evaluate-returns-in-Eval-clause-flows g t c =
-    let leads = begun_here c.args.here.now.code.now c.args.here.now.fun (spot c.args.here.now c.args.e.now).env c.args.e.now (joined_state c.args.state.now (g.S.Services.stands c.args.svc.now)) (joined_state c.pays.new.self (g.S.Services.stands c.args.svc.now))
-    (c.if-not-pays.ensures.paid refl (g.S.Services.stands c.args.svc.now)) in
-    flows_from c.eval.new.codes c.args.here.now.code.now c.args.here.now.fun (spot c.args.here.now c.args.e.now) _ _ c.eval.result (joined_state c.eval.new.state (g.S.Services.stands c.eval.new.svc)) leads c.eval.ensures.flows
+pub direct::evaluate-returns-in-Eval-clause-flows : goal.direct::evaluate-returns-in-Eval-clause-flows
+direct::evaluate-returns-in-Eval-clause-flows g t c =
+    begun_flows c.eval.new.codes c.args.here.now.code.now c.args.here.now.fun (spot c.args.here.now c.args.e.now).env c.args.e.now (joined_state c.args.state.now (g.S.Services.stands c.args.svc.now)) (joined_state c.pays.new.self (g.S.Services.stands c.args.svc.now)) (joined_state c.eval.new.state (g.S.Services.stands c.eval.new.svc)) c.eval.result (c.if-not-pays.ensures.paid refl (g.S.Services.stands c.args.svc.now)) c.eval.ensures.flows
 
-pub row-all_parts-requires : goal.row-all_parts-requires
-row-all_parts-requires g t c =
+pub rows::row-all_parts-requires : goal.rows::row-all_parts-requires
+rows::row-all_parts-requires g t c =
     let parts : parts_of (out-Expr c.args.e.now) ≡ c.as_slice.result.now = rw c.as_slice.ensures c.requires.parts in
     search rules
 
-pub row-finish_row-requires : goal.row-finish_row-requires
-row-finish_row-requires g t c =
+pub rows::row-finish_row-requires : goal.rows::row-finish_row-requires
+rows::row-finish_row-requires g t c =
     let is : c.all_parts.result ≡ Ok (row.All c.in-Ok-All.values) = cc in
     let leads = rw is at c.all_parts.ensures.rows in
     let here = here_grown _ _ _ c.all_parts.ensures.grown c.requires.here in
     let safe : IsSafe (row_gave c.args.here.now.code.now c.args.here.now.fun (spot c.args.here.now c.args.e.now) c.in-Ok-All.values (joined_state c.all_parts.new.state (g.S.Services.stands c.all_parts.new.svc))).asks = leads.safe c.requires.safe in
     search rules
 
-pub row-returns-in-Ok-All-clause-flows : goal.row-returns-in-Ok-All-clause-flows
-row-returns-in-Ok-All-clause-flows g t c =
+pub rows::row-returns-in-Ok-All-clause-flows : goal.rows::row-returns-in-Ok-All-clause-flows
+rows::row-returns-in-Ok-All-clause-flows g t c =
     let is : c.all_parts.result ≡ Ok (row.All c.in-Ok-All.values) = cc in
     flows_from c.finish_row.new.codes c.args.here.now.code.now c.args.here.now.fun (spot c.args.here.now c.args.e.now) _ _ c.finish_row.result (joined_state c.finish_row.new.state (g.S.Services.stands c.finish_row.new.svc)) (rw is at c.all_parts.ensures.rows) c.finish_row.ensures.flows
 
-pub finish_row-invoke-requires : goal.finish_row-invoke-requires
-finish_row-invoke-requires g t c =
+pub rows::finish_row-invoke-requires : goal.rows::finish_row-invoke-requires
+rows::finish_row-invoke-requires g t c =
     let form : out-Expr c.args.e.now ≡ Expr-F.Call c.in-Call.f c.in-Call.field-1 = rw c.in-Call.is (call_form c.in-Call.f c.in-Call.field-1) in
     let safe : IsSafe (call_of c.args.here.now.code.now c.args.here.now.fun c.in-Call.f c.args.values (joined_state c.args.state.now (g.S.Services.stands c.args.svc.now))).asks = (call_gave c.args.here.now.code.now c.args.here.now.fun c.args.e.now (spot c.args.here.now c.args.e.now).env c.args.values (joined_state c.args.state.now (g.S.Services.stands c.args.svc.now)) c.in-Call.f c.in-Call.field-1 form).safe c.requires.safe in
     search rules
 
-pub finish_row-returns-in-Call-clause-flows : goal.finish_row-returns-in-Call-clause-flows
-finish_row-returns-in-Call-clause-flows g t c =
+pub rows::finish_row-returns-in-Call-clause-flows : goal.rows::finish_row-returns-in-Call-clause-flows
+rows::finish_row-returns-in-Call-clause-flows g t c =
     let form : out-Expr c.args.e.now ≡ Expr-F.Call c.in-Call.f c.in-Call.field-1 = rw c.in-Call.is (call_form c.in-Call.f c.in-Call.field-1) in
     flows_from c.invoke.new.codes c.args.here.now.code.now c.args.here.now.fun (spot c.args.here.now c.args.e.now) _ _ c.invoke.result (joined_state c.invoke.new.state (g.S.Services.stands c.invoke.new.svc))
     (call_gave c.args.here.now.code.now c.args.here.now.fun c.args.e.now (spot c.args.here.now c.args.e.now).env c.args.values (joined_state c.args.state.now (g.S.Services.stands c.args.svc.now)) c.in-Call.f c.in-Call.field-1 form) c.invoke.ensures.flows
 
-pub finish_row-returns-in-ChunkOf-clause-flows : goal.finish_row-returns-in-ChunkOf-clause-flows
-finish_row-returns-in-ChunkOf-clause-flows g t c =
+pub rows::finish_row-returns-in-ChunkOf-clause-flows : goal.rows::finish_row-returns-in-ChunkOf-clause-flows
+rows::finish_row-returns-in-ChunkOf-clause-flows g t c =
     let form : out-Expr c.args.e.now ≡ Expr-F.ChunkOf c.in-ChunkOf.f c.in-ChunkOf.field-1 = rw c.in-ChunkOf.is (chunk_form c.in-ChunkOf.f c.in-ChunkOf.field-1) in
     flows_from c.args.codes.now c.args.here.now.code.now c.args.here.now.fun (spot c.args.here.now c.args.e.now) _ _ c.pack_chunk.result (joined_state c.pack_chunk.new.state (g.S.Services.stands c.args.svc.now))
     (chunk_gave c.args.here.now.code.now c.args.here.now.fun c.args.e.now (spot c.args.here.now c.args.e.now).env c.args.values (joined_state c.args.state.now (g.S.Services.stands c.args.svc.now)) c.in-ChunkOf.f c.in-ChunkOf.field-1 form)
     (c.pack_chunk.ensures.flows c.args.codes.now c.args.here.now.fun (spot c.args.here.now c.args.e.now) (g.S.Services.stands c.args.svc.now))
 
-pub finish_row-returns-in-Tuple-clause-flows : goal.finish_row-returns-in-Tuple-clause-flows
-finish_row-returns-in-Tuple-clause-flows g t c =
+pub rows::finish_row-returns-in-Tuple-clause-flows : goal.rows::finish_row-returns-in-Tuple-clause-flows
+rows::finish_row-returns-in-Tuple-clause-flows g t c =
     let form : out-Expr c.args.e.now ≡ Expr-F.Tuple c.in-Tuple.field-0 = rw c.in-Tuple.is (tuple_form c.in-Tuple.field-0) in
     flows_from c.args.codes.now c.args.here.now.code.now c.args.here.now.fun (spot c.args.here.now c.args.e.now) _ _ c.ended_by_value.result (joined_state c.ended_by_value.new.state (g.S.Services.stands c.args.svc.now))
     (tuple_gave c.args.here.now.code.now c.args.here.now.fun c.args.e.now (spot c.args.here.now c.args.e.now).env c.args.values (joined_state c.args.state.now (g.S.Services.stands c.args.svc.now)) c.in-Tuple.field-0 form)
     (c.ended_by_value.ensures.flows c.args.codes.now c.args.here.now.code.now c.args.here.now.fun (spot c.args.here.now c.args.e.now) (g.S.Services.stands c.args.svc.now))
 
-pub evaluate-row-requires : goal.evaluate-row-requires
-evaluate-row-requires g t c =
+pub direct::evaluate-row-requires : goal.direct::evaluate-row-requires
+direct::evaluate-row-requires g t c =
     let form : out-Expr c.args.e.now ≡ Expr-F.Tuple c.in-Tuple.es = rw c.in-Tuple.is (tuple_form c.in-Tuple.es) in
     let is_row : IsRow (out-Expr c.args.e.now) = rw form tt in
     let parts : parts_of (out-Expr c.args.e.now) ≡ c.in-Tuple.es = rw form refl in
-    let leads = begun_here c.args.here.now.code.now c.args.here.now.fun (spot c.args.here.now c.args.e.now).env c.args.e.now (joined_state c.args.state.now (g.S.Services.stands c.args.svc.now)) (joined_state c.pays.new.self (g.S.Services.stands c.args.svc.now))
-    (c.if-not-pays.ensures.paid refl (g.S.Services.stands c.args.svc.now)) in
-    let safe : IsSafe (begins c.args.here.now.code.now c.args.here.now.fun (spot c.args.here.now c.args.e.now) (joined_state c.pays.new.self (g.S.Services.stands c.args.svc.now))).asks = leads.safe c.requires.safe in
+    let safe : IsSafe (begins c.args.here.now.code.now c.args.here.now.fun (spot c.args.here.now c.args.e.now) (joined_state c.pays.new.self (g.S.Services.stands c.args.svc.now))).asks = begun_safe c.args.here.now.code.now c.args.here.now.fun (spot c.args.here.now c.args.e.now).env c.args.e.now (joined_state c.args.state.now (g.S.Services.stands c.args.svc.now)) (joined_state c.pays.new.self (g.S.Services.stands c.args.svc.now)) (c.if-not-pays.ensures.paid refl (g.S.Services.stands c.args.svc.now)) c.requires.safe in
     search rules
 
-pub evaluate-returns-in-Tuple-clause-flows : goal.evaluate-returns-in-Tuple-clause-flows
-evaluate-returns-in-Tuple-clause-flows g t c =
-    let leads = begun_here c.args.here.now.code.now c.args.here.now.fun (spot c.args.here.now c.args.e.now).env c.args.e.now (joined_state c.args.state.now (g.S.Services.stands c.args.svc.now)) (joined_state c.pays.new.self (g.S.Services.stands c.args.svc.now))
-    (c.if-not-pays.ensures.paid refl (g.S.Services.stands c.args.svc.now)) in
-    flows_from c.row.new.codes c.args.here.now.code.now c.args.here.now.fun (spot c.args.here.now c.args.e.now) _ _ c.row.result (joined_state c.row.new.state (g.S.Services.stands c.row.new.svc)) leads c.row.ensures.flows
+pub direct::evaluate-returns-in-Tuple-clause-flows : goal.direct::evaluate-returns-in-Tuple-clause-flows
+direct::evaluate-returns-in-Tuple-clause-flows g t c =
+    begun_flows c.row.new.codes c.args.here.now.code.now c.args.here.now.fun (spot c.args.here.now c.args.e.now).env c.args.e.now (joined_state c.args.state.now (g.S.Services.stands c.args.svc.now)) (joined_state c.pays.new.self (g.S.Services.stands c.args.svc.now)) (joined_state c.row.new.state (g.S.Services.stands c.row.new.svc)) c.row.result (c.if-not-pays.ensures.paid refl (g.S.Services.stands c.args.svc.now)) c.row.ensures.flows
 
-pub evaluate-row-requires-in-Call : goal.evaluate-row-requires-in-Call
-evaluate-row-requires-in-Call g t c =
+pub direct::evaluate-row-requires-in-Call : goal.direct::evaluate-row-requires-in-Call
+direct::evaluate-row-requires-in-Call g t c =
     let form : out-Expr c.args.e.now ≡ Expr-F.Call c.in-Call.field-0 c.in-Call.es = rw c.in-Call.is (call_form c.in-Call.field-0 c.in-Call.es) in
     let is_row : IsRow (out-Expr c.args.e.now) = rw form tt in
     let parts : parts_of (out-Expr c.args.e.now) ≡ c.in-Call.es = rw form refl in
-    let leads = begun_here c.args.here.now.code.now c.args.here.now.fun (spot c.args.here.now c.args.e.now).env c.args.e.now (joined_state c.args.state.now (g.S.Services.stands c.args.svc.now)) (joined_state c.pays.new.self (g.S.Services.stands c.args.svc.now))
-    (c.if-not-pays.ensures.paid refl (g.S.Services.stands c.args.svc.now)) in
-    let safe : IsSafe (begins c.args.here.now.code.now c.args.here.now.fun (spot c.args.here.now c.args.e.now) (joined_state c.pays.new.self (g.S.Services.stands c.args.svc.now))).asks = leads.safe c.requires.safe in
+    let safe : IsSafe (begins c.args.here.now.code.now c.args.here.now.fun (spot c.args.here.now c.args.e.now) (joined_state c.pays.new.self (g.S.Services.stands c.args.svc.now))).asks = begun_safe c.args.here.now.code.now c.args.here.now.fun (spot c.args.here.now c.args.e.now).env c.args.e.now (joined_state c.args.state.now (g.S.Services.stands c.args.svc.now)) (joined_state c.pays.new.self (g.S.Services.stands c.args.svc.now)) (c.if-not-pays.ensures.paid refl (g.S.Services.stands c.args.svc.now)) c.requires.safe in
     search rules
 
-pub evaluate-returns-in-Call-clause-flows : goal.evaluate-returns-in-Call-clause-flows
-evaluate-returns-in-Call-clause-flows g t c =
-    let leads = begun_here c.args.here.now.code.now c.args.here.now.fun (spot c.args.here.now c.args.e.now).env c.args.e.now (joined_state c.args.state.now (g.S.Services.stands c.args.svc.now)) (joined_state c.pays.new.self (g.S.Services.stands c.args.svc.now))
-    (c.if-not-pays.ensures.paid refl (g.S.Services.stands c.args.svc.now)) in
-    flows_from c.row-in-Call.new.codes c.args.here.now.code.now c.args.here.now.fun (spot c.args.here.now c.args.e.now) _ _ c.row-in-Call.result (joined_state c.row-in-Call.new.state (g.S.Services.stands c.row-in-Call.new.svc)) leads c.row-in-Call.ensures.flows
+pub direct::evaluate-returns-in-Call-clause-flows : goal.direct::evaluate-returns-in-Call-clause-flows
+direct::evaluate-returns-in-Call-clause-flows g t c =
+    begun_flows c.row-in-Call.new.codes c.args.here.now.code.now c.args.here.now.fun (spot c.args.here.now c.args.e.now).env c.args.e.now (joined_state c.args.state.now (g.S.Services.stands c.args.svc.now)) (joined_state c.pays.new.self (g.S.Services.stands c.args.svc.now)) (joined_state c.row-in-Call.new.state (g.S.Services.stands c.row-in-Call.new.svc)) c.row-in-Call.result (c.if-not-pays.ensures.paid refl (g.S.Services.stands c.args.svc.now)) c.row-in-Call.ensures.flows
 
-pub evaluate-row-requires-in-ChunkOf : goal.evaluate-row-requires-in-ChunkOf
-evaluate-row-requires-in-ChunkOf g t c =
+pub direct::evaluate-row-requires-in-ChunkOf : goal.direct::evaluate-row-requires-in-ChunkOf
+direct::evaluate-row-requires-in-ChunkOf g t c =
     let form : out-Expr c.args.e.now ≡ Expr-F.ChunkOf c.in-ChunkOf.field-0 c.in-ChunkOf.es = rw c.in-ChunkOf.is (chunk_form c.in-ChunkOf.field-0 c.in-ChunkOf.es) in
     let is_row : IsRow (out-Expr c.args.e.now) = rw form tt in
     let parts : parts_of (out-Expr c.args.e.now) ≡ c.in-ChunkOf.es = rw form refl in
-    let leads = begun_here c.args.here.now.code.now c.args.here.now.fun (spot c.args.here.now c.args.e.now).env c.args.e.now (joined_state c.args.state.now (g.S.Services.stands c.args.svc.now)) (joined_state c.pays.new.self (g.S.Services.stands c.args.svc.now))
-    (c.if-not-pays.ensures.paid refl (g.S.Services.stands c.args.svc.now)) in
-    let safe : IsSafe (begins c.args.here.now.code.now c.args.here.now.fun (spot c.args.here.now c.args.e.now) (joined_state c.pays.new.self (g.S.Services.stands c.args.svc.now))).asks = leads.safe c.requires.safe in
+    let safe : IsSafe (begins c.args.here.now.code.now c.args.here.now.fun (spot c.args.here.now c.args.e.now) (joined_state c.pays.new.self (g.S.Services.stands c.args.svc.now))).asks = begun_safe c.args.here.now.code.now c.args.here.now.fun (spot c.args.here.now c.args.e.now).env c.args.e.now (joined_state c.args.state.now (g.S.Services.stands c.args.svc.now)) (joined_state c.pays.new.self (g.S.Services.stands c.args.svc.now)) (c.if-not-pays.ensures.paid refl (g.S.Services.stands c.args.svc.now)) c.requires.safe in
     search rules
 
-pub evaluate-returns-in-ChunkOf-clause-flows : goal.evaluate-returns-in-ChunkOf-clause-flows
-evaluate-returns-in-ChunkOf-clause-flows g t c =
-    let leads = begun_here c.args.here.now.code.now c.args.here.now.fun (spot c.args.here.now c.args.e.now).env c.args.e.now (joined_state c.args.state.now (g.S.Services.stands c.args.svc.now)) (joined_state c.pays.new.self (g.S.Services.stands c.args.svc.now))
-    (c.if-not-pays.ensures.paid refl (g.S.Services.stands c.args.svc.now)) in
-    flows_from c.row-in-ChunkOf.new.codes c.args.here.now.code.now c.args.here.now.fun (spot c.args.here.now c.args.e.now) _ _ c.row-in-ChunkOf.result (joined_state c.row-in-ChunkOf.new.state (g.S.Services.stands c.row-in-ChunkOf.new.svc)) leads c.row-in-ChunkOf.ensures.flows
+pub direct::evaluate-returns-in-ChunkOf-clause-flows : goal.direct::evaluate-returns-in-ChunkOf-clause-flows
+direct::evaluate-returns-in-ChunkOf-clause-flows g t c =
+    begun_flows c.row-in-ChunkOf.new.codes c.args.here.now.code.now c.args.here.now.fun (spot c.args.here.now c.args.e.now).env c.args.e.now (joined_state c.args.state.now (g.S.Services.stands c.args.svc.now)) (joined_state c.pays.new.self (g.S.Services.stands c.args.svc.now)) (joined_state c.row-in-ChunkOf.new.state (g.S.Services.stands c.row-in-ChunkOf.new.svc)) c.row-in-ChunkOf.result (c.if-not-pays.ensures.paid refl (g.S.Services.stands c.args.svc.now)) c.row-in-ChunkOf.ensures.flows
 
-pub evaluate-binding-requires : goal.evaluate-binding-requires
-evaluate-binding-requires g t c =
+pub direct::evaluate-binding-requires : goal.direct::evaluate-binding-requires
+direct::evaluate-binding-requires g t c =
     let form : out-Expr c.args.e.now ≡ Expr-F.Let c.in-Let.x c.in-Let.field-1 c.get-a-in-Let.result.now c.get-b-in-Let.result.now =
     rw (c.in-Let.is, c.get-a-in-Let.ensures, c.get-b-in-Let.ensures) (let_form c.in-Let.x c.in-Let.field-1 c.in-Let.a c.in-Let.b) in
-    let leads = begun_here c.args.here.now.code.now c.args.here.now.fun (spot c.args.here.now c.args.e.now).env c.args.e.now (joined_state c.args.state.now (g.S.Services.stands c.args.svc.now)) (joined_state c.pays.new.self (g.S.Services.stands c.args.svc.now))
-    (c.if-not-pays.ensures.paid refl (g.S.Services.stands c.args.svc.now)) in
-    let safe : IsSafe (begins c.args.here.now.code.now c.args.here.now.fun (spot c.args.here.now c.args.e.now) (joined_state c.pays.new.self (g.S.Services.stands c.args.svc.now))).asks = leads.safe c.requires.safe in
+    let safe : IsSafe (begins c.args.here.now.code.now c.args.here.now.fun (spot c.args.here.now c.args.e.now) (joined_state c.pays.new.self (g.S.Services.stands c.args.svc.now))).asks = begun_safe c.args.here.now.code.now c.args.here.now.fun (spot c.args.here.now c.args.e.now).env c.args.e.now (joined_state c.args.state.now (g.S.Services.stands c.args.svc.now)) (joined_state c.pays.new.self (g.S.Services.stands c.args.svc.now)) (c.if-not-pays.ensures.paid refl (g.S.Services.stands c.args.svc.now)) c.requires.safe in
     search rules
 
-pub evaluate-returns-in-Let-clause-flows : goal.evaluate-returns-in-Let-clause-flows
-evaluate-returns-in-Let-clause-flows g t c =
-    let leads = begun_here c.args.here.now.code.now c.args.here.now.fun (spot c.args.here.now c.args.e.now).env c.args.e.now (joined_state c.args.state.now (g.S.Services.stands c.args.svc.now)) (joined_state c.pays.new.self (g.S.Services.stands c.args.svc.now))
-    (c.if-not-pays.ensures.paid refl (g.S.Services.stands c.args.svc.now)) in
-    flows_from c.binding.new.codes c.args.here.now.code.now c.args.here.now.fun (spot c.args.here.now c.args.e.now) _ _ c.binding.result (joined_state c.binding.new.state (g.S.Services.stands c.binding.new.svc)) leads c.binding.ensures.flows
+pub direct::evaluate-returns-in-Let-clause-flows : goal.direct::evaluate-returns-in-Let-clause-flows
+direct::evaluate-returns-in-Let-clause-flows g t c =
+    begun_flows c.binding.new.codes c.args.here.now.code.now c.args.here.now.fun (spot c.args.here.now c.args.e.now).env c.args.e.now (joined_state c.args.state.now (g.S.Services.stands c.args.svc.now)) (joined_state c.pays.new.self (g.S.Services.stands c.args.svc.now)) (joined_state c.binding.new.state (g.S.Services.stands c.binding.new.svc)) c.binding.result (c.if-not-pays.ensures.paid refl (g.S.Services.stands c.args.svc.now)) c.binding.ensures.flows
 
 -- ---- names
 
-pub binding-evaluate-requires : goal.binding-evaluate-requires
-binding-evaluate-requires g t c =
+pub direct::binding-evaluate-requires : goal.direct::binding-evaluate-requires
+direct::binding-evaluate-requires g t c =
     let safe : IsSafe (meaning c.args.here.now.code.now c.args.here.now.fun (spot c.args.here.now c.args.e.now).env c.args.a.now (joined_state c.args.state.now (g.S.Services.stands c.args.svc.now))).asks = first_safe c.args.here.now.code.now c.args.here.now.fun (spot c.args.here.now c.args.e.now) c.args.a.now (joined_state c.args.state.now (g.S.Services.stands c.args.svc.now)) (let_parts c.args.here.now.code.now c.args.here.now.fun c.args.e.now c.args.x.now c.requires.form.0 c.args.a.now c.args.b.now (spot c.args.here.now c.args.e.now).env c.requires.form.1) (let_first c.args.here.now.code.now c.args.here.now.fun c.args.e.now c.args.x.now c.requires.form.0 c.args.a.now c.args.b.now (spot c.args.here.now c.args.e.now).env c.requires.form.1) c.requires.safe in
     search rules
 
-pub binding-under_name-flow-requires : goal.binding-under_name-flow-requires
-binding-under_name-flow-requires g t c =
+pub direct::binding-under_name-flow-requires : goal.direct::binding-under_name-flow-requires
+direct::binding-under_name-flow-requires g t c =
     let is : c.evaluate.result ≡ Ok (flow.Done c.in-Ok-Done.v) = cc in
     let leads = let_leads c.args.here.now.code.now c.args.here.now.fun c.args.e.now c.args.x.now c.requires.form.0 c.args.a.now c.args.b.now (spot c.args.here.now c.args.e.now).env c.requires.form.1 (joined_state c.args.state.now (g.S.Services.stands c.args.svc.now)) (joined_state c.evaluate.new.state (g.S.Services.stands c.evaluate.new.svc)) c.in-Ok-Done.v (rw is at c.evaluate.ensures.flows) in
     let here = here_grown _ _ _ c.evaluate.ensures.grown c.requires.here in
     let safe : IsSafe (meaning c.args.here.now.code.now c.args.here.now.fun (named_spot c.args.here.now c.args.x.now c.in-Ok-Done.v c.args.b.now).env c.args.b.now (joined_state c.evaluate.new.state (g.S.Services.stands c.evaluate.new.svc))).asks = resume_asks c.args.here.now.code.now c.args.here.now.fun (spot c.args.here.now c.args.e.now) (frame.Bound c.in-Ok-Done.v) _ (leads.safe c.requires.safe) in
     search rules
 
-pub binding-returns-in-Ok-Done-clause-flows : goal.binding-returns-in-Ok-Done-clause-flows
-binding-returns-in-Ok-Done-clause-flows g t c =
+pub direct::binding-returns-in-Ok-Done-clause-flows : goal.direct::binding-returns-in-Ok-Done-clause-flows
+direct::binding-returns-in-Ok-Done-clause-flows g t c =
     let is : c.evaluate.result ≡ Ok (flow.Done c.in-Ok-Done.v) = cc in
     let leads = let_leads c.args.here.now.code.now c.args.here.now.fun c.args.e.now c.args.x.now c.requires.form.0 c.args.a.now c.args.b.now (spot c.args.here.now c.args.e.now).env c.requires.form.1 (joined_state c.args.state.now (g.S.Services.stands c.args.svc.now)) (joined_state c.evaluate.new.state (g.S.Services.stands c.evaluate.new.svc)) c.in-Ok-Done.v (rw is at c.evaluate.ensures.flows) in
     flows_from c.under_name-flow.new.codes c.args.here.now.code.now c.args.here.now.fun (spot c.args.here.now c.args.e.now) _ _ c.bound_back.result (joined_state c.bound_back.new.state (g.S.Services.stands c.under_name-flow.new.svc)) leads
     (c.bound_back.ensures.flows c.under_name-flow.new.codes c.args.here.now.code.now c.args.here.now.fun (spot c.args.here.now c.args.e.now) _ _ (g.S.Services.stands c.under_name-flow.new.svc) (let_body c.args.here.now.code.now c.args.here.now.fun c.args.e.now c.args.x.now c.requires.form.0 c.args.a.now c.args.b.now (spot c.args.here.now c.args.e.now).env c.requires.form.1 c.in-Ok-Done.v) c.under_name-flow.ensures.flows)
 
-pub binding-returns-in_ok-inside-in-Ok-Wait-clause-flows : goal.binding-returns-in_ok-inside-in-Ok-Wait-clause-flows
-binding-returns-in_ok-inside-in-Ok-Wait-clause-flows g t c =
+pub direct::binding-returns-in_ok-inside-in-Ok-Wait-clause-flows : goal.direct::binding-returns-in_ok-inside-in-Ok-Wait-clause-flows
+direct::binding-returns-in_ok-inside-in-Ok-Wait-clause-flows g t c =
     let is : c.evaluate.result ≡ Ok (flow.Wait c.in-Ok-Wait.rest) = cc in
     rw (c.in_ok-inside-in-Ok-Wait.ensures, c.new.ensures)
     (waits_inside c.evaluate.new.codes c.args.here.now.code.now c.args.here.now.fun (spot c.args.here.now c.args.e.now) (frame.Part 0 []) _ (let_first c.args.here.now.code.now c.args.here.now.fun c.args.e.now c.args.x.now c.requires.form.0 c.args.a.now c.args.b.now (spot c.args.here.now c.args.e.now).env c.requires.form.1) c.in-Ok-Wait.rest (joined_state c.evaluate.new.state (g.S.Services.stands c.evaluate.new.svc)) _ _ (first_leads c.args.here.now.code.now c.args.here.now.fun (spot c.args.here.now c.args.e.now) c.args.a.now (joined_state c.args.state.now (g.S.Services.stands c.args.svc.now)) (let_parts c.args.here.now.code.now c.args.here.now.fun c.args.e.now c.args.x.now c.requires.form.0 c.args.a.now c.args.b.now (spot c.args.here.now c.args.e.now).env c.requires.form.1) (let_first c.args.here.now.code.now c.args.here.now.fun c.args.e.now c.args.x.now c.requires.form.0 c.args.a.now c.args.b.now (spot c.args.here.now c.args.e.now).env c.requires.form.1)) (rw is at c.evaluate.ensures.flows))
 
-pub binding-returns-in-Err-clause-flows : goal.binding-returns-in-Err-clause-flows
-binding-returns-in-Err-clause-flows g t c = λ other.
+pub direct::binding-returns-in-Err-clause-flows : goal.direct::binding-returns-in-Err-clause-flows
+direct::binding-returns-in-Err-clause-flows g t c = λ other.
     let is : c.evaluate.result ≡ Err c.in-Err.stop = cc in
-    let ends = (rw is at c.evaluate.ensures.flows) other in
-    (first_leads c.args.here.now.code.now c.args.here.now.fun (spot c.args.here.now c.args.e.now) c.args.a.now (joined_state c.args.state.now (g.S.Services.stands c.args.svc.now)) (let_parts c.args.here.now.code.now c.args.here.now.fun c.args.e.now c.args.x.now c.requires.form.0 c.args.a.now c.args.b.now (spot c.args.here.now c.args.e.now).env c.requires.form.1) (let_first c.args.here.now.code.now c.args.here.now.fun c.args.e.now c.args.x.now c.requires.form.0 c.args.a.now c.args.b.now (spot c.args.here.now c.args.e.now).env c.requires.form.1)).same ∙ part_stops_so c.args.here.now.code.now c.args.here.now.fun (spot c.args.here.now c.args.e.now) 0 [] _ c.in-Err.stop _ (let_no_try c.args.here.now.code.now c.args.here.now.fun c.args.e.now c.args.x.now c.requires.form.0 c.args.a.now c.args.b.now (spot c.args.here.now c.args.e.now).env c.requires.form.1) ends
+    (first_leads c.args.here.now.code.now c.args.here.now.fun (spot c.args.here.now c.args.e.now) c.args.a.now (joined_state c.args.state.now (g.S.Services.stands c.args.svc.now)) (let_parts c.args.here.now.code.now c.args.here.now.fun c.args.e.now c.args.x.now c.requires.form.0 c.args.a.now c.args.b.now (spot c.args.here.now c.args.e.now).env c.requires.form.1) (let_first c.args.here.now.code.now c.args.here.now.fun c.args.e.now c.args.x.now c.requires.form.0 c.args.a.now c.args.b.now (spot c.args.here.now c.args.e.now).env c.requires.form.1)).same ∙ part_stops_so c.args.here.now.code.now c.args.here.now.fun (spot c.args.here.now c.args.e.now) 0 [] _ c.in-Err.stop _ (let_no_try c.args.here.now.code.now c.args.here.now.fun c.args.e.now c.args.x.now c.requires.form.0 c.args.a.now c.args.b.now (spot c.args.here.now c.args.e.now).env c.requires.form.1) ((rw is at c.evaluate.ensures.flows) other)
 
-pub under_name-evaluate-requires : goal.under_name-evaluate-requires
-under_name-evaluate-requires g t c =
+pub direct::under_name-evaluate-requires : goal.direct::under_name-evaluate-requires
+direct::under_name-evaluate-requires g t c =
     let is : env_of c.args.here.now.function.now c.args.here.now.args.now c.args.here.now.frames.now ++ bound_here c.as_slice.result.now ≡ (named_spot c.args.here.now c.args.x.now c.args.v.now c.args.b.now).env =
     one_name (env_of c.args.here.now.function.now c.args.here.now.args.now c.args.here.now.frames.now) c.args.here.now.bindings.now _ c.as_slice.result.now _ (c.as_slice.ensures ∙ c.in_ok-add.ensures.ok) c.in_ok-bindings.ensures in
     let here = c.requires.here in
     let safe : IsSafe (meaning c.args.here.now.code.now c.args.here.now.fun (env_of c.args.here.now.function.now c.args.here.now.args.now c.args.here.now.frames.now ++ bound_here c.as_slice.result.now) c.args.b.now (joined_state c.args.state.now (g.S.Services.stands c.args.svc.now))).asks = rw is c.requires.safe in
     search rules
 
-pub under_name-returns-clause-flows : goal.under_name-returns-clause-flows
-under_name-returns-clause-flows g t c =
+pub direct::under_name-returns-clause-flows : goal.direct::under_name-returns-clause-flows
+direct::under_name-returns-clause-flows g t c =
     let is : env_of c.args.here.now.function.now c.args.here.now.args.now c.args.here.now.frames.now ++ bound_here c.as_slice.result.now ≡ (named_spot c.args.here.now c.args.x.now c.args.v.now c.args.b.now).env =
     one_name (env_of c.args.here.now.function.now c.args.here.now.args.now c.args.here.now.frames.now) c.args.here.now.bindings.now _ c.as_slice.result.now _ (c.as_slice.ensures ∙ c.in_ok-add.ensures.ok) c.in_ok-bindings.ensures in
     rw is at c.evaluate.ensures.flows
 
-pub invoke-enter-flow-requires : goal.invoke-enter-flow-requires
-invoke-enter-flow-requires g t c =
+pub rows::invoke-enter-flow-requires : goal.rows::invoke-enter-flow-requires
+rows::invoke-enter-flow-requires g t c =
     let is : c.begin_call.result ≡ Ok (next.Call c.in-Ok-Call.fun c.in-Ok-Call.passed) = cc in
     let leads = rw is at (c.begin_call.ensures.decides (spot c.args.here.now c.args.e.now)) in
     let program = c.requires.here.program in
@@ -556,47 +515,47 @@ invoke-enter-flow-requires g t c =
     resume_asks c.args.here.now.code.now c.args.here.now.fun (spot c.args.here.now c.args.e.now) frame.Body _ (leads.safe c.requires.safe) in
     search rules
 
-pub invoke-returns-in-Ok-Give-clause-flows : goal.invoke-returns-in-Ok-Give-clause-flows
-invoke-returns-in-Ok-Give-clause-flows g t c =
+pub rows::invoke-returns-in-Ok-Give-clause-flows : goal.rows::invoke-returns-in-Ok-Give-clause-flows
+rows::invoke-returns-in-Ok-Give-clause-flows g t c =
     let is : c.begin_call.result ≡ Ok (next.Give c.in-Ok-Give.v) = cc in
     flows_from c.args.codes.now c.args.here.now.code.now c.args.here.now.fun (spot c.args.here.now c.args.e.now) _ _ c.ended_by_value.result (joined_state c.ended_by_value.new.state (g.S.Services.stands c.begin_call.new.svc))
     (rw is at (c.begin_call.ensures.decides (spot c.args.here.now c.args.e.now))) (c.ended_by_value.ensures.flows c.args.codes.now c.args.here.now.code.now c.args.here.now.fun (spot c.args.here.now c.args.e.now) (g.S.Services.stands c.begin_call.new.svc))
 
-pub invoke-returns-in-Ok-Call-clause-flows : goal.invoke-returns-in-Ok-Call-clause-flows
-invoke-returns-in-Ok-Call-clause-flows g t c =
+pub rows::invoke-returns-in-Ok-Call-clause-flows : goal.rows::invoke-returns-in-Ok-Call-clause-flows
+rows::invoke-returns-in-Ok-Call-clause-flows g t c =
     let is : c.begin_call.result ≡ Ok (next.Call c.in-Ok-Call.fun c.in-Ok-Call.passed) = cc in
     flows_from c.enter-flow.new.codes c.args.here.now.code.now c.args.here.now.fun (spot c.args.here.now c.args.e.now) _ _ c.body_back.result (joined_state c.body_back.new.state (g.S.Services.stands c.enter-flow.new.svc))
     (rw is at (c.begin_call.ensures.decides (spot c.args.here.now c.args.e.now))) (c.body_back.ensures.flows c.enter-flow.new.codes c.args.here.now.code.now c.args.here.now.fun (spot c.args.here.now c.args.e.now) _ (g.S.Services.stands c.enter-flow.new.svc) c.enter-flow.ensures.enters)
 
-pub invoke-returns-in-Err-clause-flows : goal.invoke-returns-in-Err-clause-flows
-invoke-returns-in-Err-clause-flows g t c = λ other.
+pub rows::invoke-returns-in-Err-clause-flows : goal.rows::invoke-returns-in-Err-clause-flows
+rows::invoke-returns-in-Err-clause-flows g t c = λ other.
     let is : c.begin_call.result ≡ Err c.in-Err.stop = cc in
     (rw is at (c.begin_call.ensures.decides (spot c.args.here.now c.args.e.now))) other
 
 -- ---- evals
 
-pub eval-eval_packing-requires : goal.eval-eval_packing-requires
-eval-eval_packing-requires g t c =
+pub rows::eval-eval_packing-requires : goal.rows::eval-eval_packing-requires
+rows::eval-eval_packing-requires g t c =
     let is : c.args.a.now ≡ expr.ChunkOf c.in-ChunkOf.f c.in-ChunkOf.es = cc in
     let packs : out-Expr c.args.a.now ≡ Expr-F.ChunkOf c.in-ChunkOf.f c.in-ChunkOf.es = rw is (chunk_form c.in-ChunkOf.f c.in-ChunkOf.es) in
     search rules
 
-pub eval_packing-returns-then-not-pays-clause-flows : goal.eval_packing-returns-then-not-pays-clause-flows
-eval_packing-returns-then-not-pays-clause-flows g t c = λ other.
+pub rows::eval_packing-returns-then-not-pays-clause-flows : goal.rows::eval_packing-returns-then-not-pays-clause-flows
+rows::eval_packing-returns-then-not-pays-clause-flows g t c = λ other.
     let ends = begun_spent c.args.here.now.code.now c.args.here.now.fun (spot c.args.here.now c.args.e.now).env c.args.a.now WorkSpent (joined_state c.args.state.now (g.S.Services.stands c.args.svc.now)) _ (c.if-not-pays.ensures.unpaid refl (g.S.Services.stands c.args.svc.now)) in
     (first_leads c.args.here.now.code.now c.args.here.now.fun (spot c.args.here.now c.args.e.now) c.args.a.now (joined_state c.args.state.now (g.S.Services.stands c.args.svc.now)) (eval_parts c.args.here.now.code.now c.args.here.now.fun c.args.e.now c.args.a.now (spot c.args.here.now c.args.e.now).env c.requires.form) (eval_part c.args.here.now.code.now c.args.here.now.fun c.args.e.now c.args.a.now (spot c.args.here.now c.args.e.now).env c.requires.form)).same
     ∙ part_stops_so c.args.here.now.code.now c.args.here.now.fun (spot c.args.here.now c.args.e.now) 0 [] _ WorkSpent _ (eval_no_try c.args.here.now.code.now c.args.here.now.fun c.args.e.now c.args.a.now (spot c.args.here.now c.args.e.now).env c.requires.form) ends
 
-pub eval_packing-all_parts-requires : goal.eval_packing-all_parts-requires
-eval_packing-all_parts-requires g t c =
+pub rows::eval_packing-all_parts-requires : goal.rows::eval_packing-all_parts-requires
+rows::eval_packing-all_parts-requires g t c =
     let row : IsRow (out-Expr c.args.a.now) = rw c.requires.packs tt in
     let parts : parts_of (out-Expr c.args.a.now) ≡ c.as_slice.result.now = rw (c.requires.packs, c.as_slice.ensures) refl in
     let part_is_safe = first_safe c.args.here.now.code.now c.args.here.now.fun (spot c.args.here.now c.args.e.now) c.args.a.now (joined_state c.args.state.now (g.S.Services.stands c.args.svc.now)) (eval_parts c.args.here.now.code.now c.args.here.now.fun c.args.e.now c.args.a.now (spot c.args.here.now c.args.e.now).env c.requires.form) (eval_part c.args.here.now.code.now c.args.here.now.fun c.args.e.now c.args.a.now (spot c.args.here.now c.args.e.now).env c.requires.form) c.requires.safe in
     let safe : IsSafe (begins c.args.here.now.code.now c.args.here.now.fun (spot c.args.here.now c.args.a.now) (joined_state c.pays.new.self (g.S.Services.stands c.args.svc.now))).asks = (begun_here c.args.here.now.code.now c.args.here.now.fun (spot c.args.here.now c.args.e.now).env c.args.a.now (joined_state c.args.state.now (g.S.Services.stands c.args.svc.now)) (joined_state c.pays.new.self (g.S.Services.stands c.args.svc.now)) (c.if-not-pays.ensures.paid refl (g.S.Services.stands c.args.svc.now))).safe part_is_safe in
     search rules
 
-pub eval_packing-eval_packed-requires : goal.eval_packing-eval_packed-requires
-eval_packing-eval_packed-requires g t c =
+pub rows::eval_packing-eval_packed-requires : goal.rows::eval_packing-eval_packed-requires
+rows::eval_packing-eval_packed-requires g t c =
     let is : c.all_parts.result ≡ Ok (row.All c.in-Ok-All.args) = cc in
     let rows : Leads (begins c.args.here.now.code.now c.args.here.now.fun (spot c.args.here.now c.args.a.now) (joined_state c.pays.new.self (g.S.Services.stands c.args.svc.now))) (row_gave c.args.here.now.code.now c.args.here.now.fun (spot c.args.here.now c.args.a.now) c.in-Ok-All.args (joined_state c.all_parts.new.state (g.S.Services.stands c.all_parts.new.svc))) = rw is at c.all_parts.ensures.rows in
     let whole = packing_leads c.args.here.now.code.now c.args.here.now.fun c.args.e.now c.args.a.now (spot c.args.here.now c.args.e.now).env c.requires.form (weighed_value (value.Chunk (record { code = c.args.here.now.code.now; entry = c.args.f.now; args = c.in-Ok-All.args })) (joined_state c.all_parts.new.state (g.S.Services.stands c.all_parts.new.svc))) (joined_state c.args.state.now (g.S.Services.stands c.args.svc.now))
@@ -605,54 +564,54 @@ eval_packing-eval_packed-requires g t c =
     let safe : IsSafe (resume c.args.here.now.code.now c.args.here.now.fun (spot c.args.here.now c.args.e.now) (frame.Part 0 []) (weighed_value (value.Chunk (record { code = c.args.here.now.code.now; entry = c.args.f.now; args = c.in-Ok-All.args })) (joined_state c.all_parts.new.state (g.S.Services.stands c.all_parts.new.svc)))).asks = whole.safe c.requires.safe in
     search rules
 
-pub eval_packing-returns-in-Ok-All-clause-flows : goal.eval_packing-returns-in-Ok-All-clause-flows
-eval_packing-returns-in-Ok-All-clause-flows g t c =
+pub rows::eval_packing-returns-in-Ok-All-clause-flows : goal.rows::eval_packing-returns-in-Ok-All-clause-flows
+rows::eval_packing-returns-in-Ok-All-clause-flows g t c =
     let is : c.all_parts.result ≡ Ok (row.All c.in-Ok-All.args) = cc in
     let rows : Leads (begins c.args.here.now.code.now c.args.here.now.fun (spot c.args.here.now c.args.a.now) (joined_state c.pays.new.self (g.S.Services.stands c.args.svc.now))) (row_gave c.args.here.now.code.now c.args.here.now.fun (spot c.args.here.now c.args.a.now) c.in-Ok-All.args (joined_state c.all_parts.new.state (g.S.Services.stands c.all_parts.new.svc))) = rw is at c.all_parts.ensures.rows in
     let whole = packing_leads c.args.here.now.code.now c.args.here.now.fun c.args.e.now c.args.a.now (spot c.args.here.now c.args.e.now).env c.requires.form (weighed_value (value.Chunk (record { code = c.args.here.now.code.now; entry = c.args.f.now; args = c.in-Ok-All.args })) (joined_state c.all_parts.new.state (g.S.Services.stands c.all_parts.new.svc))) (joined_state c.args.state.now (g.S.Services.stands c.args.svc.now))
     (onward _ _ _ (begun_here c.args.here.now.code.now c.args.here.now.fun (spot c.args.here.now c.args.e.now).env c.args.a.now (joined_state c.args.state.now (g.S.Services.stands c.args.svc.now)) (joined_state c.pays.new.self (g.S.Services.stands c.args.svc.now)) (c.if-not-pays.ensures.paid refl (g.S.Services.stands c.args.svc.now))) (onward _ _ _ rows (chunk_gave c.args.here.now.code.now c.args.here.now.fun c.args.a.now (spot c.args.here.now c.args.e.now).env c.in-Ok-All.args (joined_state c.all_parts.new.state (g.S.Services.stands c.all_parts.new.svc)) c.args.f.now c.args.es.now c.requires.packs))) in
     flows_from c.eval_packed.new.codes c.args.here.now.code.now c.args.here.now.fun (spot c.args.here.now c.args.e.now) _ _ c.eval_packed.result (joined_state c.eval_packed.new.state (g.S.Services.stands c.eval_packed.new.svc)) whole c.eval_packed.ensures.flows
 
-pub eval_packing-returns-in_ok-inside-in-Ok-Wait-clause-flows : goal.eval_packing-returns-in_ok-inside-in-Ok-Wait-clause-flows
-eval_packing-returns-in_ok-inside-in-Ok-Wait-clause-flows g t c =
+pub rows::eval_packing-returns-in_ok-inside-in-Ok-Wait-clause-flows : goal.rows::eval_packing-returns-in_ok-inside-in-Ok-Wait-clause-flows
+rows::eval_packing-returns-in_ok-inside-in-Ok-Wait-clause-flows g t c =
     let is : c.all_parts.result ≡ Ok (row.Wait c.in-Ok-Wait.rest) = cc in
     let rows : Waits c.all_parts.new.codes c.args.here.now.code.now c.args.here.now.fun (spot c.args.here.now c.args.a.now) (begins c.args.here.now.code.now c.args.here.now.fun (spot c.args.here.now c.args.a.now) (joined_state c.pays.new.self (g.S.Services.stands c.args.svc.now))) c.in-Ok-Wait.rest (joined_state c.all_parts.new.state (g.S.Services.stands c.all_parts.new.svc)) = rw is at c.all_parts.ensures.rows in
     rw (c.in_ok-inside-in-Ok-Wait.ensures, c.new.ensures)
     (waits_inside c.all_parts.new.codes c.args.here.now.code.now c.args.here.now.fun (spot c.args.here.now c.args.e.now) (frame.Part 0 []) _ (eval_part c.args.here.now.code.now c.args.here.now.fun c.args.e.now c.args.a.now (spot c.args.here.now c.args.e.now).env c.requires.form) c.in-Ok-Wait.rest (joined_state c.all_parts.new.state (g.S.Services.stands c.all_parts.new.svc)) _ _ (packing_leads c.args.here.now.code.now c.args.here.now.fun c.args.e.now c.args.a.now (spot c.args.here.now c.args.e.now).env c.requires.form _ (joined_state c.args.state.now (g.S.Services.stands c.args.svc.now)) (begun_here c.args.here.now.code.now c.args.here.now.fun (spot c.args.here.now c.args.e.now).env c.args.a.now (joined_state c.args.state.now (g.S.Services.stands c.args.svc.now)) (joined_state c.pays.new.self (g.S.Services.stands c.args.svc.now)) (c.if-not-pays.ensures.paid refl (g.S.Services.stands c.args.svc.now)))) rows)
 
-pub eval_packing-returns-in-Err-clause-flows : goal.eval_packing-returns-in-Err-clause-flows
-eval_packing-returns-in-Err-clause-flows g t c = λ other.
+pub rows::eval_packing-returns-in-Err-clause-flows : goal.rows::eval_packing-returns-in-Err-clause-flows
+rows::eval_packing-returns-in-Err-clause-flows g t c = λ other.
     let is : c.all_parts.result ≡ Err c.in-Err.stop = cc in
     let ends = (rw is at c.all_parts.ensures.rows) other in
     (packing_leads c.args.here.now.code.now c.args.here.now.fun c.args.e.now c.args.a.now (spot c.args.here.now c.args.e.now).env c.requires.form _ (joined_state c.args.state.now (g.S.Services.stands c.args.svc.now)) (begun_here c.args.here.now.code.now c.args.here.now.fun (spot c.args.here.now c.args.e.now).env c.args.a.now (joined_state c.args.state.now (g.S.Services.stands c.args.svc.now)) (joined_state c.pays.new.self (g.S.Services.stands c.args.svc.now)) (c.if-not-pays.ensures.paid refl (g.S.Services.stands c.args.svc.now)))).same ∙ part_stops_so c.args.here.now.code.now c.args.here.now.fun (spot c.args.here.now c.args.e.now) 0 [] _ c.in-Err.stop _ (eval_no_try c.args.here.now.code.now c.args.here.now.fun c.args.e.now c.args.a.now (spot c.args.here.now c.args.e.now).env c.requires.form) ends
 
-pub eval_packed-visit_here-requires : goal.eval_packed-visit_here-requires
-eval_packed-visit_here-requires g t c =
+pub rows::eval_packed-visit_here-requires : goal.rows::eval_packed-visit_here-requires
+rows::eval_packed-visit_here-requires g t c =
     let form = c.requires.form in
     let leads = rw c.as_slice.ensures at (c.in-Ok.ensures.pays c.args.here.now.fun c.args.e.now form.0 (spot c.args.here.now c.args.e.now).env (g.S.Services.stands c.args.svc.now) form.1) in
     let safe : IsSafe (next_step c.args.here.now.code.now c.args.here.now.fun (spot c.args.here.now c.args.e.now) (next.Visit (record { code = c.args.here.now.code.now; entry = c.args.f.now; args = c.args.args })) (joined_state c.pay_packed.new.state (g.S.Services.stands c.args.svc.now))).asks = leads.safe c.requires.safe in
     let here = c.requires.here in
     search rules
 
-pub eval_packed-returns-in-Ok-clause-flows : goal.eval_packed-returns-in-Ok-clause-flows
-eval_packed-returns-in-Ok-clause-flows g t c =
+pub rows::eval_packed-returns-in-Ok-clause-flows : goal.rows::eval_packed-returns-in-Ok-clause-flows
+rows::eval_packed-returns-in-Ok-clause-flows g t c =
     let form = c.requires.form in
     let leads = rw c.as_slice.ensures at (c.in-Ok.ensures.pays c.args.here.now.fun c.args.e.now form.0 (spot c.args.here.now c.args.e.now).env (g.S.Services.stands c.args.svc.now) form.1) in
     flows_from c.visit_here.new.codes c.args.here.now.code.now c.args.here.now.fun (spot c.args.here.now c.args.e.now) _ _ c.visit_here.result (joined_state c.visit_here.new.state (g.S.Services.stands c.visit_here.new.svc)) leads c.visit_here.ensures.flows
 
-pub eval_packed-returns-in-Err-clause-flows : goal.eval_packed-returns-in-Err-clause-flows
-eval_packed-returns-in-Err-clause-flows g t c = λ other.
+pub rows::eval_packed-returns-in-Err-clause-flows : goal.rows::eval_packed-returns-in-Err-clause-flows
+rows::eval_packed-returns-in-Err-clause-flows g t c = λ other.
     let is : c.pay_packed.result ≡ Err c.in-Err.stop = cc in
     let form = c.requires.form in
     (rw (is, c.as_slice.ensures) at (c.pay_packed.ensures.pays c.args.here.now.fun c.args.e.now form.0 (spot c.args.here.now c.args.e.now).env (g.S.Services.stands c.args.svc.now) form.1)) other
 
-pub visit_here-returns-in_default-clause-flows : goal.visit_here-returns-in_default-clause-flows
-visit_here-returns-in_default-clause-flows g t c = λ other.
+pub rows::visit_here-returns-in_default-clause-flows : goal.rows::visit_here-returns-in_default-clause-flows
+rows::visit_here-returns-in_default-clause-flows g t c = λ other.
     let none : place_of c.args.f.now c.args.here.now.code.now.funs ≡ None = cc in
     resume_final c.args.here.now.code.now c.args.here.now.fun Wrong _ tt (spot c.args.here.now c.args.e.now) frame.Chunk (visited_chunk meaning (record { code = c.args.here.now.code.now; entry = c.args.f.now; args = c.args.args }) (joined_state c.args.state.now (g.S.Services.stands c.args.svc.now))) (visited_nowhere (record { code = c.args.here.now.code.now; entry = c.args.f.now; args = c.args.args }) (joined_state c.args.state.now (g.S.Services.stands c.args.svc.now)) none)
 
-pub visit_here-enter-flow-requires : goal.visit_here-enter-flow-requires
-visit_here-enter-flow-requires g t c =
+pub rows::visit_here-enter-flow-requires : goal.rows::visit_here-enter-flow-requires
+rows::visit_here-enter-flow-requires g t c =
     let place : place_of c.args.f.now c.args.here.now.code.now.funs ≡ Some c.in-Some.fun = cc in
     let inside = resume_asks c.args.here.now.code.now c.args.here.now.fun (spot c.args.here.now c.args.e.now) frame.Chunk _ c.requires.safe in
     let safe : IsSafe (entered_function meaning c.args.here.now.code.now c.in-Some.fun c.args.args (joined_state c.args.state.now (g.S.Services.stands c.args.svc.now))).asks = (visited_on (record { code = c.args.here.now.code.now; entry = c.args.f.now; args = c.args.args }) c.in-Some.fun (joined_state c.args.state.now (g.S.Services.stands c.args.svc.now)) place).safe inside in
@@ -660,21 +619,21 @@ visit_here-enter-flow-requires g t c =
     let size = c.requires.here.size in
     search rules
 
-pub visit_here-returns-clause-flows : goal.visit_here-returns-clause-flows
-visit_here-returns-clause-flows g t c =
+pub rows::visit_here-returns-clause-flows : goal.rows::visit_here-returns-clause-flows
+rows::visit_here-returns-clause-flows g t c =
     let place : place_of c.args.f.now c.args.here.now.code.now.funs ≡ Some c.in-Some.fun = cc in
     c.chunk_back.ensures.flows c.enter-flow.new.codes c.args.here.now.code.now c.args.here.now.fun (spot c.args.here.now c.args.e.now) _ (g.S.Services.stands c.enter-flow.new.svc)
     (enters_from c.enter-flow.new.codes _ _ c.enter-flow.result _ (visited_on (record { code = c.args.here.now.code.now; entry = c.args.f.now; args = c.args.args }) c.in-Some.fun (joined_state c.args.state.now (g.S.Services.stands c.args.svc.now)) place) c.enter-flow.ensures.enters)
 
 -- ---- one after the other, and sends to neighbours
 
-pub sequence-evaluate-requires : goal.sequence-evaluate-requires
-sequence-evaluate-requires g t c =
+pub direct::sequence-evaluate-requires : goal.direct::sequence-evaluate-requires
+direct::sequence-evaluate-requires g t c =
     let safe : IsSafe (meaning c.args.here.now.code.now c.args.here.now.fun (spot c.args.here.now c.args.e.now).env c.args.a.now (joined_state c.args.state.now (g.S.Services.stands c.args.svc.now))).asks = first_safe c.args.here.now.code.now c.args.here.now.fun (spot c.args.here.now c.args.e.now) c.args.a.now (joined_state c.args.state.now (g.S.Services.stands c.args.svc.now)) (then_parts c.args.here.now.code.now c.args.here.now.fun c.args.e.now c.args.a.now c.args.b.now (spot c.args.here.now c.args.e.now).env c.requires.form) (then_first c.args.here.now.code.now c.args.here.now.fun c.args.e.now c.args.a.now c.args.b.now (spot c.args.here.now c.args.e.now).env c.requires.form) c.requires.safe in
     search rules
 
-pub sequence-last_part-requires : goal.sequence-last_part-requires
-sequence-last_part-requires g t c =
+pub direct::sequence-last_part-requires : goal.direct::sequence-last_part-requires
+direct::sequence-last_part-requires g t c =
     let is : c.evaluate.result ≡ Ok (flow.Done c.in-Ok-Done._v) = cc in
     let here = here_grown _ _ _ c.evaluate.ensures.grown c.requires.here in
     let part : part_or_self c.args.e.now (Some 1) ≡ Some c.args.b.now = then_last c.args.here.now.code.now c.args.here.now.fun c.args.e.now c.args.a.now c.args.b.now (spot c.args.here.now c.args.e.now).env c.requires.form in
@@ -682,31 +641,30 @@ sequence-last_part-requires g t c =
     let safe : IsSafe (next_step c.args.here.now.code.now c.args.here.now.fun (spot c.args.here.now c.args.e.now) (next.Open (frame.Last 1)) (joined_state c.evaluate.new.state (g.S.Services.stands c.evaluate.new.svc))).asks = leads.safe c.requires.safe in
     search rules
 
-pub sequence-returns-in-Ok-Done-clause-flows : goal.sequence-returns-in-Ok-Done-clause-flows
-sequence-returns-in-Ok-Done-clause-flows g t c =
+pub direct::sequence-returns-in-Ok-Done-clause-flows : goal.direct::sequence-returns-in-Ok-Done-clause-flows
+direct::sequence-returns-in-Ok-Done-clause-flows g t c =
     let is : c.evaluate.result ≡ Ok (flow.Done c.in-Ok-Done._v) = cc in
     flows_from c.last_part.new.codes c.args.here.now.code.now c.args.here.now.fun (spot c.args.here.now c.args.e.now) _ _ c.last_part.result (joined_state c.last_part.new.state (g.S.Services.stands c.last_part.new.svc))
     (then_leads c.args.here.now.code.now c.args.here.now.fun c.args.e.now c.args.a.now c.args.b.now (spot c.args.here.now c.args.e.now).env c.requires.form (joined_state c.args.state.now (g.S.Services.stands c.args.svc.now)) (joined_state c.evaluate.new.state (g.S.Services.stands c.evaluate.new.svc)) c.in-Ok-Done._v (rw is at c.evaluate.ensures.flows)) c.last_part.ensures.flows
 
-pub sequence-returns-in_ok-inside-in-Ok-Wait-clause-flows : goal.sequence-returns-in_ok-inside-in-Ok-Wait-clause-flows
-sequence-returns-in_ok-inside-in-Ok-Wait-clause-flows g t c =
+pub direct::sequence-returns-in_ok-inside-in-Ok-Wait-clause-flows : goal.direct::sequence-returns-in_ok-inside-in-Ok-Wait-clause-flows
+direct::sequence-returns-in_ok-inside-in-Ok-Wait-clause-flows g t c =
     let is : c.evaluate.result ≡ Ok (flow.Wait c.in-Ok-Wait.rest) = cc in
     rw (c.in_ok-inside-in-Ok-Wait.ensures, c.new.ensures)
     (waits_inside c.evaluate.new.codes c.args.here.now.code.now c.args.here.now.fun (spot c.args.here.now c.args.e.now) (frame.Part 0 []) _ (then_first c.args.here.now.code.now c.args.here.now.fun c.args.e.now c.args.a.now c.args.b.now (spot c.args.here.now c.args.e.now).env c.requires.form) c.in-Ok-Wait.rest (joined_state c.evaluate.new.state (g.S.Services.stands c.evaluate.new.svc)) _ _ (first_leads c.args.here.now.code.now c.args.here.now.fun (spot c.args.here.now c.args.e.now) c.args.a.now (joined_state c.args.state.now (g.S.Services.stands c.args.svc.now)) (then_parts c.args.here.now.code.now c.args.here.now.fun c.args.e.now c.args.a.now c.args.b.now (spot c.args.here.now c.args.e.now).env c.requires.form) (then_first c.args.here.now.code.now c.args.here.now.fun c.args.e.now c.args.a.now c.args.b.now (spot c.args.here.now c.args.e.now).env c.requires.form)) (rw is at c.evaluate.ensures.flows))
 
-pub sequence-returns-in-Err-clause-flows : goal.sequence-returns-in-Err-clause-flows
-sequence-returns-in-Err-clause-flows g t c = λ other.
+pub direct::sequence-returns-in-Err-clause-flows : goal.direct::sequence-returns-in-Err-clause-flows
+direct::sequence-returns-in-Err-clause-flows g t c = λ other.
     let is : c.evaluate.result ≡ Err c.in-Err.stop = cc in
-    let ends = (rw is at c.evaluate.ensures.flows) other in
-    (first_leads c.args.here.now.code.now c.args.here.now.fun (spot c.args.here.now c.args.e.now) c.args.a.now (joined_state c.args.state.now (g.S.Services.stands c.args.svc.now)) (then_parts c.args.here.now.code.now c.args.here.now.fun c.args.e.now c.args.a.now c.args.b.now (spot c.args.here.now c.args.e.now).env c.requires.form) (then_first c.args.here.now.code.now c.args.here.now.fun c.args.e.now c.args.a.now c.args.b.now (spot c.args.here.now c.args.e.now).env c.requires.form)).same ∙ part_stops_so c.args.here.now.code.now c.args.here.now.fun (spot c.args.here.now c.args.e.now) 0 [] _ c.in-Err.stop _ (then_no_try c.args.here.now.code.now c.args.here.now.fun c.args.e.now c.args.a.now c.args.b.now (spot c.args.here.now c.args.e.now).env c.requires.form) ends
+    (first_leads c.args.here.now.code.now c.args.here.now.fun (spot c.args.here.now c.args.e.now) c.args.a.now (joined_state c.args.state.now (g.S.Services.stands c.args.svc.now)) (then_parts c.args.here.now.code.now c.args.here.now.fun c.args.e.now c.args.a.now c.args.b.now (spot c.args.here.now c.args.e.now).env c.requires.form) (then_first c.args.here.now.code.now c.args.here.now.fun c.args.e.now c.args.a.now c.args.b.now (spot c.args.here.now c.args.e.now).env c.requires.form)).same ∙ part_stops_so c.args.here.now.code.now c.args.here.now.fun (spot c.args.here.now c.args.e.now) 0 [] _ c.in-Err.stop _ (then_no_try c.args.here.now.code.now c.args.here.now.fun c.args.e.now c.args.a.now c.args.b.now (spot c.args.here.now c.args.e.now).env c.requires.form) ((rw is at c.evaluate.ensures.flows) other)
 
-pub near-evaluate-requires : goal.near-evaluate-requires
-near-evaluate-requires g t c =
+pub sends::near-evaluate-requires : goal.sends::near-evaluate-requires
+sends::near-evaluate-requires g t c =
     let safe : IsSafe (meaning c.args.here.now.code.now c.args.here.now.fun (spot c.args.here.now c.args.e.now).env c.args.a.now (joined_state c.args.state.now (g.S.Services.stands c.args.svc.now))).asks = first_safe c.args.here.now.code.now c.args.here.now.fun (spot c.args.here.now c.args.e.now) c.args.a.now (joined_state c.args.state.now (g.S.Services.stands c.args.svc.now)) (near_parts c.args.here.now.code.now c.args.here.now.fun c.args.e.now c.args.a.now c.args.h.now c.args.b.now c.args.d.now (spot c.args.here.now c.args.e.now).env c.requires.form) (near_chunk_at c.args.here.now.code.now c.args.here.now.fun c.args.e.now c.args.a.now c.args.h.now c.args.b.now c.args.d.now (spot c.args.here.now c.args.e.now).env c.requires.form) c.requires.safe in
     search rules
 
-pub near-near_host-requires : goal.near-near_host-requires
-near-near_host-requires g t c =
+pub sends::near-near_host-requires : goal.sends::near-near_host-requires
+sends::near-near_host-requires g t c =
     let is : c.evaluate.result ≡ Ok (flow.Done c.in-Ok-Done.c) = cc in
     let here = here_grown _ _ _ c.evaluate.ensures.grown c.requires.here in
     let form : (a : Expr) × (out-Expr c.args.e.now ≡ Expr-F.OnNeighbor a c.args.h.now c.args.b.now c.args.d.now) = (c.args.a.now, c.requires.form) in
@@ -714,31 +672,30 @@ near-near_host-requires g t c =
     let safe : IsSafe (resume c.args.here.now.code.now c.args.here.now.fun (spot c.args.here.now c.args.e.now) (frame.Part 1 (c.in-Ok-Done.c ∷ [])) (meaning c.args.here.now.code.now c.args.here.now.fun (spot c.args.here.now c.args.e.now).env c.args.h.now (joined_state c.evaluate.new.state (g.S.Services.stands c.evaluate.new.svc)))).asks = leads.safe c.requires.safe in
     search rules
 
-pub near-returns-in-Ok-Done-clause-flows : goal.near-returns-in-Ok-Done-clause-flows
-near-returns-in-Ok-Done-clause-flows g t c =
+pub sends::near-returns-in-Ok-Done-clause-flows : goal.sends::near-returns-in-Ok-Done-clause-flows
+sends::near-returns-in-Ok-Done-clause-flows g t c =
     let is : c.evaluate.result ≡ Ok (flow.Done c.in-Ok-Done.c) = cc in
     flows_from c.near_host.new.codes c.args.here.now.code.now c.args.here.now.fun (spot c.args.here.now c.args.e.now) _ _ c.near_host.result (joined_state c.near_host.new.state (g.S.Services.stands c.near_host.new.svc))
     (near_begins c.args.here.now.code.now c.args.here.now.fun c.args.e.now c.args.a.now c.args.h.now c.args.b.now c.args.d.now (spot c.args.here.now c.args.e.now).env c.requires.form (joined_state c.args.state.now (g.S.Services.stands c.args.svc.now)) (joined_state c.evaluate.new.state (g.S.Services.stands c.evaluate.new.svc)) c.in-Ok-Done.c (rw is at c.evaluate.ensures.flows) c.requires.safe) c.near_host.ensures.flows
 
-pub near-returns-in_ok-inside-in-Ok-Wait-clause-flows : goal.near-returns-in_ok-inside-in-Ok-Wait-clause-flows
-near-returns-in_ok-inside-in-Ok-Wait-clause-flows g t c =
+pub sends::near-returns-in_ok-inside-in-Ok-Wait-clause-flows : goal.sends::near-returns-in_ok-inside-in-Ok-Wait-clause-flows
+sends::near-returns-in_ok-inside-in-Ok-Wait-clause-flows g t c =
     let is : c.evaluate.result ≡ Ok (flow.Wait c.in-Ok-Wait.rest) = cc in
     rw (c.in_ok-inside-in-Ok-Wait.ensures, c.new.ensures)
     (waits_inside c.evaluate.new.codes c.args.here.now.code.now c.args.here.now.fun (spot c.args.here.now c.args.e.now) (frame.Part 0 []) _ (near_chunk_at c.args.here.now.code.now c.args.here.now.fun c.args.e.now c.args.a.now c.args.h.now c.args.b.now c.args.d.now (spot c.args.here.now c.args.e.now).env c.requires.form) c.in-Ok-Wait.rest (joined_state c.evaluate.new.state (g.S.Services.stands c.evaluate.new.svc)) _ _ (first_leads c.args.here.now.code.now c.args.here.now.fun (spot c.args.here.now c.args.e.now) c.args.a.now (joined_state c.args.state.now (g.S.Services.stands c.args.svc.now)) (near_parts c.args.here.now.code.now c.args.here.now.fun c.args.e.now c.args.a.now c.args.h.now c.args.b.now c.args.d.now (spot c.args.here.now c.args.e.now).env c.requires.form) (near_chunk_at c.args.here.now.code.now c.args.here.now.fun c.args.e.now c.args.a.now c.args.h.now c.args.b.now c.args.d.now (spot c.args.here.now c.args.e.now).env c.requires.form)) (rw is at c.evaluate.ensures.flows))
 
-pub near-returns-in-Err-clause-flows : goal.near-returns-in-Err-clause-flows
-near-returns-in-Err-clause-flows g t c = λ other.
+pub sends::near-returns-in-Err-clause-flows : goal.sends::near-returns-in-Err-clause-flows
+sends::near-returns-in-Err-clause-flows g t c = λ other.
     let is : c.evaluate.result ≡ Err c.in-Err.stop = cc in
-    let ends = (rw is at c.evaluate.ensures.flows) other in
-    (first_leads c.args.here.now.code.now c.args.here.now.fun (spot c.args.here.now c.args.e.now) c.args.a.now (joined_state c.args.state.now (g.S.Services.stands c.args.svc.now)) (near_parts c.args.here.now.code.now c.args.here.now.fun c.args.e.now c.args.a.now c.args.h.now c.args.b.now c.args.d.now (spot c.args.here.now c.args.e.now).env c.requires.form) (near_chunk_at c.args.here.now.code.now c.args.here.now.fun c.args.e.now c.args.a.now c.args.h.now c.args.b.now c.args.d.now (spot c.args.here.now c.args.e.now).env c.requires.form)).same ∙ part_stops_so c.args.here.now.code.now c.args.here.now.fun (spot c.args.here.now c.args.e.now) 0 [] _ c.in-Err.stop _ (near_no_try c.args.here.now.code.now c.args.here.now.fun c.args.e.now c.args.a.now c.args.h.now c.args.b.now c.args.d.now (spot c.args.here.now c.args.e.now).env c.requires.form) ends
+    (first_leads c.args.here.now.code.now c.args.here.now.fun (spot c.args.here.now c.args.e.now) c.args.a.now (joined_state c.args.state.now (g.S.Services.stands c.args.svc.now)) (near_parts c.args.here.now.code.now c.args.here.now.fun c.args.e.now c.args.a.now c.args.h.now c.args.b.now c.args.d.now (spot c.args.here.now c.args.e.now).env c.requires.form) (near_chunk_at c.args.here.now.code.now c.args.here.now.fun c.args.e.now c.args.a.now c.args.h.now c.args.b.now c.args.d.now (spot c.args.here.now c.args.e.now).env c.requires.form)).same ∙ part_stops_so c.args.here.now.code.now c.args.here.now.fun (spot c.args.here.now c.args.e.now) 0 [] _ c.in-Err.stop _ (near_no_try c.args.here.now.code.now c.args.here.now.fun c.args.e.now c.args.a.now c.args.h.now c.args.b.now c.args.d.now (spot c.args.here.now c.args.e.now).env c.requires.form) ((rw is at c.evaluate.ensures.flows) other)
 
-pub near_host-evaluate-requires : goal.near_host-evaluate-requires
-near_host-evaluate-requires g t c =
+pub sends::near_host-evaluate-requires : goal.sends::near_host-evaluate-requires
+sends::near_host-evaluate-requires g t c =
     let safe : IsSafe (meaning c.args.here.now.code.now c.args.here.now.fun (spot c.args.here.now c.args.e.now).env c.args.h.now (joined_state c.args.state.now (g.S.Services.stands c.args.svc.now))).asks = resume_asks c.args.here.now.code.now c.args.here.now.fun (spot c.args.here.now c.args.e.now) (frame.Part 1 (c.args.c ∷ [])) _ c.requires.safe in
     search rules
 
-pub near_host-near_bound-requires : goal.near_host-near_bound-requires
-near_host-near_bound-requires g t c =
+pub sends::near_host-near_bound-requires : goal.sends::near_host-near_bound-requires
+sends::near_host-near_bound-requires g t c =
     let is : c.evaluate.result ≡ Ok (flow.Done c.in-Ok-Done.w) = cc in
     let here = here_grown _ _ _ c.evaluate.ensures.grown c.requires.here in
     let form : (a h : Expr) × (out-Expr c.args.e.now ≡ Expr-F.OnNeighbor a h c.args.b.now c.args.d.now) = (c.requires.form.0, c.args.h.now, c.requires.form.1) in
@@ -746,31 +703,30 @@ near_host-near_bound-requires g t c =
     let safe : IsSafe (resume c.args.here.now.code.now c.args.here.now.fun (spot c.args.here.now c.args.e.now) (frame.Part 2 (c.args.c ∷ c.in-Ok-Done.w ∷ [])) (meaning c.args.here.now.code.now c.args.here.now.fun (spot c.args.here.now c.args.e.now).env c.args.b.now (joined_state c.evaluate.new.state (g.S.Services.stands c.evaluate.new.svc)))).asks = leads.safe c.requires.safe in
     search rules
 
-pub near_host-returns-in-Ok-Done-clause-flows : goal.near_host-returns-in-Ok-Done-clause-flows
-near_host-returns-in-Ok-Done-clause-flows g t c =
+pub sends::near_host-returns-in-Ok-Done-clause-flows : goal.sends::near_host-returns-in-Ok-Done-clause-flows
+sends::near_host-returns-in-Ok-Done-clause-flows g t c =
     let is : c.evaluate.result ≡ Ok (flow.Done c.in-Ok-Done.w) = cc in
     flows_from c.near_bound.new.codes c.args.here.now.code.now c.args.here.now.fun (spot c.args.here.now c.args.e.now) _ _ c.near_bound.result (joined_state c.near_bound.new.state (g.S.Services.stands c.near_bound.new.svc))
     (near_to_bound c.args.here.now.code.now c.args.here.now.fun c.args.e.now c.requires.form.0 c.args.h.now c.args.b.now c.args.d.now (spot c.args.here.now c.args.e.now).env c.requires.form.1 (meaning c.args.here.now.code.now c.args.here.now.fun (spot c.args.here.now c.args.e.now).env c.args.h.now (joined_state c.args.state.now (g.S.Services.stands c.args.svc.now))) (joined_state c.evaluate.new.state (g.S.Services.stands c.evaluate.new.svc)) c.args.c c.in-Ok-Done.w (rw is at c.evaluate.ensures.flows) c.requires.safe) c.near_bound.ensures.flows
 
-pub near_host-returns-in_ok-inside-in-Ok-Wait-clause-flows : goal.near_host-returns-in_ok-inside-in-Ok-Wait-clause-flows
-near_host-returns-in_ok-inside-in-Ok-Wait-clause-flows g t c =
+pub sends::near_host-returns-in_ok-inside-in-Ok-Wait-clause-flows : goal.sends::near_host-returns-in_ok-inside-in-Ok-Wait-clause-flows
+sends::near_host-returns-in_ok-inside-in-Ok-Wait-clause-flows g t c =
     let is : c.evaluate.result ≡ Ok (flow.Wait c.in-Ok-Wait.rest) = cc in
     rw (c.in_ok-inside-in-Ok-Wait.ensures, c.in_ok-behind_one-in-Ok-Wait.ensures)
     (waits_inside c.evaluate.new.codes c.args.here.now.code.now c.args.here.now.fun (spot c.args.here.now c.args.e.now) (frame.Part 1 (c.args.c ∷ [])) _ (near_host_at c.args.here.now.code.now c.args.here.now.fun c.args.e.now c.requires.form.0 c.args.h.now c.args.b.now c.args.d.now (spot c.args.here.now c.args.e.now).env c.requires.form.1 c.args.c) c.in-Ok-Wait.rest (joined_state c.evaluate.new.state (g.S.Services.stands c.evaluate.new.svc)) _ _ (itself _) (rw is at c.evaluate.ensures.flows))
 
-pub near_host-returns-in-Err-clause-flows : goal.near_host-returns-in-Err-clause-flows
-near_host-returns-in-Err-clause-flows g t c = λ other.
+pub sends::near_host-returns-in-Err-clause-flows : goal.sends::near_host-returns-in-Err-clause-flows
+sends::near_host-returns-in-Err-clause-flows g t c = λ other.
     let is : c.evaluate.result ≡ Err c.in-Err.stop = cc in
-    let ends = (rw is at c.evaluate.ensures.flows) other in
-    part_stops_so c.args.here.now.code.now c.args.here.now.fun (spot c.args.here.now c.args.e.now) 1 (c.args.c ∷ []) _ c.in-Err.stop _ (near_no_try c.args.here.now.code.now c.args.here.now.fun c.args.e.now c.requires.form.0 c.args.h.now c.args.b.now c.args.d.now (spot c.args.here.now c.args.e.now).env c.requires.form.1) ends
+    part_stops_so c.args.here.now.code.now c.args.here.now.fun (spot c.args.here.now c.args.e.now) 1 (c.args.c ∷ []) _ c.in-Err.stop _ (near_no_try c.args.here.now.code.now c.args.here.now.fun c.args.e.now c.requires.form.0 c.args.h.now c.args.b.now c.args.d.now (spot c.args.here.now c.args.e.now).env c.requires.form.1) ((rw is at c.evaluate.ensures.flows) other)
 
-pub near_bound-evaluate-requires : goal.near_bound-evaluate-requires
-near_bound-evaluate-requires g t c =
+pub sends::near_bound-evaluate-requires : goal.sends::near_bound-evaluate-requires
+sends::near_bound-evaluate-requires g t c =
     let safe : IsSafe (meaning c.args.here.now.code.now c.args.here.now.fun (spot c.args.here.now c.args.e.now).env c.args.b.now (joined_state c.args.state.now (g.S.Services.stands c.args.svc.now))).asks = resume_asks c.args.here.now.code.now c.args.here.now.fun (spot c.args.here.now c.args.e.now) (frame.Part 2 (c.args.c ∷ c.args.w ∷ [])) _ c.requires.safe in
     search rules
 
-pub near_bound-near_dev-requires : goal.near_bound-near_dev-requires
-near_bound-near_dev-requires g t c =
+pub sends::near_bound-near_dev-requires : goal.sends::near_bound-near_dev-requires
+sends::near_bound-near_dev-requires g t c =
     let is : c.evaluate.result ≡ Ok (flow.Done c.in-Ok-Done.u) = cc in
     let here = here_grown _ _ _ c.evaluate.ensures.grown c.requires.here in
     let form : (a h b : Expr) × (out-Expr c.args.e.now ≡ Expr-F.OnNeighbor a h b c.args.d.now) = (c.requires.form.0, c.requires.form.1, c.args.b.now, c.requires.form.2) in
@@ -778,60 +734,58 @@ near_bound-near_dev-requires g t c =
     let safe : IsSafe (resume c.args.here.now.code.now c.args.here.now.fun (spot c.args.here.now c.args.e.now) (frame.Part 3 (c.args.c ∷ c.args.w ∷ c.in-Ok-Done.u ∷ [])) (meaning c.args.here.now.code.now c.args.here.now.fun (spot c.args.here.now c.args.e.now).env c.args.d.now (joined_state c.evaluate.new.state (g.S.Services.stands c.evaluate.new.svc)))).asks = leads.safe c.requires.safe in
     search rules
 
-pub near_bound-returns-in-Ok-Done-clause-flows : goal.near_bound-returns-in-Ok-Done-clause-flows
-near_bound-returns-in-Ok-Done-clause-flows g t c =
+pub sends::near_bound-returns-in-Ok-Done-clause-flows : goal.sends::near_bound-returns-in-Ok-Done-clause-flows
+sends::near_bound-returns-in-Ok-Done-clause-flows g t c =
     let is : c.evaluate.result ≡ Ok (flow.Done c.in-Ok-Done.u) = cc in
     flows_from c.near_dev.new.codes c.args.here.now.code.now c.args.here.now.fun (spot c.args.here.now c.args.e.now) _ _ c.near_dev.result (joined_state c.near_dev.new.state (g.S.Services.stands c.near_dev.new.svc))
     (near_to_dev c.args.here.now.code.now c.args.here.now.fun c.args.e.now c.requires.form.0 c.requires.form.1 c.args.b.now c.args.d.now (spot c.args.here.now c.args.e.now).env c.requires.form.2 (meaning c.args.here.now.code.now c.args.here.now.fun (spot c.args.here.now c.args.e.now).env c.args.b.now (joined_state c.args.state.now (g.S.Services.stands c.args.svc.now))) (joined_state c.evaluate.new.state (g.S.Services.stands c.evaluate.new.svc)) c.args.c c.args.w c.in-Ok-Done.u (rw is at c.evaluate.ensures.flows) c.requires.safe) c.near_dev.ensures.flows
 
-pub near_bound-returns-in_ok-inside-in-Ok-Wait-clause-flows : goal.near_bound-returns-in_ok-inside-in-Ok-Wait-clause-flows
-near_bound-returns-in_ok-inside-in-Ok-Wait-clause-flows g t c =
+pub sends::near_bound-returns-in_ok-inside-in-Ok-Wait-clause-flows : goal.sends::near_bound-returns-in_ok-inside-in-Ok-Wait-clause-flows
+sends::near_bound-returns-in_ok-inside-in-Ok-Wait-clause-flows g t c =
     let is : c.evaluate.result ≡ Ok (flow.Wait c.in-Ok-Wait.rest) = cc in
     rw (c.in_ok-inside-in-Ok-Wait.ensures, c.in_ok-behind_two-in-Ok-Wait.ensures)
     (waits_inside c.evaluate.new.codes c.args.here.now.code.now c.args.here.now.fun (spot c.args.here.now c.args.e.now) (frame.Part 2 (c.args.c ∷ c.args.w ∷ [])) _ (near_bound_at c.args.here.now.code.now c.args.here.now.fun c.args.e.now c.requires.form.0 c.requires.form.1 c.args.b.now c.args.d.now (spot c.args.here.now c.args.e.now).env c.requires.form.2 c.args.c c.args.w) c.in-Ok-Wait.rest (joined_state c.evaluate.new.state (g.S.Services.stands c.evaluate.new.svc)) _ _ (itself _) (rw is at c.evaluate.ensures.flows))
 
-pub near_bound-returns-in-Err-clause-flows : goal.near_bound-returns-in-Err-clause-flows
-near_bound-returns-in-Err-clause-flows g t c = λ other.
+pub sends::near_bound-returns-in-Err-clause-flows : goal.sends::near_bound-returns-in-Err-clause-flows
+sends::near_bound-returns-in-Err-clause-flows g t c = λ other.
     let is : c.evaluate.result ≡ Err c.in-Err.stop = cc in
-    let ends = (rw is at c.evaluate.ensures.flows) other in
-    part_stops_so c.args.here.now.code.now c.args.here.now.fun (spot c.args.here.now c.args.e.now) 2 (c.args.c ∷ c.args.w ∷ []) _ c.in-Err.stop _ (near_no_try c.args.here.now.code.now c.args.here.now.fun c.args.e.now c.requires.form.0 c.requires.form.1 c.args.b.now c.args.d.now (spot c.args.here.now c.args.e.now).env c.requires.form.2) ends
+    part_stops_so c.args.here.now.code.now c.args.here.now.fun (spot c.args.here.now c.args.e.now) 2 (c.args.c ∷ c.args.w ∷ []) _ c.in-Err.stop _ (near_no_try c.args.here.now.code.now c.args.here.now.fun c.args.e.now c.requires.form.0 c.requires.form.1 c.args.b.now c.args.d.now (spot c.args.here.now c.args.e.now).env c.requires.form.2) ((rw is at c.evaluate.ensures.flows) other)
 
-pub near_dev-evaluate-requires : goal.near_dev-evaluate-requires
-near_dev-evaluate-requires g t c =
+pub sends::near_dev-evaluate-requires : goal.sends::near_dev-evaluate-requires
+sends::near_dev-evaluate-requires g t c =
     let safe : IsSafe (meaning c.args.here.now.code.now c.args.here.now.fun (spot c.args.here.now c.args.e.now).env c.args.d.now (joined_state c.args.state.now (g.S.Services.stands c.args.svc.now))).asks = resume_asks c.args.here.now.code.now c.args.here.now.fun (spot c.args.here.now c.args.e.now) (frame.Part 3 (c.args.c ∷ c.args.w ∷ c.args.u ∷ [])) _ c.requires.safe in
     search rules
 
-pub near_dev-send_values-requires : goal.near_dev-send_values-requires
-near_dev-send_values-requires g t c =
+pub sends::near_dev-send_values-requires : goal.sends::near_dev-send_values-requires
+sends::near_dev-send_values-requires g t c =
     let is : c.evaluate.result ≡ Ok (flow.Done c.in-Ok-Done.v) = cc in
     record { safe = near_is_safe c.args.here.now.code.now c.args.here.now.fun c.args.e.now c.requires.form.0 c.requires.form.1 c.requires.form.2 c.args.d.now (spot c.args.here.now c.args.e.now).env c.requires.form.3 (meaning c.args.here.now.code.now c.args.here.now.fun (spot c.args.here.now c.args.e.now).env c.args.d.now (joined_state c.args.state.now (g.S.Services.stands c.args.svc.now))) c.evaluate.new.state (g.S.Services.stands c.evaluate.new.svc) c.args.c c.args.w c.args.u c.in-Ok-Done.v (rw is at c.evaluate.ensures.flows) c.requires.safe }
 
-pub near_dev-returns-in-Ok-Done-clause-flows : goal.near_dev-returns-in-Ok-Done-clause-flows
-near_dev-returns-in-Ok-Done-clause-flows g t c =
+pub sends::near_dev-returns-in-Ok-Done-clause-flows : goal.sends::near_dev-returns-in-Ok-Done-clause-flows
+sends::near_dev-returns-in-Ok-Done-clause-flows g t c =
     let is : c.evaluate.result ≡ Ok (flow.Done c.in-Ok-Done.v) = cc in
     flows_from c.evaluate.new.codes c.args.here.now.code.now c.args.here.now.fun (spot c.args.here.now c.args.e.now) _ _ c.send_values.result (joined_state c.send_values.new.state (g.S.Services.stands c.evaluate.new.svc))
     (part_came c.args.here.now.code.now c.args.here.now.fun (spot c.args.here.now c.args.e.now) 3 (c.args.c ∷ c.args.w ∷ c.args.u ∷ []) (meaning c.args.here.now.code.now c.args.here.now.fun (spot c.args.here.now c.args.e.now).env c.args.d.now (joined_state c.args.state.now (g.S.Services.stands c.args.svc.now))) c.in-Ok-Done.v (joined_state c.evaluate.new.state (g.S.Services.stands c.evaluate.new.svc)) (rw is at c.evaluate.ensures.flows))
     (c.send_values.ensures.flows c.evaluate.new.codes c.args.here.now.code.now c.args.here.now.fun c.args.e.now c.requires.form.0 c.requires.form.1 c.requires.form.2 c.args.d.now (spot c.args.here.now c.args.e.now).env (g.S.Services.stands c.evaluate.new.svc) c.requires.form.3)
 
-pub near_dev-returns-in_ok-inside-in-Ok-Wait-clause-flows : goal.near_dev-returns-in_ok-inside-in-Ok-Wait-clause-flows
-near_dev-returns-in_ok-inside-in-Ok-Wait-clause-flows g t c =
+pub sends::near_dev-returns-in_ok-inside-in-Ok-Wait-clause-flows : goal.sends::near_dev-returns-in_ok-inside-in-Ok-Wait-clause-flows
+sends::near_dev-returns-in_ok-inside-in-Ok-Wait-clause-flows g t c =
     let is : c.evaluate.result ≡ Ok (flow.Wait c.in-Ok-Wait.rest) = cc in
     rw (c.in_ok-inside-in-Ok-Wait.ensures, c.in_ok-behind_three-in-Ok-Wait.ensures)
     (waits_inside c.evaluate.new.codes c.args.here.now.code.now c.args.here.now.fun (spot c.args.here.now c.args.e.now) (frame.Part 3 (c.args.c ∷ c.args.w ∷ c.args.u ∷ [])) _ (near_dev_at c.args.here.now.code.now c.args.here.now.fun c.args.e.now c.requires.form.0 c.requires.form.1 c.requires.form.2 c.args.d.now (spot c.args.here.now c.args.e.now).env c.requires.form.3 c.args.c c.args.w c.args.u) c.in-Ok-Wait.rest (joined_state c.evaluate.new.state (g.S.Services.stands c.evaluate.new.svc)) _ _ (itself _) (rw is at c.evaluate.ensures.flows))
 
-pub near_dev-returns-in-Err-clause-flows : goal.near_dev-returns-in-Err-clause-flows
-near_dev-returns-in-Err-clause-flows g t c = λ other.
+pub sends::near_dev-returns-in-Err-clause-flows : goal.sends::near_dev-returns-in-Err-clause-flows
+sends::near_dev-returns-in-Err-clause-flows g t c = λ other.
     let is : c.evaluate.result ≡ Err c.in-Err.stop = cc in
-    let ends = (rw is at c.evaluate.ensures.flows) other in
-    part_stops_so c.args.here.now.code.now c.args.here.now.fun (spot c.args.here.now c.args.e.now) 3 (c.args.c ∷ c.args.w ∷ c.args.u ∷ []) _ c.in-Err.stop _ (near_no_try c.args.here.now.code.now c.args.here.now.fun c.args.e.now c.requires.form.0 c.requires.form.1 c.requires.form.2 c.args.d.now (spot c.args.here.now c.args.e.now).env c.requires.form.3) ends
+    part_stops_so c.args.here.now.code.now c.args.here.now.fun (spot c.args.here.now c.args.e.now) 3 (c.args.c ∷ c.args.w ∷ c.args.u ∷ []) _ c.in-Err.stop _ (near_no_try c.args.here.now.code.now c.args.here.now.fun c.args.e.now c.requires.form.0 c.requires.form.1 c.requires.form.2 c.args.d.now (spot c.args.here.now c.args.e.now).env c.requires.form.3) ((rw is at c.evaluate.ensures.flows) other)
 
-pub other_form-sequence-requires : goal.other_form-sequence-requires
-other_form-sequence-requires g t c =
+pub direct::other_form-sequence-requires : goal.direct::other_form-sequence-requires
+direct::other_form-sequence-requires g t c =
     let form : out-Expr c.args.e.now ≡ Expr-F.Then c.get-a.result.now c.get-b.result.now = rw (c.in-Then.is, c.get-a.ensures, c.get-b.ensures) (then_form c.in-Then.a c.in-Then.b) in
     search rules
 
-pub other_form-near-requires : goal.other_form-near-requires
-other_form-near-requires g t c =
+pub direct::other_form-near-requires : goal.direct::other_form-near-requires
+direct::other_form-near-requires g t c =
     let form : out-Expr c.args.e.now ≡ Expr-F.OnNeighbor c.get-a-in-OnNeighbor.result.now c.get-h.result.now c.get-b-in-OnNeighbor.result.now c.get-d.result.now =
     rw (c.in-OnNeighbor.is, c.get-a-in-OnNeighbor.ensures, c.get-h.ensures, c.get-b-in-OnNeighbor.ensures, c.get-d.ensures) (near_form c.in-OnNeighbor.a c.in-OnNeighbor.h c.in-OnNeighbor.b c.in-OnNeighbor.d) in
     search rules
