@@ -43,9 +43,11 @@ pub fn evaluate<S: Services>(
 ) -> Result<Flow, EvalStop>
     requires open { IsSome (S.stands svc.old).begun }
     requires here { IsHere codes.old here.now }
-    requires safe { IsSafe (meaning here.now.code.now here.now.fun (spot here.now e.now).env e.now (joined_state state.old (S.stands svc.old))).asks }
+    requires safe { IsSafe (meaning here.now.code.now here.now.fun (spot here.now e.now).env e.now
+        (joined_state state.old (S.stands svc.old))).asks }
     ensures flows { Flows codes.new here.now.code.now here.now.fun (spot here.now e.now)
-        (meaning here.now.code.now here.now.fun (spot here.now e.now).env e.now (joined_state state.old (S.stands svc.old)))
+        (meaning here.now.code.now here.now.fun (spot here.now e.now).env e.now
+        (joined_state state.old (S.stands svc.old)))
         result (joined_state state.new (S.stands svc.new)) }
     ensures spends { Spends depth state.old.work result state.new.work }
     ensures grown { Grows codes.old codes.new }
@@ -174,9 +176,11 @@ fn choice<S: Services>(
     requires form { out-Expr e.now ≡ Expr-F.If t.now a.now b.now }
     requires open { IsSome (S.stands svc.old).begun }
     requires here { IsHere codes.old here.now }
-    requires safe { IsSafe (begins here.now.code.now here.now.fun (spot here.now e.now) (joined_state state.old (S.stands svc.old))).asks }
+    requires safe { IsSafe (begins here.now.code.now here.now.fun (spot here.now e.now)
+        (joined_state state.old (S.stands svc.old))).asks }
     ensures flows { Flows codes.new here.now.code.now here.now.fun (spot here.now e.now)
-        (begins here.now.code.now here.now.fun (spot here.now e.now) (joined_state state.old (S.stands svc.old)))
+        (begins here.now.code.now here.now.fun (spot here.now e.now)
+        (joined_state state.old (S.stands svc.old)))
         result (joined_state state.new (S.stands svc.new)) }
     ensures lasts { Lasts 3 state.old.work result state.new.work }
     ensures grown { Grows codes.old codes.new }
@@ -210,9 +214,11 @@ fn last_part<S: Services>(
     requires open { IsSome (S.stands svc.old).begun }
     requires here { IsHere codes.old here.now }
     requires part { part_or_self e.now (Some n) ≡ Some part.now }
-    requires safe { IsSafe (next_step here.now.code.now here.now.fun (spot here.now e.now) (next.Open (frame.Last n)) (joined_state state.old (S.stands svc.old))).asks }
+    requires safe { IsSafe (next_step here.now.code.now here.now.fun (spot here.now e.now)
+        (next.Open (frame.Last n)) (joined_state state.old (S.stands svc.old))).asks }
     ensures flows { Flows codes.new here.now.code.now here.now.fun (spot here.now e.now)
-        (next_step here.now.code.now here.now.fun (spot here.now e.now) (next.Open (frame.Last n)) (joined_state state.old (S.stands svc.old)))
+        (next_step here.now.code.now here.now.fun (spot here.now e.now) (next.Open (frame.Last n))
+        (joined_state state.old (S.stands svc.old)))
         result (joined_state state.new (S.stands svc.new)) }
     ensures lasts { Lasts 3 state.old.work result state.new.work }
     ensures grown { Grows codes.old codes.new }
@@ -240,9 +246,11 @@ fn operation<S: Services>(
     requires form { out-Expr e.now ≡ Expr-F.Binary op a.now b.now }
     requires open { IsSome (S.stands svc.old).begun }
     requires here { IsHere codes.old here.now }
-    requires safe { IsSafe (begins here.now.code.now here.now.fun (spot here.now e.now) (joined_state state.old (S.stands svc.old))).asks }
+    requires safe { IsSafe (begins here.now.code.now here.now.fun (spot here.now e.now)
+        (joined_state state.old (S.stands svc.old))).asks }
     ensures flows { Flows codes.new here.now.code.now here.now.fun (spot here.now e.now)
-        (begins here.now.code.now here.now.fun (spot here.now e.now) (joined_state state.old (S.stands svc.old)))
+        (begins here.now.code.now here.now.fun (spot here.now e.now)
+        (joined_state state.old (S.stands svc.old)))
         result (joined_state state.new (S.stands svc.new)) }
     ensures lasts { Lasts 3 state.old.work result state.new.work }
     ensures grown { Grows codes.old codes.new }
@@ -281,9 +289,11 @@ fn binding<S: Services>(
     requires form { (t : Ty) × (out-Expr e.now ≡ Expr-F.Let x.now t a.now b.now) }
     requires open { IsSome (S.stands svc.old).begun }
     requires here { IsHere codes.old here.now }
-    requires safe { IsSafe (begins here.now.code.now here.now.fun (spot here.now e.now) (joined_state state.old (S.stands svc.old))).asks }
+    requires safe { IsSafe (begins here.now.code.now here.now.fun (spot here.now e.now)
+        (joined_state state.old (S.stands svc.old))).asks }
     ensures flows { Flows codes.new here.now.code.now here.now.fun (spot here.now e.now)
-        (begins here.now.code.now here.now.fun (spot here.now e.now) (joined_state state.old (S.stands svc.old)))
+        (begins here.now.code.now here.now.fun (spot here.now e.now)
+        (joined_state state.old (S.stands svc.old)))
         result (joined_state state.new (S.stands svc.new)) }
     ensures lasts { Lasts 3 state.old.work result state.new.work }
     ensures grown { Grows codes.old codes.new }
@@ -315,9 +325,13 @@ fn under_name<S: Services>(
 ) -> Result<Flow, EvalStop>
     requires open { IsSome (S.stands svc.old).begun }
     requires here { IsHere codes.old here.now }
-    requires safe { IsSafe (meaning here.now.code.now here.now.fun (named_spot here.now x.now v.now b.now).env b.now (joined_state state.old (S.stands svc.old))).asks }
-    ensures flows { Flows codes.new here.now.code.now here.now.fun (named_spot here.now x.now v.now b.now)
-        (meaning here.now.code.now here.now.fun (named_spot here.now x.now v.now b.now).env b.now (joined_state state.old (S.stands svc.old)))
+    requires safe { IsSafe (meaning here.now.code.now here.now.fun
+        (named_spot here.now x.now v.now b.now).env b.now
+        (joined_state state.old (S.stands svc.old))).asks }
+    ensures flows { Flows codes.new here.now.code.now here.now.fun
+        (named_spot here.now x.now v.now b.now)
+        (meaning here.now.code.now here.now.fun (named_spot here.now x.now v.now b.now).env b.now
+        (joined_state state.old (S.stands svc.old)))
         result (joined_state state.new (S.stands svc.new)) }
     ensures spends { Spends depth state.old.work result state.new.work }
     ensures grown { Grows codes.old codes.new }
@@ -347,9 +361,11 @@ pub(crate) fn general<S: Services>(
 ) -> Result<Flow, EvalStop>
     requires open { IsSome (S.stands svc.old).begun }
     requires here { IsHere codes.old here.now }
-    requires safe { IsSafe (begins here.now.code.now here.now.fun (spot here.now e.now) (joined_state state.old (S.stands svc.old))).asks }
+    requires safe { IsSafe (begins here.now.code.now here.now.fun (spot here.now e.now)
+        (joined_state state.old (S.stands svc.old))).asks }
     ensures flows { Flows codes.new here.now.code.now here.now.fun (spot here.now e.now)
-        (begins here.now.code.now here.now.fun (spot here.now e.now) (joined_state state.old (S.stands svc.old)))
+        (begins here.now.code.now here.now.fun (spot here.now e.now)
+        (joined_state state.old (S.stands svc.old)))
         result (joined_state state.new (S.stands svc.new)) }
     ensures lasts { Lasts 3 state.old.work result state.new.work }
     ensures grown { Grows codes.old codes.new }
@@ -377,9 +393,11 @@ pub fn proceed<S: Services>(
 ) -> Result<Flow, EvalStop>
     requires open { IsSome (S.stands svc.old).begun }
     requires here { IsHere codes.old here.now }
-    requires safe { IsSafe (next_step here.now.code.now here.now.fun (spot here.now e.now) first (joined_state state.old (S.stands svc.old))).asks }
+    requires safe { IsSafe (next_step here.now.code.now here.now.fun (spot here.now e.now) first
+        (joined_state state.old (S.stands svc.old))).asks }
     ensures flows { Flows codes.new here.now.code.now here.now.fun (spot here.now e.now)
-        (next_step here.now.code.now here.now.fun (spot here.now e.now) first (joined_state state.old (S.stands svc.old)))
+        (next_step here.now.code.now here.now.fun (spot here.now e.now) first
+        (joined_state state.old (S.stands svc.old)))
         result (joined_state state.new (S.stands svc.new)) }
     ensures lasts { Lasts 3 state.old.work result state.new.work }
     ensures grown { Grows codes.old codes.new }
@@ -410,9 +428,11 @@ fn advance<S: Services>(
 ) -> Result<Turn, EvalStop>
     requires open { IsSome (S.stands svc.old).begun }
     requires here { IsHere codes.old here.now }
-    requires safe { IsSafe (next_step here.now.code.now here.now.fun (spot here.now e.now) now (joined_state state.old (S.stands svc.old))).asks }
+    requires safe { IsSafe (next_step here.now.code.now here.now.fun (spot here.now e.now) now
+        (joined_state state.old (S.stands svc.old))).asks }
     ensures advances { Advances codes.new here.now.code.now here.now.fun (spot here.now e.now)
-        (next_step here.now.code.now here.now.fun (spot here.now e.now) now (joined_state state.old (S.stands svc.old)))
+        (next_step here.now.code.now here.now.fun (spot here.now e.now) now
+        (joined_state state.old (S.stands svc.old)))
         result (joined_state state.new (S.stands svc.new)) }
     ensures turns { Turns state.old.work result state.new.work }
     ensures grown { Grows codes.old codes.new }
@@ -456,9 +476,11 @@ fn evaluate_part<S: Services>(
 ) -> Result<Turn, EvalStop>
     requires open { IsSome (S.stands svc.old).begun }
     requires here { IsHere codes.old here.now }
-    requires safe { IsSafe (next_step here.now.code.now here.now.fun (spot here.now e.now) (next.Open frame) (joined_state state.old (S.stands svc.old))).asks }
+    requires safe { IsSafe (next_step here.now.code.now here.now.fun (spot here.now e.now)
+        (next.Open frame) (joined_state state.old (S.stands svc.old))).asks }
     ensures advances { Advances codes.new here.now.code.now here.now.fun (spot here.now e.now)
-        (next_step here.now.code.now here.now.fun (spot here.now e.now) (next.Open frame) (joined_state state.old (S.stands svc.old)))
+        (next_step here.now.code.now here.now.fun (spot here.now e.now) (next.Open frame)
+        (joined_state state.old (S.stands svc.old)))
         result (joined_state state.new (S.stands svc.new)) }
     ensures turns { Turns state.old.work result state.new.work }
     ensures grown { Grows codes.old codes.new }
@@ -492,8 +514,11 @@ pub(crate) fn enter<S: Services>(
     requires open { IsSome (S.stands svc.old).begun }
     requires program { slice_get codes.old number ≡ Some code.now }
     requires size { size ≡ min (code_size code.now) 18446744073709551615 }
-    requires safe { IsSafe (entered_function meaning code.now fun args (joined_state state.old (S.stands svc.old))).asks }
-    ensures enters { Enters codes.new (entered_function meaning code.now fun args (joined_state state.old (S.stands svc.old))) result (joined_state state.new (S.stands svc.new)) }
+    requires safe { IsSafe (entered_function meaning code.now fun args
+        (joined_state state.old (S.stands svc.old))).asks }
+    ensures enters { Enters codes.new (entered_function meaning code.now fun args
+        (joined_state state.old (S.stands svc.old))) result
+        (joined_state state.new (S.stands svc.new)) }
     ensures spends { Goes state.old.work result state.new.work }
     ensures grown { Grows codes.old codes.new }
     ensures offer { (S.stands svc.new).offer ≡ (S.stands svc.old).offer }
@@ -531,8 +556,11 @@ fn body_flow<S: Services>(
     requires size { size ≡ min (code_size code.now) 18446744073709551615 }
     requires function { slice_get code.now.funs fun ≡ Some function.now }
     requires many { length function.now.params ≡ length args.now }
-    requires safe { IsSafe (entered_function meaning code.now fun args.now (joined_state state.old (S.stands svc.old))).asks }
-    ensures flows { Bodies codes.new code.now number fun function.now args.now (entered_function meaning code.now fun args.now (joined_state state.old (S.stands svc.old))) result (joined_state state.new (S.stands svc.new)) }
+    requires safe { IsSafe (entered_function meaning code.now fun args.now
+        (joined_state state.old (S.stands svc.old))).asks }
+    ensures flows { Bodies codes.new code.now number fun function.now args.now
+        (entered_function meaning code.now fun args.now (joined_state state.old (S.stands svc.old)))
+        result (joined_state state.new (S.stands svc.new)) }
     ensures spends { Spends depth state.old.work result state.new.work }
     ensures grown { Grows codes.old codes.new }
     ensures offer { (S.stands svc.new).offer ≡ (S.stands svc.old).offer }
@@ -572,7 +600,9 @@ fn visit<S: Services>(
     requires open { IsSome (S.stands svc.old).begun }
     requires safe { IsSafe (visited_chunk meaning chunk
         (joined_state state.old (S.stands svc.old))).asks }
-    ensures enters { Enters codes.new (visited_chunk meaning chunk (joined_state state.old (S.stands svc.old))) result (joined_state state.new (S.stands svc.new)) }
+    ensures enters { Enters codes.new (visited_chunk meaning chunk
+        (joined_state state.old (S.stands svc.old))) result
+        (joined_state state.new (S.stands svc.new)) }
     ensures spends { Goes state.old.work result state.new.work }
     ensures grown { Grows codes.old codes.new }
     ensures offer { (S.stands svc.new).offer ≡ (S.stands svc.old).offer }

@@ -41,9 +41,11 @@ pub(crate) fn row<S: Services>(
     requires parts { parts_of (out-Expr e.now) ≡ es.now }
     requires open { IsSome (S.stands svc.old).begun }
     requires here { IsHere codes.old here.now }
-    requires safe { IsSafe (begins here.now.code.now here.now.fun (spot here.now e.now) (joined_state state.old (S.stands svc.old))).asks }
+    requires safe { IsSafe (begins here.now.code.now here.now.fun (spot here.now e.now)
+        (joined_state state.old (S.stands svc.old))).asks }
     ensures flows { Flows codes.new here.now.code.now here.now.fun (spot here.now e.now)
-        (begins here.now.code.now here.now.fun (spot here.now e.now) (joined_state state.old (S.stands svc.old)))
+        (begins here.now.code.now here.now.fun (spot here.now e.now)
+        (joined_state state.old (S.stands svc.old)))
         result (joined_state state.new (S.stands svc.new)) }
     ensures lasts { Lasts 3 state.old.work result state.new.work }
     ensures grown { Grows codes.old codes.new }
@@ -81,9 +83,11 @@ fn all_parts<S: Services>(
     requires parts { parts_of (out-Expr e.now) ≡ es.now }
     requires open { IsSome (S.stands svc.old).begun }
     requires here { IsHere codes.old here.now }
-    requires safe { IsSafe (begins here.now.code.now here.now.fun (spot here.now e.now) (joined_state state.old (S.stands svc.old))).asks }
+    requires safe { IsSafe (begins here.now.code.now here.now.fun (spot here.now e.now)
+        (joined_state state.old (S.stands svc.old))).asks }
     ensures rows { Rows codes.new here.now.code.now here.now.fun (spot here.now e.now)
-        (begins here.now.code.now here.now.fun (spot here.now e.now) (joined_state state.old (S.stands svc.old)))
+        (begins here.now.code.now here.now.fun (spot here.now e.now)
+        (joined_state state.old (S.stands svc.old)))
         result (joined_state state.new (S.stands svc.new)) }
     ensures lasts { RowLasts state.old.work result state.new.work }
     ensures grown { Grows codes.old codes.new }
@@ -120,9 +124,11 @@ fn finish_row<S: Services>(
 ) -> Result<Flow, EvalStop>
     requires open { IsSome (S.stands svc.old).begun }
     requires here { IsHere codes.old here.now }
-    requires safe { IsSafe (row_gave here.now.code.now here.now.fun (spot here.now e.now) values (joined_state state.old (S.stands svc.old))).asks }
+    requires safe { IsSafe (row_gave here.now.code.now here.now.fun (spot here.now e.now) values
+        (joined_state state.old (S.stands svc.old))).asks }
     ensures flows { Flows codes.new here.now.code.now here.now.fun (spot here.now e.now)
-        (row_gave here.now.code.now here.now.fun (spot here.now e.now) values (joined_state state.old (S.stands svc.old)))
+        (row_gave here.now.code.now here.now.fun (spot here.now e.now) values
+        (joined_state state.old (S.stands svc.old)))
         result (joined_state state.new (S.stands svc.new)) }
     ensures lasts { Lasts 3 state.old.work result state.new.work }
     ensures grown { Grows codes.old codes.new }
@@ -152,7 +158,8 @@ fn invoke<S: Services>(
 ) -> Result<Flow, EvalStop>
     requires open { IsSome (S.stands svc.old).begun }
     requires here { IsHere codes.old here.now }
-    requires safe { IsSafe (call_of here.now.code.now here.now.fun f.now args (joined_state state.old (S.stands svc.old))).asks }
+    requires safe { IsSafe (call_of here.now.code.now here.now.fun f.now args
+        (joined_state state.old (S.stands svc.old))).asks }
     ensures flows { Flows codes.new here.now.code.now here.now.fun (spot here.now e.now)
         (call_of here.now.code.now here.now.fun f.now args
         (joined_state state.old (S.stands svc.old)))
@@ -191,9 +198,11 @@ pub(crate) fn eval<S: Services>(
     requires form { out-Expr e.now ≡ Expr-F.Eval a.now }
     requires open { IsSome (S.stands svc.old).begun }
     requires here { IsHere codes.old here.now }
-    requires safe { IsSafe (begins here.now.code.now here.now.fun (spot here.now e.now) (joined_state state.old (S.stands svc.old))).asks }
+    requires safe { IsSafe (begins here.now.code.now here.now.fun (spot here.now e.now)
+        (joined_state state.old (S.stands svc.old))).asks }
     ensures flows { Flows codes.new here.now.code.now here.now.fun (spot here.now e.now)
-        (begins here.now.code.now here.now.fun (spot here.now e.now) (joined_state state.old (S.stands svc.old)))
+        (begins here.now.code.now here.now.fun (spot here.now e.now)
+        (joined_state state.old (S.stands svc.old)))
         result (joined_state state.new (S.stands svc.new)) }
     ensures lasts { Lasts 3 state.old.work result state.new.work }
     ensures grown { Grows codes.old codes.new }
@@ -226,9 +235,11 @@ fn eval_packing<S: Services>(
     requires packs { out-Expr a.now ≡ Expr-F.ChunkOf f.now es.now }
     requires open { IsSome (S.stands svc.old).begun }
     requires here { IsHere codes.old here.now }
-    requires safe { IsSafe (begins here.now.code.now here.now.fun (spot here.now e.now) (joined_state state.old (S.stands svc.old))).asks }
+    requires safe { IsSafe (begins here.now.code.now here.now.fun (spot here.now e.now)
+        (joined_state state.old (S.stands svc.old))).asks }
     ensures flows { Flows codes.new here.now.code.now here.now.fun (spot here.now e.now)
-        (begins here.now.code.now here.now.fun (spot here.now e.now) (joined_state state.old (S.stands svc.old)))
+        (begins here.now.code.now here.now.fun (spot here.now e.now)
+        (joined_state state.old (S.stands svc.old)))
         result (joined_state state.new (S.stands svc.new)) }
     ensures lasts { Lasts 3 state.old.work result state.new.work }
     ensures grown { Grows codes.old codes.new }
@@ -261,9 +272,18 @@ fn eval_packed<S: Services>(
     requires form { (a : Expr) × (out-Expr e.now ≡ Expr-F.Eval a) }
     requires open { IsSome (S.stands svc.old).begun }
     requires here { IsHere codes.old here.now }
-    requires safe { IsSafe (resume here.now.code.now here.now.fun (spot here.now e.now) (frame.Part 0 []) (weighed_value (value.Chunk (record { code = here.now.code.now; entry = f.now; args = args })) (joined_state state.old (S.stands svc.old)))).asks }
+    requires safe { IsSafe (resume here.now.code.now here.now.fun (spot here.now e.now)
+        (frame.Part 0 []) (weighed_value (value.Chunk (record
+        { code = here.now.code.now; entry = f.now; args = args }))
+        (joined_state state.old (S.stands svc.old)))).asks }
     ensures flows { Flows codes.new here.now.code.now here.now.fun (spot here.now e.now)
-        (resume here.now.code.now here.now.fun (spot here.now e.now) (frame.Part 0 []) (weighed_value (value.Chunk (record { code = here.now.code.now; entry = f.now; args = args })) (joined_state state.old (S.stands svc.old))))
+        (resume here.now.code.now here.now.fun (spot here.now e.now) (frame.Part 0 [])
+        (weighed_value (value.Chunk (record {
+          code = here.now.code.now;
+          entry = f.now;
+          args =
+              args;
+        })) (joined_state state.old (S.stands svc.old))))
         result (joined_state state.new (S.stands svc.new)) }
     ensures lasts { Lasts 3 state.old.work result state.new.work }
     ensures grown { Grows codes.old codes.new }
@@ -291,9 +311,13 @@ fn visit_here<S: Services>(
 ) -> Result<Flow, EvalStop>
     requires open { IsSome (S.stands svc.old).begun }
     requires here { IsHere codes.old here.now }
-    requires safe { IsSafe (next_step here.now.code.now here.now.fun (spot here.now e.now) (next.Visit (record { code = here.now.code.now; entry = f.now; args = args })) (joined_state state.old (S.stands svc.old))).asks }
+    requires safe { IsSafe (next_step here.now.code.now here.now.fun (spot here.now e.now)
+        (next.Visit (record { code = here.now.code.now; entry = f.now; args = args }))
+        (joined_state state.old (S.stands svc.old))).asks }
     ensures flows { Flows codes.new here.now.code.now here.now.fun (spot here.now e.now)
-        (next_step here.now.code.now here.now.fun (spot here.now e.now) (next.Visit (record { code = here.now.code.now; entry = f.now; args = args })) (joined_state state.old (S.stands svc.old)))
+        (next_step here.now.code.now here.now.fun (spot here.now e.now)
+        (next.Visit (record { code = here.now.code.now; entry = f.now; args = args }))
+        (joined_state state.old (S.stands svc.old)))
         result (joined_state state.new (S.stands svc.new)) }
     ensures lasts { Lasts 3 state.old.work result state.new.work }
     ensures grown { Grows codes.old codes.new }
