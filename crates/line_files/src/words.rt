@@ -16,6 +16,12 @@ fn find_byte(text: &[u8], b: u8) -> usize
     ensures place { result ≡ position_or_len (λ x. x == b) text.now }
     ensures within { result ≤ length text.now }
 {
+    // (most words of a line have one byte, for which nothing is searched)
+    if let [first, second, ..] = text {
+        if *first != b && *second == b {
+            return 1;
+        }
+    }
     match memchr(b, text) {
         Some(place) => place,
         None => text.len(),

@@ -15,8 +15,9 @@ use plan_base::{Bytes, Family, NoMemory};
 use std::alloc::Global;
 
 /// Writes a word and a count of a row before a text. Condition: there is room for the word and 20 bytes more.
+// (for a word of a known length, which is moved at once)
 #[inline(always)]
-fn write_count(text: &mut ShortText, word: &[u8], n: u64)
+fn write_count<const N: usize>(text: &mut ShortText, word: &[u8; N], n: u64)
     requires { 20 + length word.now + length text.old ≤ 192 }
     ensures text { text.new ≡ (word.now ++ decimal n) ++ text.old }
     ensures room { length text.new ≤ 20 + length word.now + length text.old }
