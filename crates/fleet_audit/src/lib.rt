@@ -3,7 +3,6 @@
 #![tactic(auto)]
 
 mod book;
-mod ends;
 mod judging;
 mod keys;
 mod laws;

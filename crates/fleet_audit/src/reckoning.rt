@@ -14,7 +14,6 @@ ghost use Rattle.fleet_audit.specs.Pasts as spec;
 ghost use Rattle.fleet_audit.specs.Pasts.{Past, Holds, IsReckoned, TakenReads, logged_of};
 
 use crate::book::Book;
-use crate::ends::far_end;
 use crate::keys::CrossingKey;
 use crate::tally::Tallies;
 use log_replay::begin_node;
@@ -27,7 +26,7 @@ use service_api::Services;
 use service_registry::Registry;
 use spelled_frame::SpelledFrame;
 use std::alloc::Global;
-use world_model::LinkEnd;
+use world_model::{LinkEnd, far_end};
 
 /// Where an accepted frame stands: the number of its log and that of its entry, each from 1.
 #[derive(Clone, Copy, PartialEq, Eq)]

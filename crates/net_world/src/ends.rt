@@ -1,4 +1,4 @@
-ghost use Rattle.std.specs.Prelude.{◌≡◌, ◌++◌, ◌<◌, length, position, slice_get, slice_set, Some, IfOk, IfSome, OnOk};
+ghost use Rattle.std.specs.Prelude.{◌≡◌, ◌++◌, ◌<◌, length, slice_get, slice_set, Some, IfOk, IfSome, OnOk};
 ghost use Rattle.world_model.specs.declared.lines.Wired.{Wired as WiredOf};
 ghost use Rattle.world_model.specs.Counts.{late_at};
 ghost use Rattle.world_model.specs.World as spec;
@@ -9,57 +9,10 @@ use plan_items::Items;
 use service_api::Neighbours;
 use std::alloc::Global;
 use std::mem;
-use world_model::{Handing, LinkEnd, Wire, Wired};
+use world_model::{Handing, Wire, Wired, peer_of};
 
 /// The number of devices of a node that links may use.
 const LINK_DEVICES: u32 = 8;
-
-/// Whether this is one end of a link.
-fn has_end(host: Host, dev: Dev, end: Host, at: Dev) -> bool
-    ensures { result ≡ spec.has_end host dev end at }
-{
-    end.0 == host.0 && at.0 == dev.0
-}
-
-/// The place of the first link that is on a device of a host.
-fn link_place(links: &[Cable], host: Host, dev: Dev) -> Option<usize>
-    ensures { result ≡ position (spec.is_on host dev) links.now }
-{
-    links.iter().position(|l| (l.from.0 == host.0 && l.from_dev.0 == dev.0)
-        || (l.to.0 == host.0 && l.to_dev.0 == dev.0))
-}
-
-/// The end to which a link leads from a device of a host.
-#[tactic(auto, unfolding(world_model::specs::World::peer_of))]
-fn peer_of(links: &[Cable], host: Host, dev: Dev) -> Option<LinkEnd>
-    ensures { result ≡ spec.peer_of links.now host dev }
-{
-    let at = link_place(links, host, dev)?;
-    let link = links.get(at)?;
-    if has_end(host, dev, link.from, link.from_dev) {
-        Some(LinkEnd {
-            host: link.to,
-            dev: link.to_dev,
-        })
-    } else {
-        Some(LinkEnd {
-            host: link.from,
-            dev: link.from_dev,
-        })
-    }
-}
-
-/// The same for every device; device 0 leads to the node itself.
-#[tactic(auto, unfolding(world_model::specs::World::far_end))]
-pub fn far_end(links: &[Cable], host: Host, dev: Dev) -> Option<LinkEnd>
-    ensures { result ≡ spec.far_end links.now host dev }
-{
-    if dev.0 == 0 {
-        Some(LinkEnd { host, dev })
-    } else {
-        peer_of(links, host, dev)
-    }
-}
 
 /// Adds the neighbour on a device, where there is one.
 fn add_neighbour(

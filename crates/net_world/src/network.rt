@@ -8,7 +8,7 @@ ghost use Rattle.world_model.specs.declared.lines.Line.TheVariants as line;
 ghost use Rattle.wire_numbers.specs.Numbers as numbers;
 ghost use Rattle.net_world.specs.Stands.{NetworkStands, WorldStands, IsActed};
 
-use crate::ends::{far_end, hand_off, was_handed, wire_place};
+use crate::ends::{hand_off, was_handed, wire_place};
 use crate::lines::{forged_lines, hand_line, no_lines, one_line, with_acts, with_wire};
 use crate::nodes::{arrive_at, hand_to, inject_at, node_place, take_at, tick_at, version_at};
 use crate::opening::open_nodes;
@@ -22,7 +22,7 @@ use service_api::Services;
 use spelled_frame::SpelledFrame;
 use std::alloc::Global;
 use wire_numbers::{highest, lowest};
-use world_model::{Handing, Line, Lines, LinkEnd, Wire, Wired};
+use world_model::{Handing, Line, Lines, LinkEnd, Wire, Wired, far_end};
 
 /// The number of frames that the wire holds.
 const MOST_ON_WIRE: usize = 4096;

@@ -1,9 +1,10 @@
+//! Where links lead.
 ghost use Rattle.std.specs.Prelude.{◌≡◌, position};
 ghost use Rattle.world_model.specs.World as spec;
 
+use crate::lines::LinkEnd;
 use network_plan::Cable;
 use plan_base::{Dev, Host};
-use world_model::LinkEnd;
 
 /// Whether this is one end of a link.
 fn has_end(host: Host, dev: Dev, end: Host, at: Dev) -> bool
@@ -20,9 +21,9 @@ fn link_place(links: &[Cable], host: Host, dev: Dev) -> Option<usize>
         || (l.to.0 == host.0 && l.to_dev.0 == dev.0))
 }
 
-/// The end to which a link leads from a device of a host.
-#[tactic(auto, unfolding(world_model::specs::World::peer_of))]
-fn peer_of(links: &[Cable], host: Host, dev: Dev) -> Option<LinkEnd>
+/// The end to which a link leads from a device of a host. Takes no memory.
+#[tactic(auto, unfolding(crate::specs::World::peer_of))]
+pub fn peer_of(links: &[Cable], host: Host, dev: Dev) -> Option<LinkEnd>
     ensures { result ≡ spec.peer_of links.now host dev }
 {
     let at = link_place(links, host, dev)?;
@@ -40,8 +41,8 @@ fn peer_of(links: &[Cable], host: Host, dev: Dev) -> Option<LinkEnd>
     }
 }
 
-/// The other end of a device of a host, by the links; device 0 leads to the node itself. Takes no memory.
-#[tactic(auto, unfolding(world_model::specs::World::far_end))]
+/// The same for every device; device 0 leads to the node itself. Takes no memory.
+#[tactic(auto, unfolding(crate::specs::World::far_end))]
 pub fn far_end(links: &[Cable], host: Host, dev: Dev) -> Option<LinkEnd>
     ensures { result ≡ spec.far_end links.now host dev }
 {
