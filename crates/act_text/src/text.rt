@@ -122,7 +122,8 @@ fn put_print(
     host: Host,
     value: &Value,
 ) -> Result<(), NoMemory>
-    ensures { OnOk result (out.new ≡ out.old ++ line_of event (spec.head_text (codes "print") host ++ (codes " " ++ value_text value.now))) }
+    ensures { OnOk result (out.new ≡ out.old ++ line_of event
+        (spec.head_text (codes "print") host ++ (codes " " ++ value_text value.now))) }
 {
     let mut text = ShortText::new();
     text.byte(b' ');
@@ -141,7 +142,9 @@ fn put_port(
     port: u16,
     value: &Value,
 ) -> Result<(), NoMemory>
-    ensures { OnOk result (out.new ≡ out.old ++ line_of event (spec.head_text (codes "port") host ++ (codes " " ++ (decimal port ++ (codes " " ++ value_text value.now))))) }
+    ensures { OnOk result (out.new ≡ out.old ++ line_of event
+        (spec.head_text (codes "port") host ++ (codes " " ++
+        (decimal port ++ (codes " " ++ value_text value.now))))) }
 {
     let mut text = ShortText::new();
     text.byte(b' ');
@@ -165,7 +168,8 @@ fn put_end(
     evals: u32,
     left: u32,
 ) -> Result<(), NoMemory>
-    ensures { OnOk result (out.new ≡ out.old ++ line_of event (spec.end_text host f outcome.now evals left)) }
+    ensures { OnOk result (out.new ≡ out.old ++ line_of event
+        (spec.end_text host f outcome.now evals left)) }
 {
     match outcome {
         Outcome::Value(value) => put_ended(alloc, out, event, host, f, value, evals, left)?,
@@ -187,7 +191,10 @@ fn put_ended(
     evals: u32,
     left: u32,
 ) -> Result<(), NoMemory>
-    ensures { OnOk result (out.new ≡ out.old ++ line_of event (spec.head_text (codes "value") host ++ (codes " " ++ (spec.family_text f ++ (codes " " ++ (value_text value.now ++ spec.rest_text evals left)))))) }
+    ensures { OnOk result (out.new ≡ out.old ++ line_of event
+        (spec.head_text (codes "value") host ++ (codes " " ++
+        (spec.family_text f ++ (codes " " ++ (value_text value.now ++ spec.rest_text
+        evals left)))))) }
 {
     match value {
         Value::Unit => put_done(out, event, host, f, evals, left)?,
@@ -205,7 +212,9 @@ fn put_done(
     evals: u32,
     left: u32,
 ) -> Result<(), NoMemory>
-    ensures { OnOk result (out.new ≡ out.old ++ line_of event (spec.head_text (codes "value") host ++ (codes " " ++ (spec.family_text f ++ (codes " " ++ (codes "()" ++ spec.rest_text evals left)))))) }
+    ensures { OnOk result (out.new ≡ out.old ++ line_of event
+        (spec.head_text (codes "value") host ++ (codes " " ++
+        (spec.family_text f ++ (codes " " ++ (codes "()" ++ spec.rest_text evals left)))))) }
 {
     let mut text = ShortText::new();
     write_rest(&mut text, evals, left);
@@ -227,7 +236,10 @@ fn put_given(
     evals: u32,
     left: u32,
 ) -> Result<(), NoMemory>
-    ensures { OnOk result (out.new ≡ out.old ++ line_of event (spec.head_text (codes "value") host ++ (codes " " ++ (spec.family_text f ++ (codes " " ++ (value_text value.now ++ spec.rest_text evals left)))))) }
+    ensures { OnOk result (out.new ≡ out.old ++ line_of event
+        (spec.head_text (codes "value") host ++ (codes " " ++
+        (spec.family_text f ++ (codes " " ++ (value_text value.now ++ spec.rest_text
+        evals left)))))) }
 {
     put_front(out, event, b"value", host, f)?;
     print_value(alloc, value, out)?;
@@ -244,7 +256,9 @@ fn put_raised(
     evals: u32,
     left: u32,
 ) -> Result<(), NoMemory>
-    ensures { OnOk result (out.new ≡ out.old ++ line_of event (spec.head_text (codes "raised") host ++ (codes " " ++ (spec.family_text f ++ (codes " " ++ (name.now ++ spec.rest_text evals left)))))) }
+    ensures { OnOk result (out.new ≡ out.old ++ line_of event
+        (spec.head_text (codes "raised") host ++ (codes " " ++
+        (spec.family_text f ++ (codes " " ++ (name.now ++ spec.rest_text evals left)))))) }
 {
     put_front(out, event, b"raised", host, f)?;
     out.add_all(name)?;
@@ -253,7 +267,9 @@ fn put_raised(
 }
 
 fn put_spent(out: &mut Bytes, event: u64, host: Host, f: Family, left: u32) -> Result<(), NoMemory>
-    ensures { OnOk result (out.new ≡ out.old ++ line_of event (spec.head_text (codes "spent") host ++ (codes " " ++ (spec.family_text f ++ (codes " left " ++ decimal left))))) }
+    ensures { OnOk result (out.new ≡ out.old ++ line_of event
+        (spec.head_text (codes "spent") host ++ (codes " " ++
+        (spec.family_text f ++ (codes " left " ++ decimal left))))) }
 {
     let mut text = ShortText::new();
     text.byte(b'\n');
@@ -275,7 +291,9 @@ fn put_handled(
     name: &[u8],
     bound: u32,
 ) -> Result<(), NoMemory>
-    ensures { OnOk result (out.new ≡ out.old ++ line_of event (spec.head_text (codes "handler") host ++ (codes " " ++ (spec.family_text f ++ (codes " " ++ (name.now ++ (codes " bound " ++ decimal bound))))))) }
+    ensures { OnOk result (out.new ≡ out.old ++ line_of event
+        (spec.head_text (codes "handler") host ++ (codes " " ++
+        (spec.family_text f ++ (codes " " ++ (name.now ++ (codes " bound " ++ decimal bound))))))) }
 {
     put_front(out, event, b"handler", host, f)?;
     out.add_all(name)?;
@@ -304,7 +322,8 @@ fn put_injected(
     f: Family,
     bound: u32,
 ) -> Result<(), NoMemory>
-    ensures { OnOk result (out.new ≡ out.old ++ line_of event (spec.head_text (codes "inject") host ++ spec.bound_text f bound)) }
+    ensures { OnOk result (out.new ≡ out.old ++ line_of event
+        (spec.head_text (codes "inject") host ++ spec.bound_text f bound)) }
 {
     let mut text = ShortText::new();
     text.byte(b'\n');
@@ -324,7 +343,8 @@ fn put_on_device(
     dev: Dev,
 ) -> Result<(), NoMemory>
     requires { length word.now ≤ 10 }
-    ensures { OnOk result (out.new ≡ out.old ++ line_of event (spec.head_text word.now host ++ spec.device_text dev)) }
+    ensures { OnOk result (out.new ≡ out.old ++ line_of event
+        (spec.head_text word.now host ++ spec.device_text dev)) }
 {
     let mut text = ShortText::new();
     text.byte(b'\n');
@@ -343,7 +363,8 @@ fn put_plain(
     end: &[u8],
 ) -> Result<(), NoMemory>
     requires { length word.now + length end.now ≤ 100 }
-    ensures { OnOk result (out.new ≡ out.old ++ line_of event (spec.head_text word.now host ++ end.now)) }
+    ensures { OnOk result (out.new ≡ out.old ++ line_of event
+        (spec.head_text word.now host ++ end.now)) }
 {
     let mut text = ShortText::new();
     text.byte(b'\n');
@@ -361,7 +382,8 @@ fn put_bad(
     host: Host,
     refusal: &FrameFault,
 ) -> Result<(), NoMemory>
-    ensures { OnOk result (out.new ≡ out.old ++ line_of event (spec.head_text (codes "drop") host ++ (codes " BadFrame " ++ reason_text refusal.now))) }
+    ensures { OnOk result (out.new ≡ out.old ++ line_of event
+        (spec.head_text (codes "drop") host ++ (codes " BadFrame " ++ reason_text refusal.now))) }
 {
     let mut text = ShortText::new();
     text.word(b" BadFrame ");
@@ -373,7 +395,8 @@ fn put_bad(
 }
 
 fn put_ticked(out: &mut Bytes, event: u64, host: Host, now: u64) -> Result<(), NoMemory>
-    ensures { OnOk result (out.new ≡ out.old ++ line_of event (spec.head_text (codes "tick") host ++ (codes " now " ++ decimal now))) }
+    ensures { OnOk result (out.new ≡ out.old ++ line_of event
+        (spec.head_text (codes "tick") host ++ (codes " now " ++ decimal now))) }
 {
     let mut text = ShortText::new();
     text.byte(b'\n');
@@ -404,7 +427,9 @@ fn put_queued(
     f: Family,
     bound: u32,
 ) -> Result<(), NoMemory>
-    ensures { OnOk result (out.new ≡ out.old ++ line_of event (spec.head_text (codes "queue") host ++ (spec.device_text dev ++ spec.bound_text f bound))) }
+    ensures { OnOk result (out.new ≡ out.old ++ line_of event
+        (spec.head_text (codes "queue") host ++ (spec.device_text dev ++
+        spec.bound_text f bound))) }
 {
     let mut text = ShortText::new();
     text.byte(b'\n');
@@ -423,7 +448,9 @@ fn put_dropped(
     f: Family,
     bound: u32,
 ) -> Result<(), NoMemory>
-    ensures { OnOk result (out.new ≡ out.old ++ line_of event (spec.head_text (codes "drop") host ++ (codes " " ++ (spec.reason_text reason ++ spec.bound_text f bound)))) }
+    ensures { OnOk result (out.new ≡ out.old ++ line_of event
+        (spec.head_text (codes "drop") host ++ (codes " " ++
+        (spec.reason_text reason ++ spec.bound_text f bound)))) }
 {
     let mut text = ShortText::new();
     text.byte(b'\n');
@@ -466,7 +493,9 @@ fn put_stale(
     took: Took,
     what: What,
 ) -> Result<(), NoMemory>
-    ensures { OnOk result (out.new ≡ out.old ++ line_of event (spec.head_text (codes "drop") host ++ (codes " " ++ (spec.took_text took ++ spec.stale_text what)))) }
+    ensures { OnOk result (out.new ≡ out.old ++ line_of event
+        (spec.head_text (codes "drop") host ++ (codes " " ++
+        (spec.took_text took ++ spec.stale_text what)))) }
 {
     let mut text = ShortText::new();
     text.byte(b'\n');
@@ -479,7 +508,9 @@ fn put_stale(
 }
 
 fn put_taken(out: &mut Bytes, event: u64, host: Host, dev: Dev, what: What) -> Result<(), NoMemory>
-    ensures { OnOk result (out.new ≡ out.old ++ line_of event (spec.head_text (codes "send") host ++ (spec.device_text dev ++ (codes " " ++ spec.sent_text what)))) }
+    ensures { OnOk result (out.new ≡ out.old ++ line_of event
+        (spec.head_text (codes "send") host ++ (spec.device_text dev ++
+        (codes " " ++ spec.sent_text what)))) }
 {
     let mut text = ShortText::new();
     text.byte(b'\n');

@@ -43,7 +43,8 @@ fn read_values(values: &[Value])
 /// text as the same value, and changes nothing. Takes no memory.
 #[tactic(auto, using(crate::proofs::ValuesAgain::arguments_again))]
 pub fn arguments_read_again(chunk: &CheckedChunk)
-    ensures { (i : ℕ) (v : Tree) → slice_get chunk.now.args i ≡ Some v → IsReadBack v → Reads value_of (value_text v) v }
+    ensures { (i : ℕ) (v : Tree) → slice_get chunk.now.args i ≡ Some v → IsReadBack v → Reads
+        value_of (value_text v) v }
 {
     read_values(chunk.chunk().args.as_slice());
 }

@@ -18,7 +18,8 @@ use std::alloc::Global;
 fn program_in(alloc: Global, text: &[u8]) -> Result<Checked, PacketFault>
     requires { length text.now ≤ 65536 }
     ensures found { IfOk result (λ k. program_of text.now ≡ Ok k) }
-    ensures only { (p : Program) → program_of text.now ≡ Ok p → MatchResult result (λ k. k ≡ p) (λ f. f ≡ PacketFault.NoMemory) }
+    ensures only { (p : Program) → program_of text.now ≡ Ok p → MatchResult result (λ k. k ≡ p)
+        (λ f. f ≡ PacketFault.NoMemory) }
 {
     match read_program(alloc, text) {
         Ok(program) => Ok(program),
@@ -30,7 +31,8 @@ fn program_in(alloc: Global, text: &[u8]) -> Result<Checked, PacketFault>
 /// The chunk of a program with that entry and no arguments.
 fn chunk_in(alloc: Global, program: &Checked, entry: &Name) -> Result<CheckedChunk, PacketFault>
     ensures found { IfOk result (λ k. k ≡ chunk_with program.now entry.now) }
-    ensures only { IsTypedChunk (chunk_with program.now entry.now) → MatchResult result (λ k. k ≡ chunk_with program.now entry.now) (λ f. f ≡ PacketFault.NoMemory) }
+    ensures only { IsTypedChunk (chunk_with program.now entry.now) → MatchResult result
+        (λ k. k ≡ chunk_with program.now entry.now) (λ f. f ≡ PacketFault.NoMemory) }
 {
     match chunk_of(alloc, program, entry, Items::new(alloc)) {
         Ok(chunk) => Ok(chunk),
@@ -51,8 +53,10 @@ pub fn packet_of(
     requires text { length text.now ≤ 65536 }
     requires bound { bound ≤ 65535 }
     ensures found { IfOk result (IsPacketOf text.now entry.now here bound) }
-    ensures only { (p : Program) → program_of text.now ≡ Ok p → IsTypedChunk (chunk_with p entry.now)
-        → MatchResult result (λ k. k ≡ first_packet here bound (chunk_with p entry.now)) (λ f. f ≡ PacketFault.NoMemory) }
+    ensures only { (p : Program) → program_of text.now ≡ Ok p → IsTypedChunk
+        (chunk_with p entry.now)
+        → MatchResult result (λ k. k ≡ first_packet here bound (chunk_with p entry.now))
+        (λ f. f ≡ PacketFault.NoMemory) }
     ensures starts { IfOk result (λ p. (p.bound ≡ bound) × (p.family.source ≡ here)) }
 {
     let program = program_in(alloc, text)?;

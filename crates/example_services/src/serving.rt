@@ -29,7 +29,8 @@ fn take_number(number: &mut i64) -> i64
 /// `count`.
 fn count(alloc: Global, number: &mut i64, args: &[Value]) -> Result<Answer, NoMemory>
     requires { IsNumber number.old }
-    ensures meets { Meets (spec.serve_as ExampleService.Count args.now (counting number.old)) (counting number.old) result (counting number.new) }
+    ensures meets { Meets (spec.serve_as ExampleService.Count args.now (counting number.old))
+        (counting number.old) result (counting number.new) }
     ensures kept { IsNumber number.new }
 {
     if args.is_empty() {
@@ -59,7 +60,8 @@ fn served_as(
     args: &[Value],
 ) -> Result<Answer, NoMemory>
     requires { IsNumber number.old }
-    ensures meets { Meets (spec.serve_as service args.now (counting number.old)) (counting number.old) result (counting number.new) }
+    ensures meets { Meets (spec.serve_as service args.now (counting number.old))
+        (counting number.old) result (counting number.new) }
     ensures kept { IsNumber number.new }
 {
     match service {
@@ -76,7 +78,8 @@ pub fn answer_call(
     args: &[Value],
 ) -> Result<Answer, NoMemory>
     requires { IsNumber number.old }
-    ensures meets { Meets (spec.serve_called (offered.called_service svc.now) args.now (counting number.old)) (counting number.old) result (counting number.new) }
+    ensures meets { Meets (spec.serve_called (offered.called_service svc.now) args.now
+        (counting number.old)) (counting number.old) result (counting number.new) }
     ensures kept { IsNumber number.new }
 {
     match service_of_call(alloc, svc)? {

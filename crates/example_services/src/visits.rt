@@ -35,7 +35,8 @@ fn make<S: Services>(
     requires near { length ctx.now.neighbours ≤ 8 }
     requires rows { AreGoodRows (S.stands services.old).rows }
     requires open { IsSome (S.stands services.old).begun }
-    ensures made { IfOk result (λ r. IsMade packet.now ctx.entry.now (S.stands services.old) r (S.stands services.new)) }
+    ensures made { IfOk result (λ r. IsMade packet.now ctx.entry.now (S.stands services.old) r
+        (S.stands services.new)) }
     ensures balance { IfOk result (λ r. r.evals + r.left + bounds r.outbox ≡ packet.now.bound) }
     ensures ready { OnOk result (IsTrue (S.stands services.new).ready) }
     ensures offer { (S.stands services.new).offer ≡ (S.stands services.old).offer }
@@ -75,7 +76,8 @@ pub fn visit_once<S: Services>(
     requires source { ctx.now.source ≡ packet.now.family.source }
     requires near { length ctx.now.neighbours ≤ 8 }
     requires rests { IsResting (S.stands services.old) }
-    ensures visits { IfOk result (λ r. IsVisited packet.now ctx.entry.now (S.stands services.old) r (S.stands services.new)) }
+    ensures visits { IfOk result (λ r. IsVisited packet.now ctx.entry.now (S.stands services.old) r
+        (S.stands services.new)) }
     ensures balance { IfOk result (λ r. r.evals + r.left + bounds r.outbox ≡ packet.now.bound) }
     ensures undone { OnErr result (S.stands services.new ≡ S.stands services.old) }
     ensures rests { IsResting (S.stands services.new) }

@@ -18,8 +18,10 @@ ghost use Rattle.file_faults.specs.Refusals.{FaultHolds};
 /// No first refusal of a file of lines is or holds `NoMemory`.
 #[tactic(auto, using(crate::proofs::ScheduleHolds::schedule_holds, crate::proofs::ConfigHolds::config_holds, crate::proofs::LogHolds::log_holds, crate::proofs::AskHolds::ask_holds, crate::proofs::FleetHolds::fleet_holds, crate::proofs::CutHolds::cut_holds, crate::proofs::PortHolds::port_holds, crate::proofs::AuditHolds::audit_holds))]
 pub fn refusals_hold_no_memory()
-    ensures schedules { (bytes : List ℕ) (e : LineFault) → schedule_of bytes ≡ Err e → FaultHolds e }
-    ensures configurations { (bytes : List ℕ) (e : LineFault) → config_of bytes ≡ Err e → FaultHolds e }
+    ensures schedules { (bytes : List ℕ) (e : LineFault) → schedule_of bytes ≡ Err e →
+        FaultHolds e }
+    ensures configurations { (bytes : List ℕ) (e : LineFault) → config_of bytes ≡ Err e →
+        FaultHolds e }
     ensures logs { (bytes : List ℕ) (e : LineFault) → log_of bytes ≡ Err e → FaultHolds e }
     ensures requests { (bytes : List ℕ) (e : LineFault) → ask_of bytes ≡ Err e → FaultHolds e }
     ensures fleets { (bytes : List ℕ) (e : LineFault) → fleet_of bytes ≡ Err e → FaultHolds e }

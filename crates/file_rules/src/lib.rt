@@ -28,7 +28,8 @@ ghost use Rattle.port_files.specs.PortRules.{KeepsPort};
 /// What a file says keeps the rules of its kind.
 pub fn values_keep_rules()
     ensures schedules { (bytes : List ℕ) (s : Schedule) → schedule_of bytes ≡ Ok s → KeepsRules s }
-    ensures configurations { (bytes : List ℕ) (c : ServeConfig) → config_of bytes ≡ Ok c → KeepsServe c }
+    ensures configurations { (bytes : List ℕ) (c : ServeConfig) → config_of bytes ≡ Ok c →
+        KeepsServe c }
     ensures logs { (bytes : List ℕ) (l : Log) → log_of bytes ≡ Ok l → KeepsLog l }
     ensures requests { (bytes : List ℕ) (a : AskFile) → ask_of bytes ≡ Ok a → KeepsAsk a }
     ensures fleets { (bytes : List ℕ) (f : Fleet) → fleet_of bytes ≡ Ok f → KeepsFleet f }

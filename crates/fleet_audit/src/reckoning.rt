@@ -139,7 +139,8 @@ fn reckon_arrival(
     ensures { (p : Past) → Holds reckoning.old p
         → OnOk result (Holds reckoning.new
         (spec.with_accepted
-        (runs.numbered_arrivals mark.log mark.event (spec.arrived_from from bytes.now acts.now)) p)) }
+        (runs.numbered_arrivals mark.log mark.event (spec.arrived_from from bytes.now acts.now))
+        p)) }
 {
     if !is_accepted(acts) {
         return Ok(());

@@ -147,9 +147,11 @@ fn put_part(alloc: Global, holding: &mut Holding, given: Given<'_>) -> Result<()
 /// Adds a part to what is kept of its key.
 #[tactic(auto, unfolding(crate::specs::Gathers::holding_after))]
 pub fn add_to(alloc: Global, holding: &mut Holding, given: Given<'_>) -> Result<Added, NoMemory>
-    ensures answer { IfOk result (λ a. a ≡ spec.judged_part (Some holding.old) (as_said given.entry)) }
+    ensures answer { IfOk result (λ a. a ≡ spec.judged_part (Some holding.old)
+        (as_said given.entry)) }
     ensures holding { IfOk result
-        (λ a. holding.new ≡ spec.holding_after a (Some holding.old) (as_said given.entry) holding.old) }
+        (λ a. holding.new ≡ spec.holding_after a (Some holding.old) (as_said given.entry)
+        holding.old) }
     ensures few { FewIn holding.old → FewIn holding.new }
     ensures err { OnErr result (holding.new ≡ holding.old) }
 {

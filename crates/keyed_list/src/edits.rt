@@ -74,8 +74,10 @@ pub fn take_out<T: HasKey + Drop>(items: &mut Vec<T>, order: &mut Vec<usize>, j:
     ensures items { items.new.items ≡ remove items.old.items (slice_index order.old.items j) }
     ensures unique { IsUnique T.key_of items.new.items }
     ensures index { IsIndex (map T.key_of items.new.items) order.new.items }
-    ensures len { (vec_len items.new + 1 ≡ vec_len items.old) × (vec_len order.new + 1 ≡ vec_len order.old) }
-    ensures capacity { (vec_capacity items.new ≡ vec_capacity items.old) × (vec_capacity order.new ≡ vec_capacity order.old) }
+    ensures len { (vec_len items.new + 1 ≡ vec_len items.old) ×
+        (vec_len order.new + 1 ≡ vec_len order.old) }
+    ensures capacity { (vec_capacity items.new ≡ vec_capacity items.old) ×
+        (vec_capacity order.new ≡ vec_capacity order.old) }
 {
     let place = drop_place(order, j);
     drop_at(items, place);

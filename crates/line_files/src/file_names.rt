@@ -14,7 +14,8 @@ use std::str;
 const MOST_NAME_BYTES: usize = 255;
 
 fn utf8_text(bytes: &[u8]) -> Option<&str>
-    ensures { MatchOption result (is_utf8 bytes.now ≡ false) (λ text. (text.now ≡ bytes.now) × (is_utf8 bytes.now ≡ true)) }
+    ensures { MatchOption result (is_utf8 bytes.now ≡ false)
+        (λ text. (text.now ≡ bytes.now) × (is_utf8 bytes.now ≡ true)) }
 {
     match str::from_utf8(bytes) {
         Ok(text) => Some(text),
@@ -24,7 +25,8 @@ fn utf8_text(bytes: &[u8]) -> Option<&str>
 
 /// The word as a file name, 1 to 255 bytes of UTF-8, or none.
 pub fn as_file_name(word: &[u8]) -> Option<&str>
-    ensures { MatchOption result (is_file_name word.now ≡ false) (λ name. (name.now ≡ word.now) × (is_file_name word.now ≡ true)) }
+    ensures { MatchOption result (is_file_name word.now ≡ false)
+        (λ name. (name.now ≡ word.now) × (is_file_name word.now ≡ true)) }
 {
     if word.is_empty() || word.len() > MOST_NAME_BYTES {
         return None;

@@ -31,7 +31,8 @@ fn find_byte(text: &[u8], b: u8) -> usize
 #[tactic(auto, using(crate::proofs::Splits::line_last, crate::proofs::Splits::line_more), unfolding(crate::specs::Lines::lines))]
 /// The first line and the bytes behind it, or none where no byte is left.
 pub fn next_line(bytes: &[u8]) -> Option<(&[u8], &[u8])>
-    ensures split { MatchOption result (lines bytes.now ≡ []) (λ p. lines bytes.now ≡ p.0.now ∷ lines p.1.now) }
+    ensures split { MatchOption result (lines bytes.now ≡ [])
+        (λ p. lines bytes.now ≡ p.0.now ∷ lines p.1.now) }
     ensures shorter { IfSome result (λ p. length p.1.now < length bytes.now) }
 {
     if bytes.is_empty() {
@@ -144,7 +145,8 @@ impl<'a> Words<'a> {
     #[tactic(auto, using(crate::proofs::Splits::rest_all))]
     /// The rest of the line. The reason is `BadWord` where the line has ended.
     pub fn rest(&self) -> Result<&'a [u8], LineReason>
-        ensures { MatchResult result (λ r. rest_at self.now ≡ Ok r.now) (λ e. rest_at self.now ≡ Err e) }
+        ensures { MatchResult result (λ r. rest_at self.now ≡ Ok r.now)
+            (λ e. rest_at self.now ≡ Err e) }
     {
         if self.more {
             Ok(self.rest)

@@ -24,7 +24,8 @@ pub fn gather_text<S: Services + Drop>(
     requires keeps { KeepsLog log.now }
     requires services { IsResting (S.stands services) }
     ensures { IfOk result
-        (λ text. text ≡ gather_output port (new_node log.now.node (S.stands services)) log.now.events) }
+        (λ text. text ≡ gather_output port (new_node log.now.node (S.stands services))
+        log.now.events) }
 {
     let mut node = begin_node(alloc, &log.node, services)?;
     let mut counting = Counting::nothing(alloc, port)?;

@@ -19,13 +19,15 @@ ghost use Rattle.node_file_laws.specs.Fleets.{fleet_text, IsFleet};
 /// itself.
 #[tactic(auto, using(crate::proofs::ConfigRead::config_again))]
 pub fn written_configurations_are_read()
-    ensures { (program : Option ProgramText) (by : Chunk → List ℕ) (c : ServeConfig) → IsConfig program by c → config_of (config_text program by c) ≡ Ok c }
+    ensures { (program : Option ProgramText) (by : Chunk → List ℕ) (c : ServeConfig) → IsConfig
+        program by c → config_of (config_text program by c) ≡ Ok c }
 {}
 
 /// A request within its limits that is written, with its program and arguments as texts that say them, reads as itself.
 #[tactic(auto, using(crate::proofs::AskRead::ask_again))]
 pub fn written_requests_are_read()
-    ensures { (text : List (List ℕ)) (args : List ℕ) (a : AskFile) → IsAsk text args a → ask_of (ask_text text args a) ≡ Ok a }
+    ensures { (text : List (List ℕ)) (args : List ℕ) (a : AskFile) → IsAsk text args a → ask_of
+        (ask_text text args a) ≡ Ok a }
 {}
 
 /// A fleet within its limits that is written reads as itself.

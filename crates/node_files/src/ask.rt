@@ -167,7 +167,8 @@ impl AskReading {
     /// The header.
     #[tactic(auto, unfolding(crate::specs::Asks::ask_step_at))]
     fn header(&mut self, number: u32, line: &[u8]) -> Result<(), LineFault>
-        ensures { FileLeaves result self.new (ask_step_at AskStage.Header number line.now self.old) }
+        ensures { FileLeaves result self.new (ask_step_at AskStage.Header number
+            line.now self.old) }
     {
         if !is(line, b"planet inject 1") {
             return Err(LineFault::Line(number, LineReason::BadHeader));
@@ -185,7 +186,8 @@ impl AskReading {
         number: u32,
         line: &[u8],
     ) -> Result<(), LineFault>
-        ensures { FileLeaves result self.new (ask_step_at (AskStage.Wants word) number line.now self.old) }
+        ensures { FileLeaves result self.new (ask_step_at (AskStage.Wants word) number
+            line.now self.old) }
     {
         if says_nothing(line) {
             return Ok(());
@@ -226,7 +228,8 @@ impl AskReading {
     /// A line behind the program.
     #[tactic(auto, unfolding(crate::specs::Asks::ask_step_at))]
     fn behind(&mut self, number: u32, line: &[u8]) -> Result<(), LineFault>
-        ensures { FileLeaves result self.new (ask_step_at AskStage.Behind number line.now self.old) }
+        ensures { FileLeaves result self.new (ask_step_at AskStage.Behind number
+            line.now self.old) }
     {
         if says_nothing(line) {
             return Ok(());
@@ -298,7 +301,8 @@ pub fn read_ask(alloc: Global, bytes: &[u8]) -> Result<AskFile, LineFault>
     // What is answered is what the file says.
     ensures found { IfOk result (λ a. ask_of bytes.now ≡ Ok a) }
     // A file that says a request is answered so, unless memory is refused.
-    ensures only { (a : Request) → ask_of bytes.now ≡ Ok a → MatchResult result (λ b. b ≡ a) (λ e. e ≡ LineFault.NoMemory) }
+    ensures only { (a : Request) → ask_of bytes.now ≡ Ok a → MatchResult result (λ b. b ≡ a)
+        (λ e. e ≡ LineFault.NoMemory) }
     // A refusal is the file's first one, unless memory is refused.
     ensures fault { IfErr result (λ e. (e ≡ LineFault.NoMemory) ⊎ (ask_of bytes.now ≡ Err e)) }
     // A request keeps the rules.

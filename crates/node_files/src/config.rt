@@ -383,7 +383,8 @@ impl ConfigReading {
     /// The header, which gives the version.
     #[tactic(auto, unfolding(crate::specs::Configs::config_step_at))]
     fn header(&mut self, number: u32, line: &[u8]) -> Result<(), LineFault>
-        ensures { FileLeaves result self.new (config_step_at ConfigStage.Header number line.now self.old) }
+        ensures { FileLeaves result self.new (config_step_at ConfigStage.Header number
+            line.now self.old) }
     {
         match version_of(line, b"planet node 1", b"planet node 2") {
             None => Err(LineFault::Line(number, LineReason::BadHeader)),
@@ -404,7 +405,8 @@ impl ConfigReading {
         number: u32,
         line: &[u8],
     ) -> Result<(), LineFault>
-        ensures { FileLeaves result self.new (config_step_at (ConfigStage.Wants word) number line.now self.old) }
+        ensures { FileLeaves result self.new (config_step_at (ConfigStage.Wants word) number
+            line.now self.old) }
     {
         if says_nothing(line) {
             return Ok(());
@@ -425,7 +427,8 @@ impl ConfigReading {
         number: u32,
         line: &[u8],
     ) -> Result<(), LineFault>
-        ensures { FileLeaves result self.new (config_step_at (ConfigStage.Tail part) number line.now self.old) }
+        ensures { FileLeaves result self.new (config_step_at (ConfigStage.Tail part) number
+            line.now self.old) }
     {
         if says_nothing(line) {
             return Ok(());
@@ -526,7 +529,8 @@ pub fn read_config(alloc: Global, bytes: &[u8]) -> Result<ServeConfig, LineFault
     // What is answered is what the file says.
     ensures found { IfOk result (λ c. config_of bytes.now ≡ Ok c) }
     // A file that says a configuration is answered so, unless memory is refused.
-    ensures only { (c : Serving) → config_of bytes.now ≡ Ok c → MatchResult result (λ d. d ≡ c) (λ e. e ≡ LineFault.NoMemory) }
+    ensures only { (c : Serving) → config_of bytes.now ≡ Ok c → MatchResult result (λ d. d ≡ c)
+        (λ e. e ≡ LineFault.NoMemory) }
     // A refusal is the file's first one, unless memory is refused.
     ensures fault { IfErr result (λ e. (e ≡ LineFault.NoMemory) ⊎ (config_of bytes.now ≡ Err e)) }
     // A configuration keeps the rules.

@@ -347,7 +347,8 @@ impl LogReading {
     /// The header, which gives the version.
     #[tactic(auto, unfolding(crate::specs::Logs::log_step_at))]
     fn header(&mut self, number: u32, line: &[u8]) -> Result<(), LineFault>
-        ensures { FileLeaves result self.new (log_step_at LogStage.Header number line.now self.old) }
+        ensures { FileLeaves result self.new (log_step_at LogStage.Header number
+            line.now self.old) }
     {
         match version_of(line, b"planet log 1", b"planet log 2") {
             None => Err(LineFault::Line(number, LineReason::BadHeader)),
@@ -413,7 +414,8 @@ impl LogReading {
         number: u32,
         line: &[u8],
     ) -> Result<(), LineFault>
-        ensures { FileLeaves result self.new (log_step_at (LogStage.Node lacks) number line.now self.old) }
+        ensures { FileLeaves result self.new (log_step_at (LogStage.Node lacks) number
+            line.now self.old) }
     {
         if says_nothing(line) {
             return Ok(());
@@ -428,7 +430,8 @@ impl LogReading {
     /// The line of an entry.
     #[tactic(auto, unfolding(crate::specs::Logs::log_step_at))]
     fn entry_step(&mut self, alloc: Global, number: u32, line: &[u8]) -> Result<(), LineFault>
-        ensures { FileLeaves result self.new (log_step_at LogStage.Events number line.now self.old) }
+        ensures { FileLeaves result self.new (log_step_at LogStage.Events number
+            line.now self.old) }
     {
         if says_nothing(line) {
             return Ok(());
@@ -499,7 +502,8 @@ pub fn read_log(alloc: Global, bytes: &[u8]) -> Result<Log, LineFault>
     // What is answered is what the file says.
     ensures found { IfOk result (λ l. log_of bytes.now ≡ Ok l) }
     // A file that says a log is answered so, unless memory is refused.
-    ensures only { (l : Logged) → log_of bytes.now ≡ Ok l → MatchResult result (λ k. k ≡ l) (λ e. e ≡ LineFault.NoMemory) }
+    ensures only { (l : Logged) → log_of bytes.now ≡ Ok l → MatchResult result (λ k. k ≡ l)
+        (λ e. e ≡ LineFault.NoMemory) }
     // A refusal is the file's first one, unless memory is refused.
     ensures fault { IfErr result (λ e. (e ≡ LineFault.NoMemory) ⊎ (log_of bytes.now ≡ Err e)) }
     // A log keeps the rules.

@@ -96,7 +96,8 @@ fn put_inject(
     handler: &Option<Name>,
     out: &mut Bytes,
 ) -> Result<(), NoMemory>
-    ensures line { OnOk result (out.new ≡ out.old ++ line_text (event_words (Event.Inject chunk.now bound handler.now))) }
+    ensures line { OnOk result (out.new ≡ out.old ++ line_text
+        (event_words (Event.Inject chunk.now bound handler.now))) }
     ensures again { OnOk result (CanSpell chunk.now × IsNamed handler.now) }
 {
     let chunk = chunk.chunk();
@@ -112,7 +113,8 @@ fn put_inject(
 
 /// The line of a frame.
 fn put_frame(alloc: Global, dev: Dev, bytes: &[u8], out: &mut Bytes) -> Result<(), NoMemory>
-    ensures { OnOk result (out.new ≡ out.old ++ line_text (event_words (Event.Frame dev bytes.now))) }
+    ensures { OnOk result (out.new ≡ out.old ++ line_text
+        (event_words (Event.Frame dev bytes.now))) }
 {
     out.add_all(b"frame ")?;
     put_number(alloc, u64::from(dev.0), out)?;

@@ -28,19 +28,23 @@ pub fn settled_visit_balance()
 
 /// With services that keep their laws and at most 8 neighbours, the visit of a typed chunk never is without a case.
 pub fn visit_has_case()
-    ensures { (node : NodeState) (p : Packet) → IsGood node.services → length node.neighbours ≤ 8 → IsGoodChunk p.chunk → HasCase (evaluated_packet (around node p) (begun_now node.services) p) }
+    ensures { (node : NodeState) (p : Packet) → IsGood node.services → length node.neighbours ≤ 8 →
+        IsGoodChunk p.chunk → HasCase (evaluated_packet (around node p)
+        (begun_now node.services) p) }
 {}
 
 /// Each step of a node is in balance, for each family, and what came in with a stale frame stands in its acts.
 pub fn step_balance()
-    ensures { (f : Family) (node : NodeState) (e : Event) → StepBalances f (came f node e) (stale f node e) node (node_step node e) }
+    ensures { (f : Family) (node : NodeState) (e : Event) → StepBalances f (came f node e)
+        (stale f node e) node (node_step node e) }
 {}
 
 /// Each step keeps what every node keeps: queues of at most 64 frames, whose packets are typed and have
 /// at most 65,535 and a handler that may handle, if one, rows within their limits, adverts within theirs, and neighbours by
 /// device.
 pub fn step_keeps()
-    ensures { (node : NodeState) (e : Event) → comes_fit node.version e → NodeFits node → NodeFits (node_step node e).node }
+    ensures { (node : NodeState) (e : Event) → comes_fit node.version e → NodeFits node → NodeFits
+        (node_step node e).node }
 {}
 
 /// What stands around a visit at a node is in order: its neighbours by device, and its routes by host.
@@ -51,11 +55,15 @@ pub fn contexts_are_ordered()
 /// Frames of one device leave in the order in which they were queued: at each step they join its queue at the end, or the
 /// first one leaves it.
 pub fn queues_move_in_order()
-    ensures { (d : ℕ) (node : NodeState) (e : Event) → MovesInOrder (queue_at node.queues d) (queue_at (node_step node e).node.queues d) }
+    ensures { (d : ℕ) (node : NodeState) (e : Event) → MovesInOrder (queue_at node.queues d)
+        (queue_at (node_step node e).node.queues d) }
 {}
 
 /// What isn't fresh on a device isn't fresh there after a frame arrives; under version 2 neither is that frame.
 pub fn windows_only_close()
-    ensures later { (node : NodeState) (d e : Dev) (x : PlainStamped) (s : Option Stamp) → is_fresh (takes_as node.seen e s) ≡ false → is_fresh (takes_as (stamped_step node d x).node.seen e s) ≡ false }
-    ensures taken { (node : NodeState) (d : Dev) (x : PlainStamped) → IsMarked Two x.stamp → d.0 < length node.seen → is_fresh (takes_as (stamped_step node d x).node.seen d x.stamp) ≡ false }
+    ensures later { (node : NodeState) (d e : Dev) (x : PlainStamped) (s : Option Stamp) → is_fresh
+        (takes_as node.seen e s) ≡ false → is_fresh
+        (takes_as (stamped_step node d x).node.seen e s) ≡ false }
+    ensures taken { (node : NodeState) (d : Dev) (x : PlainStamped) → IsMarked Two x.stamp → d.0 <
+        length node.seen → is_fresh (takes_as (stamped_step node d x).node.seen d x.stamp) ≡ false }
 {}

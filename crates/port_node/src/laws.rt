@@ -16,7 +16,8 @@ ghost use Rattle.port_node.specs.Known.{IsClosed, NodeKnown, StepKnown, WorldKno
 pub fn steps_stay_known()
     ensures { (offer : Offer) (dest : Host) (seq : ℤ) (body : List ℕ)
         → (node : NodeState) (d : Dev) (p : Packet)
-        → IsClosed (data_allowed offer dest seq body) → p.chunk ≡ data_chunk dest seq body → p.handler ≡ None
+        → IsClosed (data_allowed offer dest seq body) → p.chunk ≡ data_chunk dest seq body →
+        p.handler ≡ None
         → NodeKnown (data_allowed offer dest seq body) node
         → StepKnown (data_allowed offer dest seq body) (packet_step node d p) }
 {}

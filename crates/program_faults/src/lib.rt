@@ -13,10 +13,13 @@ ghost use Rattle.program_faults.specs.Refusals.{IsTypedProgram, FirstRefusal, Is
 /// A text is refused exactly for the first thing that is wrong with it. It is a typed program or has a first refusal, and
 /// not both, and it has at most one.
 pub fn texts_are_refused_first()
-    ensures first { (text : List ℕ) (e : TextFault) → length text ≤ 65536 → (program_of text ≡ Err e) ↔ FirstRefusal text e }
+    ensures first { (text : List ℕ) (e : TextFault) → length text ≤ 65536 →
+        (program_of text ≡ Err e) ↔ FirstRefusal text e }
     ensures some { (text : List ℕ) → length text ≤ 65536 → IsProgramOrRefused text }
-    ensures apart { (text : List ℕ) (p : Program) (e : TextFault) → length text ≤ 65536 → IsTypedProgram text p → FirstRefusal text e → ⊥ }
-    ensures one { (text : List ℕ) (d e : TextFault) → length text ≤ 65536 → FirstRefusal text d → FirstRefusal text e → d ≡ e }
+    ensures apart { (text : List ℕ) (p : Program) (e : TextFault) → length text ≤ 65536 →
+        IsTypedProgram text p → FirstRefusal text e → ⊥ }
+    ensures one { (text : List ℕ) (d e : TextFault) → length text ≤ 65536 → FirstRefusal text d →
+        FirstRefusal text e → d ≡ e }
 {}
 
 /// No first refusal of a text is or holds `NoMemory`.

@@ -32,7 +32,9 @@ pub fn forget(
     base: &Tables,
     wanted: &Probe,
 ) -> Result<(), NoMemory>
-    ensures ok { OnOk result (without_all gone.new.items base.now.rows ≡ without_row (record { name = wanted.now.name.now; number = wanted.now.number }) (without_all gone.old.items base.now.rows)) }
+    ensures ok { OnOk result (without_all gone.new.items base.now.rows ≡ without_row
+        (record { name = wanted.now.name.now; number = wanted.now.number })
+        (without_all gone.old.items base.now.rows)) }
     ensures err { OnErr result (gone.new.items ≡ gone.old.items) }
 {
     let Some(_there) = base.find(wanted) else {

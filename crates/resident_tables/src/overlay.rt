@@ -73,7 +73,8 @@ impl Overlay {
 
     /// The row of the key of `wanted` after the changes.
     fn find<'a, Q: HasKey>(&'a self, base: &'a Tables, wanted: &Q) -> Option<&'a Row>
-        ensures row { option_copied result ≡ found_row (Q.key_of wanted.now) (over base.now.rows self.now) }
+        ensures row { option_copied result ≡ found_row (Q.key_of wanted.now)
+            (over base.now.rows self.now) }
         ensures unique { IsUnique row_key (over base.now.rows self.now) }
         ensures puts { IsUnique row_key self.now.puts }
     {
@@ -112,7 +113,8 @@ impl Overlay {
     /// The counts without the row of the key of `wanted`.
     fn counts_without<Q: HasKey>(&self, base: &Tables, wanted: &Q) -> Counts
         requires { IsOver base.now.rows self.now }
-        ensures counts { result ≡ counts_of (without_row (Q.key_of wanted.now) (over base.now.rows self.now)) }
+        ensures counts { result ≡ counts_of (without_row (Q.key_of wanted.now)
+            (over base.now.rows self.now)) }
         ensures within { within result ≡ true }
     {
         let counts = self.counts(base);
@@ -131,7 +133,8 @@ impl Overlay {
         expiry: u64,
     ) -> Result<(), TableFault>
         requires { IsOver base.now.rows self.old }
-        ensures rows { IsPut (over base.now.rows self.old) (row_of name.now key ty.now value.now expiry) result (over base.now.rows self.new) }
+        ensures rows { IsPut (over base.now.rows self.old)
+            (row_of name.now key ty.now value.now expiry) result (over base.now.rows self.new) }
         ensures over { IsOver base.now.rows self.new }
         ensures next_key { self.new.«next» ≡ self.old.«next» }
     {
@@ -162,7 +165,8 @@ impl Overlay {
         ty: &Ty,
         now: u64,
     ) -> Result<Value, TableFault>
-        ensures { IsGot (got (record { name = name.now; number = key }) ty.now now (over base.now.rows self.now)) result }
+        ensures { IsGot (got (record { name = name.now; number = key }) ty.now now
+            (over base.now.rows self.now)) result }
     {
         let wanted = Probe {
             name: name.as_slice(),
@@ -181,7 +185,8 @@ impl Overlay {
         key: i64,
     ) -> Result<(), NoMemory>
         requires { IsOver base.now.rows self.old }
-        ensures ok { OnOk result (over base.now.rows self.new ≡ without_row (record { name = name.now; number = key }) (over base.now.rows self.old)) }
+        ensures ok { OnOk result (over base.now.rows self.new ≡ without_row
+            (record { name = name.now; number = key }) (over base.now.rows self.old)) }
         ensures err { OnErr result (self.new ≡ self.old) }
         ensures over { IsOver base.now.rows self.new }
         ensures next_key { self.new.«next» ≡ self.old.«next» }

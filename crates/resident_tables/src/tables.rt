@@ -130,7 +130,8 @@ impl Tables {
         value: &Value,
         expiry: u64,
     ) -> Result<(), TableFault>
-        ensures rows { IsPut self.old.rows (row_of name.now key ty.now value.now expiry) result self.new.rows }
+        ensures rows { IsPut self.old.rows (row_of name.now key ty.now value.now expiry) result
+            self.new.rows }
         ensures next_key { self.new.«next» ≡ self.old.«next» }
     {
         let parts = Parts {
@@ -161,7 +162,8 @@ impl Tables {
         ty: &Ty,
         now: u64,
     ) -> Result<Value, TableFault>
-        ensures { IsGot (got (record { name = name.now; number = key }) ty.now now self.now.rows) result }
+        ensures { IsGot (got (record { name = name.now; number = key }) ty.now now self.now.rows)
+            result }
     {
         let wanted = Probe {
             name: name.as_slice(),
@@ -172,7 +174,8 @@ impl Tables {
 
     /// Drops what is kept under name and number, if there is something. Takes no memory.
     pub fn remove(&mut self, name: &Text, key: i64)
-        ensures rows { self.new.rows ≡ without_row (record { name = name.now; number = key }) self.old.rows }
+        ensures rows { self.new.rows ≡ without_row (record { name = name.now; number = key })
+            self.old.rows }
         ensures next_key { self.new.«next» ≡ self.old.«next» }
     {
         let wanted = Probe {

@@ -18,10 +18,14 @@ pub fn ledgers_begin()
 
 /// From the beginning on, the lines of each event of a run can be counted.
 pub fn runs_can_be_counted()
-    ensures { (t : Topology) (es : List WorldEvent) (e : WorldEvent) (rows : List FamilyRow) → KeepsNetwork t → EventsFit t.version es → event_fits t.version e → length es < 50000 → Stands (history_of es (opening t)) rows → LinesFit (is_late (world_after es (opening t)) e) rows (happens (world_after es (opening t)) e).lines }
+    ensures { (t : Topology) (es : List WorldEvent) (e : WorldEvent) (rows : List FamilyRow) →
+        KeepsNetwork t → EventsFit t.version es → event_fits t.version e → length es < 50000 →
+        Stands (history_of es (opening t)) rows → LinesFit (is_late (world_after es (opening t)) e)
+        rows (happens (world_after es (opening t)) e).lines }
 {}
 
 /// The rows that stand for a history are its families in the order of their first grants, each with its counts.
 pub fn rows_are_counts()
-    ensures { (h : List Entry) (rows : List FamilyRow) → OneEach rows → Stands h rows → rows ≡ map (λ f. (f, counts_of f rows)) (families h) }
+    ensures { (h : List Entry) (rows : List FamilyRow) → OneEach rows → Stands h rows → rows ≡ map
+        (λ f. (f, counts_of f rows)) (families h) }
 {}

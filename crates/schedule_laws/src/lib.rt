@@ -20,7 +20,8 @@ ghost use Rattle.schedule_laws.specs.Written.{NamedText, Written, schedule_text,
 #[tactic(auto, using(schedule_text::proofs::AnswerLaws::refuses, crate::proofs::MoveLaws::before_inside))]
 pub fn lines_before_a_refusal_are_inside()
     ensures refuses { RefusesRead schedule_format nothing_read }
-    ensures inside { (bytes : List ℕ) (n k : ℕ) (r : LineReason) → IsRefused bytes n r → k < n → AreInside schedule_format nothing_read (take k (lines bytes)) }
+    ensures inside { (bytes : List ℕ) (n k : ℕ) (r : LineReason) → IsRefused bytes n r → k < n →
+        AreInside schedule_format nothing_read (take k (lines bytes)) }
 {}
 
 /// An empty line or a comment, put behind the header and outside of programs, changes nothing but the numbers of the
@@ -28,11 +29,15 @@ pub fn lines_before_a_refusal_are_inside()
 #[tactic(auto, using(crate::proofs::MoveLaws::counts, crate::proofs::MoveLaws::skipped_moves))]
 pub fn skipped_lines_only_count()
     ensures counts { CountsOnly schedule_format later_file }
-    ensures skipped { (bytes more : List ℕ) (before after : List (List ℕ)) (line : List ℕ) → lines bytes ≡ before ++ after → lines more ≡ before ++ line ∷ after → is_skipped line ≡ true → EndOutside before → schedule_of more ≡ moved_by (length before) (λ s. s) (schedule_of bytes) }
+    ensures skipped { (bytes more : List ℕ) (before after : List (List ℕ)) (line : List ℕ) → lines
+        bytes ≡ before ++ after → lines more ≡ before ++ line ∷ after → is_skipped line ≡ true →
+        EndOutside before → schedule_of more ≡ moved_by (length before) (λ s. s)
+        (schedule_of bytes) }
 {}
 
 /// A schedule within its limits that is written, with its programs and arguments as texts that say them, says itself.
 #[tactic(auto, using(crate::proofs::WholeRead::written_says))]
 pub fn written_schedules_are_read()
-    ensures { (programs : List NamedText) (by : Chunk → Written) (s : Schedule) → IsSchedule programs by s → Says (schedule_text programs by s) s }
+    ensures { (programs : List NamedText) (by : Chunk → Written) (s : Schedule) → IsSchedule
+        programs by s → Says (schedule_text programs by s) s }
 {}

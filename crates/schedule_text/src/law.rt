@@ -8,7 +8,9 @@ ghost use Rattle.schedule_text.specs.Answers.{Says, IsRefused, Accepted, Refused
 #[tactic(auto, using(crate::proofs::AnswerLaws::has_answer, crate::proofs::AnswerLaws::not_both, crate::proofs::AnswerLaws::one_schedule, crate::proofs::AnswerLaws::one_refusal))]
 pub fn one_answer()
     ensures either { (bytes : List ℕ) → Accepted bytes ⊎ Refused bytes }
-    ensures apart { (bytes : List ℕ) (s : Schedule) (n : ℕ) (r : LineReason) → Says bytes s → IsRefused bytes n r → ⊥ }
+    ensures apart { (bytes : List ℕ) (s : Schedule) (n : ℕ) (r : LineReason) → Says bytes s →
+        IsRefused bytes n r → ⊥ }
     ensures schedule { (bytes : List ℕ) (s t : Schedule) → Says bytes s → Says bytes t → s ≡ t }
-    ensures refusal { (bytes : List ℕ) (n m : ℕ) (r q : LineReason) → IsRefused bytes n r → IsRefused bytes m q → (n ≡ m) × (r ≡ q) }
+    ensures refusal { (bytes : List ℕ) (n m : ℕ) (r q : LineReason) → IsRefused bytes n r →
+        IsRefused bytes m q → (n ≡ m) × (r ≡ q) }
 {}

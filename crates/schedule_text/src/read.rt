@@ -183,7 +183,8 @@ pub fn read_schedule(alloc: Global, bytes: &[u8]) -> Result<Schedule, LineFault>
     // What is answered is what the file says.
     ensures found { IfOk result (λ s. schedule_of bytes.now ≡ Ok s) }
     // A file that says a schedule is answered so, unless memory is refused.
-    ensures only { (s : Schedule) → schedule_of bytes.now ≡ Ok s → MatchResult result (λ t. t ≡ s) (λ e. e ≡ NoMemory) }
+    ensures only { (s : Schedule) → schedule_of bytes.now ≡ Ok s → MatchResult result (λ t. t ≡ s)
+        (λ e. e ≡ NoMemory) }
     // A refusal is the file's first one, unless memory is refused.
     ensures fault { IfErr result (λ e. (e ≡ NoMemory) ⊎ (schedule_of bytes.now ≡ Err e)) }
     // A schedule keeps the rules.

@@ -32,7 +32,8 @@ fn deliver_to_port(alloc: Global, port: i64, v: &Value) -> Result<Answer, NoMemo
 
 /// `deliver`.
 pub fn deliver(alloc: Global, args: &[Value]) -> Result<Answer, NoMemory>
-    ensures { (a : AType) (ctx : ACtx) → Tells (spec.serve_as Service.Deliver a args.now ctx) result }
+    ensures { (a : AType) (ctx : ACtx) → Tells
+        (spec.serve_as Service.Deliver a args.now ctx) result }
 {
     let [port, v] = args else {
         return no_such_service(alloc);

@@ -27,7 +27,8 @@ pub fn this_host(alloc: Global, args: &[Value], ctx: &Ctx) -> Result<Answer, NoM
 
 /// `thisHostIs`.
 pub fn this_host_is(alloc: Global, args: &[Value], ctx: &Ctx) -> Result<Answer, NoMemory>
-    ensures { (a : AType) → Tells (spec.serve_as Service.ThisHostIs a args.now ctx.entry.now) result }
+    ensures { (a : AType) → Tells (spec.serve_as Service.ThisHostIs a args.now ctx.entry.now)
+        result }
 {
     let [host] = args else {
         return no_such_service(alloc);
@@ -50,7 +51,8 @@ pub fn get_rb(alloc: Global, args: &[Value], ctx: &Ctx) -> Result<Answer, NoMemo
 
 /// `getSource`.
 pub fn get_source(alloc: Global, args: &[Value], ctx: &Ctx) -> Result<Answer, NoMemory>
-    ensures { (a : AType) → Tells (spec.serve_as Service.GetSource a args.now ctx.entry.now) result }
+    ensures { (a : AType) → Tells (spec.serve_as Service.GetSource a args.now ctx.entry.now)
+        result }
 {
     match args {
         [] => Ok(Answer::Gives(Value::Host(ctx.source), None)),
@@ -78,7 +80,8 @@ fn hop_values(alloc: Global, neighbours: &[(Host, Dev)]) -> Result<Values, NoMem
 }
 
 fn neighbours(alloc: Global, ctx: &Ctx) -> Result<Answer, NoMemory>
-    ensures { Tells (spec.given_answer (value.List offered.hop_type (map (λ n. spec.hop_value n.0 n.1) ctx.entry.now.neighbours))) result }
+    ensures { Tells (spec.given_answer (value.List offered.hop_type
+        (map (λ n. spec.hop_value n.0 n.1) ctx.entry.now.neighbours))) result }
 {
     let values = hop_values(alloc, ctx.neighbours.as_slice())?;
     let item = Boxed::new(alloc, hop_type(alloc)?)?;
@@ -87,7 +90,8 @@ fn neighbours(alloc: Global, ctx: &Ctx) -> Result<Answer, NoMemory>
 
 /// `getNeighbors`.
 pub fn get_neighbors(alloc: Global, args: &[Value], ctx: &Ctx) -> Result<Answer, NoMemory>
-    ensures { (a : AType) → Tells (spec.serve_as Service.GetNeighbors a args.now ctx.entry.now) result }
+    ensures { (a : AType) → Tells (spec.serve_as Service.GetNeighbors a args.now ctx.entry.now)
+        result }
 {
     match args {
         [] => neighbours(alloc, ctx),

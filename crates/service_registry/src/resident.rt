@@ -27,7 +27,9 @@ pub fn put(
     ctx: &Ctx,
 ) -> Result<Answer, NoMemory>
     requires { IsOver base.now.rows changes.old }
-    ensures meets { Meets (spec.serve_as Service.Put a.now args.now ctx.entry.now (rows_over base.now changes.old)) (rows_over base.now changes.old) result (rows_over base.now changes.new) }
+    ensures meets { Meets (spec.serve_as Service.Put a.now args.now ctx.entry.now
+        (rows_over base.now changes.old)) (rows_over base.now changes.old) result
+        (rows_over base.now changes.new) }
     ensures over { IsOver base.now.rows changes.new }
 {
     if args.len() != 4 {
@@ -63,7 +65,9 @@ pub fn get(
     args: &[Value],
     ctx: &Ctx,
 ) -> Result<Answer, NoMemory>
-    ensures { Meets (spec.serve_as Service.Get a.now args.now ctx.entry.now (rows_over base.now changes.now)) (rows_over base.now changes.now) result (rows_over base.now changes.now) }
+    ensures { Meets (spec.serve_as Service.Get a.now args.now ctx.entry.now
+        (rows_over base.now changes.now)) (rows_over base.now changes.now) result
+        (rows_over base.now changes.now) }
 {
     if args.len() != 2 {
         return no_such_service(alloc);
@@ -91,7 +95,9 @@ pub fn remove(
     ctx: &Ctx,
 ) -> Result<Answer, NoMemory>
     requires { IsOver base.now.rows changes.old }
-    ensures meets { Meets (spec.serve_as Service.Remove a.now args.now ctx.entry.now (rows_over base.now changes.old)) (rows_over base.now changes.old) result (rows_over base.now changes.new) }
+    ensures meets { Meets (spec.serve_as Service.Remove a.now args.now ctx.entry.now
+        (rows_over base.now changes.old)) (rows_over base.now changes.old) result
+        (rows_over base.now changes.new) }
     ensures over { IsOver base.now.rows changes.new }
 {
     if args.len() != 2 {
@@ -108,7 +114,9 @@ pub fn remove(
 }
 
 fn fresh_key(alloc: Global, changes: &mut Overlay) -> Result<Answer, NoMemory>
-    ensures meets { (base : Table) → Meets (spec.key_answer (fresh_key changes.old.«next») (rows_over base changes.old)) (rows_over base changes.old) result (rows_over base changes.new) }
+    ensures meets { (base : Table) → Meets (spec.key_answer (fresh_key changes.old.«next»)
+        (rows_over base changes.old)) (rows_over base changes.old) result
+        (rows_over base changes.new) }
     ensures over { (rows : List ARow) → IsOver rows changes.old → IsOver rows changes.new }
 {
     match changes.fresh_key() {
@@ -123,7 +131,9 @@ pub fn generate_key(
     changes: &mut Overlay,
     args: &[Value],
 ) -> Result<Answer, NoMemory>
-    ensures meets { (base : Table) (a : AType) (ctx : ACtx) → Meets (spec.serve_as Service.GenerateKey a args.now ctx (rows_over base changes.old)) (rows_over base changes.old) result (rows_over base changes.new) }
+    ensures meets { (base : Table) (a : AType) (ctx : ACtx) → Meets
+        (spec.serve_as Service.GenerateKey a args.now ctx (rows_over base changes.old))
+        (rows_over base changes.old) result (rows_over base changes.new) }
     ensures over { (rows : List ARow) → IsOver rows changes.old → IsOver rows changes.new }
 {
     match args {

@@ -35,7 +35,9 @@ fn served_as(
     ctx: &Ctx,
 ) -> Result<Answer, NoMemory>
     requires { IsOver base.now.rows changes.old }
-    ensures meets { Meets (spec.serve_as service a.now args.now ctx.entry.now (rows_over base.now changes.old)) (rows_over base.now changes.old) result (rows_over base.now changes.new) }
+    ensures meets { Meets (spec.serve_as service a.now args.now ctx.entry.now
+        (rows_over base.now changes.old)) (rows_over base.now changes.old) result
+        (rows_over base.now changes.new) }
     ensures over { IsOver base.now.rows changes.new }
 {
     match service {
@@ -75,7 +77,9 @@ fn served_at(
     ctx: &Ctx,
 ) -> Result<Answer, NoMemory>
     requires { IsOver base.now.rows changes.old }
-    ensures meets { Meets (serve_at found.now service args.now ctx.entry.now (rows_over base.now changes.old)) (rows_over base.now changes.old) result (rows_over base.now changes.new) }
+    ensures meets { Meets (serve_at found.now service args.now ctx.entry.now
+        (rows_over base.now changes.old)) (rows_over base.now changes.old) result
+        (rows_over base.now changes.new) }
     ensures over { IsOver base.now.rows changes.new }
 {
     match found {
@@ -118,7 +122,9 @@ pub fn answer_call(
     ctx: &Ctx,
 ) -> Result<Answer, NoMemory>
     requires { IsOver base.now.rows changes.old }
-    ensures meets { Meets (serve (present_of there) svc.now args.now ctx.entry.now (rows_over base.now changes.old)) (rows_over base.now changes.old) result (rows_over base.now changes.new) }
+    ensures meets { Meets (serve (present_of there) svc.now args.now ctx.entry.now
+        (rows_over base.now changes.old)) (rows_over base.now changes.old) result
+        (rows_over base.now changes.new) }
     ensures over { IsOver base.now.rows changes.new }
 {
     let Some(service) = installed_service(there, &svc.name) else {

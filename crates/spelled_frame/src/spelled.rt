@@ -76,7 +76,8 @@ fn packet_bytes(
 ) -> Result<Bytes, NoMemory>
     requires bound { bound ≤ 65535 }
     requires handler { MayCarry mark packet.now.handler }
-    ensures { IfOk result (λ b. AcceptsBy (spec.version_of mark) b (spec.packet_frame mark packet.now bound)) }
+    ensures { IfOk result (λ b. AcceptsBy (spec.version_of mark) b
+        (spec.packet_frame mark packet.now bound)) }
 {
     // The chunk of a checked packet is typed, and its handler may handle.
     let _typed = packet.chunk();
@@ -91,7 +92,8 @@ fn packet_bytes(
 #[tactic(auto, using(crate::proofs::Reading::one_accepted, crate::proofs::Reading::two_accepted))]
 fn advert_bytes(alloc: Global, advert: &Advert, mark: Option<Stamp>) -> Result<Bytes, NoMemory>
     requires { AdvertFits advert.now }
-    ensures { IfOk result (λ b. AcceptsBy (spec.version_of mark) b (record { stamp = mark; frame = PlainFrame.Advert advert.now })) }
+    ensures { IfOk result (λ b. AcceptsBy (spec.version_of mark) b
+        (record { stamp = mark; frame = PlainFrame.Advert advert.now })) }
 {
     match mark {
         None => put_advert(alloc, advert),
@@ -200,7 +202,11 @@ impl SpelledFrame {
         mark: Option<Stamp>,
     ) -> Result<SpelledFrame, NoMemory>
         requires { AdvertFits advert.now }
-        ensures { IfOk result (λ s. s ≡ record { stamp = mark; frame = PlainFrame.Advert advert.now }) }
+        ensures { IfOk result (λ s. s ≡ record {
+          stamp = mark;
+          frame = PlainFrame.Advert
+              advert.now;
+        }) }
     {
         let bytes = advert_bytes(alloc, advert, mark)?;
         Ok(SpelledFrame {

@@ -12,5 +12,6 @@ ghost use Rattle.visit_lines.specs.Ends.{is_end, ended_line};
 /// The lines of an event in which visits end are those of its visits, in order: at the node's host, with the packet's family,
 /// and with the outcome, the evals and the rest of the settled visit.
 pub fn ends_are_visits()
-    ensures { (w : WorldState) (e : WorldEvent) → filter is_end (happens w e).lines ≡ map ended_line (event_visits w e) }
+    ensures { (w : WorldState) (e : WorldEvent) → filter is_end (happens w e).lines ≡ map ended_line
+        (event_visits w e) }
 {}
