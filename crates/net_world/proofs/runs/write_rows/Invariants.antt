@@ -5,4 +5,4 @@ use Rattle.net_world.specs.Printing.{IsWaiting}
 use Rattle.net_world.proofs.runs.write_rows.Given as goal
 
 abbrev pub invariant-loop-i : goal.invariant-loop-i
-invariant-loop-i g l = IsWaiting (g.K.Sink.state l.initial.out) (g.K.Sink.state l.out) l.waiting (l.text ++ all_printed (take l.i l.ledger)) × OneEach l.ledger
+invariant-loop-i g l = IsWaiting (g.K.Sink.state l.initial.out) (g.K.Sink.state l.out) l.waiting (l.fn.text ++ all_printed (take l.i l.ledger)) × OneEach l.ledger
