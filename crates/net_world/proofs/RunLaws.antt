@@ -1,5 +1,5 @@
 -- Runs of one event more, prefixes of what they write, and what holds after each prefix.
-use Rattle.std.proofs.Common.{◌≡◌, ℕ, ◌+◌, ◌<◌, ◌≤◌, List, [], ◌∷◌, ◌++◌, length, take, drop, get_or, refl, sym, ap, ◌∙◌, append_assoc, subst}
+use Rattle.std.proofs.Common.{◌≡◌, ℕ, ◌+◌, ◌<◌, ◌≤◌, List, [], ◌∷◌, ◌++◌, length, take, drop, get_or, slice_get, Some, refl, sym, ap, ◌∙◌, append_assoc, subst}
 use Rattle.std.specs.Prelude.{Bool, codes, map, All}
 use Rattle.std.proofs.lemmas.List.Concat.{flat_map-append}
 use Rattle.std.proofs.lemmas.List.{append-nil, take-append-drop, take_all}
@@ -15,8 +15,8 @@ use Rattle.network_plan.specs.declared.schedule.Schedule.{Schedule}
 use Rattle.network_plan.specs.declared.schedule.Topology.{Topology}
 use Rattle.network_plan.specs.Rules.{KeepsEvent, KeepsRules}
 use Rattle.node_io.specs.Sinks.{SinkState, Writes, WritesPrefix, FailsIn}
-use Rattle.node_io.proofs.SinkLaws.{writes_none, writes_both, writes_as, fails_as, fails_longer, fails_more, prefix_as, prefix_longer, prefix_more, prefix_all}
-use Rattle.bound_ledger.specs.Rows.{FamilyRow}
+use Rattle.node_io.proofs.SinkLaws.{writes_none, writes_both, writes_as, fails_as, fails_longer, fails_more, prefix_as, prefix_longer, prefix_more}
+use Rattle.bound_ledger.specs.Rows.{FamilyRow, OneEach}
 use Rattle.world_model.specs.declared.lines.Line.{Line}
 use Rattle.world_model.specs.declared.lines.Entry.{Entry}
 use Rattle.world_model.specs.World.{WorldState, happens, entry_at, entries, world_after, history_of, opening}
@@ -31,6 +31,8 @@ use Rattle.network_laws.proofs.Opening.{opening_version, opening_sound}
 use Rattle.network_laws.proofs.Visits.{run_ends}
 use Rattle.run_ledger.specs.Counting.{LinesFit, Leaves}
 use Rattle.run_ledger.specs.Stands.{Stands}
+use Rattle.run_text.specs.Printed.{printed_row, all_printed}
+use Rattle.run_text.proofs.Printing.{printed_none, printed_next, ledger_put}
 use Rattle.run_ledger.proofs.Runs.{event_fits_at, history_of-push, world_after-push}
 use Rattle.net_world.specs.declared.network.Network.{Network}
 use Rattle.net_world.specs.Stands.{WorldStands}
@@ -232,6 +234,55 @@ prefix_sound s r k = run_sound (take k s.events) (opening s.topology) (events_fi
 pub prefix_ends : (s : Schedule) → KeepsRules s → (k : ℕ) → All EndsWell (visits_after k s.events (opening s.topology))
 prefix_ends s r k = run_ends k s.events (opening s.topology) (subst (λ v. EventsFit v s.events) (sym (opening_version s.topology)) (events_fit s r)) (opening_sound s.topology r.network)
 
+-- ---- the rows of a ledger, piece by piece
+
+-- before the first row
+pub rows_none : (rows : List FamilyRow) (text : List ℕ) (a : SinkState) → IsWaiting a a text (text ++ all_printed (take 0 rows))
+rows_none rows text a = subst (IsWaiting a a text) (sym (append-nil text) ∙ ap (λ x. text ++ x) (sym printed_none)) (waits_none a text)
+
+all_printed-append : (xs ys : List FamilyRow) → all_printed (xs ++ ys) ≡ all_printed xs ++ all_printed ys
+unfolding all_printed
+all_printed-append xs ys = flat_map-append printed_row xs ys
+
+module _ (rows : List FamilyRow) (i : ℕ) (e : FamilyRow) (within : i < length rows) (is : slice_get rows i ≡ Some e) (text : List ℕ) where
+  rows_more : (text ++ all_printed (take i rows)) ++ printed_row e ≡ text ++ all_printed (take (i + 1) rows)
+  rows_more = printed_next rows i e text (text ++ all_printed (take i rows)) ((text ++ all_printed (take i rows)) ++ printed_row e) within is refl refl
+
+  -- one more row
+  pub rows_next : (a b c : SinkState) (waiting left : List ℕ) → IsWaiting a b waiting (text ++ all_printed (take i rows)) → IsWaiting b c left (waiting ++ printed_row e) → IsWaiting a c left (text ++ all_printed (take (i + 1) rows))
+  rows_next a b c waiting left u v = subst (IsWaiting a c left) rows_more (waits_more a b c waiting left (text ++ all_printed (take i rows)) (printed_row e) u v)
+
+  -- a prefix of a row behind those before it
+  pub stopped_row : (fault : RunFault) (a b c : SinkState) (waiting : List ℕ) → IsWaiting a b waiting (text ++ all_printed (take i rows)) → Stops fault (waiting ++ printed_row e) b c → Stops fault (text ++ all_printed rows) a c
+  stopped_row fault a b c waiting u p =
+      let rest = all_printed (drop (i + 1) rows) in
+      let split : text ++ all_printed rows ≡ (text ++ all_printed (take i rows)) ++ (printed_row e ++ rest) =
+      ap (λ x. text ++ x) (ap all_printed (sym (take-append-drop (i + 1) rows)) ∙ all_printed-append (take (i + 1) rows) (drop (i + 1) rows))
+      ∙ sym (append_assoc text (all_printed (take (i + 1) rows)) rest) ∙ ap (λ x. x ++ rest) (sym rows_more) ∙ append_assoc (text ++ all_printed (take i rows)) (printed_row e) rest in
+      stopped_piece fault a b c waiting (text ++ all_printed (take i rows)) (printed_row e) rest (text ++ all_printed rows) split u p
+
+-- once all rows were put
+pub rows_all : (rows : List FamilyRow) (i : ℕ) (text : List ℕ) (a b : SinkState) (waiting : List ℕ) → length rows ≤ i → IsWaiting a b waiting (text ++ all_printed (take i rows)) → IsWaiting a b waiting (text ++ all_printed rows)
+rows_all rows i text a b waiting h u = subst (λ x. IsWaiting a b waiting (text ++ all_printed x)) (take_all i rows h) u
+
+-- a ledger's text at each place where its writing may end
+module _ (h : List Entry) (w : WorldState) (rows : List FamilyRow) (s : Stands h rows) (law : (f : Family) → Balanced f h w) (once : OneEach rows) (begun : List ℕ) (is : begun ≡ codes "ledger\n") where
+  ledger_is : (begun ++ all_printed rows) ++ codes "end\n" ≡ ledger_text h w
+  ledger_is = ledger_put h w rows s law [] begun (begun ++ all_printed rows) ((begun ++ all_printed rows) ++ codes "end\n") once is refl refl
+
+  pub stopped_rows : (fault : RunFault) (a b : SinkState) → Stops fault (begun ++ all_printed rows) a b → Stops fault (ledger_text h w) a b
+  stopped_rows fault a b p = stops_as fault a b _ (ledger_text h w) ledger_is (stops_longer fault a b (begun ++ all_printed rows) (codes "end\n") p)
+
+  module _ (a b c : SinkState) (left : List ℕ) (u : IsWaiting a b left (begun ++ all_printed rows)) where
+    end_is : u.done ++ (left ++ codes "end\n") ≡ ledger_text h w
+    end_is = sym (append_assoc u.done left (codes "end\n")) ∙ ap (λ x. x ++ codes "end\n") (sym u.is) ∙ ledger_is
+
+    pub stopped_end : (fault : RunFault) → Stops fault (left ++ codes "end\n") b c → Stops fault (ledger_text h w) a c
+    stopped_end fault p = stops_as fault a c _ (ledger_text h w) end_is (stops_more fault a b c u.done (left ++ codes "end\n") u.written p)
+
+    pub ledger_written : Writes b c (left ++ codes "end\n") → Writes a c (ledger_text h w)
+    ledger_written v = writes_as a c _ (ledger_text h w) end_is (writes_both a b c u.done (left ++ codes "end\n") u.written v)
+
 abbrev header : List ℕ
 header = codes "planet trace 1\n"
 
@@ -255,13 +306,9 @@ module _ (frames : Bool) (es : List WorldEvent) (w : WorldState) (a b c d : Sink
   unfolding lines
   stopped_lines fault h p = stops_as fault a c _ (run_text frames es w) whole_is (stops_longer fault a c (header ++ lines) (ledger_text (history_of es w) (world_after es w)) (stops_more fault a b c header lines h p))
 
-  pub stopped_before_ledger : Writes a b (codes "planet trace 1\n") → Writes b c (entries_text frames (history_of es w)) → WritesPrefix a c (run_text frames es w)
+  pub stopped_ledger : (fault : RunFault) → Writes a b (codes "planet trace 1\n") → Writes b c (entries_text frames (history_of es w)) → Stops fault (ledger_text (history_of es w) (world_after es w)) c d → Stops fault (run_text frames es w) a d
   unfolding lines
-  stopped_before_ledger h l = prefix_as a c _ (run_text frames es w) whole_is (prefix_longer a c (header ++ lines) (ledger_text (history_of es w) (world_after es w)) (prefix_all a c (header ++ lines) (writes_both a b c header lines h l)))
-
-  pub stopped_ledger : Writes a b (codes "planet trace 1\n") → Writes b c (entries_text frames (history_of es w)) → FailsIn c d (ledger_text (history_of es w) (world_after es w)) → FailsIn a d (run_text frames es w)
-  unfolding lines
-  stopped_ledger h l f = fails_as a d _ (run_text frames es w) whole_is (fails_more a c d (header ++ lines) (ledger_text (history_of es w) (world_after es w)) (writes_both a b c header lines h l) f)
+  stopped_ledger fault h l f = stops_as fault a d _ (run_text frames es w) whole_is (stops_more fault a c d (header ++ lines) (ledger_text (history_of es w) (world_after es w)) (writes_both a b c header lines h l) f)
 
   pub whole_run : Writes a b (codes "planet trace 1\n") → Writes b c (entries_text frames (history_of es w)) → Writes c d (ledger_text (history_of es w) (world_after es w)) → Writes a d (run_text frames es w)
   unfolding lines

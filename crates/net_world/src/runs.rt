@@ -1,4 +1,4 @@
-ghost use Rattle.std.specs.Prelude.{◌≡◌, ◌++◌, ◌+◌, ◌<◌, ◌-◌, ◌^◌, [], List, map, IfOk, OnOk};
+ghost use Rattle.std.specs.Prelude.{◌≡◌, ◌++◌, ◌+◌, ◌<◌, ◌-◌, ◌^◌, [], List, codes, map, OnOk};
 ghost use Rattle.plan_base.specs.declared.ids.Family.{Family as FamilyOf};
 ghost use Rattle.network_plan.specs.Rules.{KeepsRules};
 ghost use Rattle.world_model.specs.World as spec;
@@ -6,6 +6,8 @@ ghost use Rattle.world_model.specs.World.{WorldState, opening};
 ghost use Rattle.world_model.specs.declared.lines.Entry.{Entry as EntryOf};
 ghost use Rattle.world_model.specs.Texts.{entries_text, ledger_text, run_text};
 ghost use Rattle.run_ledger.specs.Stands.{Stands};
+ghost use Rattle.bound_ledger.specs.Rows.{OneEach};
+ghost use Rattle.run_text.specs.Printed.{printed_row, all_printed};
 ghost use Rattle.net_world.specs.Stands.{WorldStands};
 ghost use Rattle.world_model.specs.Counts.{Balanced};
 ghost use Rattle.world_model.specs.Sound.{event_fits};
@@ -14,13 +16,13 @@ ghost use Rattle.net_world.specs.Printing.{Prints, WaitsFor, PutsPiece};
 ghost use Rattle.net_world.specs.Keeping.{KeepsRun};
 
 use crate::world::World;
-use bound_ledger::Ledger;
+use bound_ledger::{Ledger, Row};
 use network_plan::{Schedule, WorldEvent};
 use node_io::{Failed, Sink, put_all};
-use plan_base::{Bytes, NoMemory};
+use plan_base::{Bytes, Family, NoMemory};
 use plan_items::Items;
 use run_ledger::count_lines;
-use run_text::{put_ledger, put_lines};
+use run_text::{put_all_lines, put_row};
 use service_api::Services;
 use std::alloc::Global;
 
@@ -61,7 +63,7 @@ fn make_event<S: Services>(
     let late = world.is_late(event);
     let lines = world.step(alloc, event)?;
     count_lines(ledger, lines.as_slice(), late)?;
-    put_lines(alloc, text, frames, number, lines.as_slice())?;
+    put_all_lines(alloc, text, frames, number, lines.as_slice())?;
     Ok(())
 }
 
@@ -146,14 +148,83 @@ fn run_events<S: Services, K: Sink>(
     }
 }
 
-/// The text of a ledger.
-fn ledger_bytes(alloc: Global, ledger: &Ledger) -> Result<Bytes, NoMemory>
+#[tactic(auto, using(node_io::proofs::SinkLaws::prefix_none))]
+/// Adds a row of a ledger to what waits to be written; what still waits.
+fn write_row<K: Sink>(
+    alloc: Global,
+    f: Family,
+    row: Row,
+    text: Bytes,
+    out: &mut K,
+) -> Result<Bytes, RunFault>
+    ensures { WaitsFor (text ++ printed_row (f, row)) (K.state out.old) (K.state out.new) result }
+{
+    let mut waiting = text;
+    let Ok(()) = put_row(&mut waiting, f, row) else {
+        return Err(RunFault::NoMemory);
+    };
+    match write_piece(alloc, waiting, out) {
+        Ok(left) => Ok(left),
+        Err(_) => Err(RunFault::WriteFault),
+    }
+}
+
+/// Adds the rows of a ledger to what waits to be written; what still waits.
+fn write_rows<K: Sink>(
+    alloc: Global,
+    ledger: &Ledger,
+    text: Bytes,
+    out: &mut K,
+) -> Result<Bytes, RunFault>
+    ensures rows { WaitsFor (text ++ all_printed ledger.now)
+        (K.state out.old) (K.state out.new) result }
+    ensures once { OneEach ledger.now }
+{
+    let mut waiting = text;
+    for i in 0..ledger.len() {
+        let (f, row) = ledger.at(i);
+        match write_row(alloc, f, row, waiting, out) {
+            Ok(left) => waiting = left,
+            Err(fault) => return Err(fault),
+        }
+    }
+    Ok(waiting)
+}
+
+/// Writes the end of a ledger behind what waits.
+#[tactic(auto, using(node_io::proofs::SinkLaws::prefix_none))]
+fn write_end<K: Sink>(text: Bytes, out: &mut K) -> Result<(), RunFault>
+    ensures { Prints (text ++ codes "end\n") (K.state out.old) (K.state out.new) result }
+{
+    let mut waiting = text;
+    let Ok(()) = waiting.add_all(b"end\n") else {
+        return Err(RunFault::NoMemory);
+    };
+    match put_all(out, waiting.as_slice()) {
+        Ok(()) => Ok(()),
+        Err(_) => Err(RunFault::WriteFault),
+    }
+}
+
+#[tactic(auto, using(node_io::proofs::SinkLaws::prefix_none))]
+/// Writes a ledger, piece by piece.
+fn write_ledger<K: Sink>(alloc: Global, ledger: &Ledger, out: &mut K) -> Result<(), RunFault>
     ensures { (h : List EntryOf) (w : WorldState) → Stands h ledger.now
-        → ((f : FamilyOf) → Balanced f h w) → IfOk result (λ text. text ≡ ledger_text h w) }
+        → ((f : FamilyOf) → Balanced f h w)
+        → Prints (ledger_text h w) (K.state out.old) (K.state out.new) result }
 {
     let mut text = Bytes::new(alloc);
-    put_ledger(alloc, &mut text, ledger)?;
-    Ok(text)
+    let Ok(()) = text.add_all(b"ledger\n") else {
+        return Err(RunFault::NoMemory);
+    };
+    let rows = match write_rows(alloc, ledger, text, out) {
+        Ok(left) => left,
+        Err(fault) => return Err(fault),
+    };
+    match write_end(rows, out) {
+        Ok(()) => Ok(()),
+        Err(fault) => Err(fault),
+    }
 }
 
 /// Writes the trace and the ledger of a schedule's events. Condition: nothing has happened in the network.
@@ -178,12 +249,9 @@ fn write_run<S: Services, K: Sink>(
     if let Err(fault) = run_events(alloc, schedule, world, &mut ledger, out) {
         return Err(fault);
     }
-    let Ok(text) = ledger_bytes(alloc, &ledger) else {
-        return Err(RunFault::NoMemory);
-    };
-    match put_all(out, text.as_slice()) {
+    match write_ledger(alloc, &ledger, out) {
         Ok(()) => Ok(()),
-        Err(_) => Err(RunFault::WriteFault),
+        Err(fault) => Err(fault),
     }
 }
 

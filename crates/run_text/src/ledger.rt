@@ -26,8 +26,8 @@ fn write_count<const N: usize>(text: &mut ShortText, word: &[u8; N], n: u64)
     text.word(word);
 }
 
-/// A row of a ledger.
-fn put_row(out: &mut Bytes, f: Family, row: Row) -> Result<(), NoMemory>
+/// Appends a row of a ledger. Where memory is refused, `out` stays.
+pub fn put_row(out: &mut Bytes, f: Family, row: Row) -> Result<(), NoMemory>
     ensures { OnOk result (out.new ≡ out.old ++ printed_row (f, row)) }
 {
     let mut text = ShortText::new();

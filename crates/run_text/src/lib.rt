@@ -4,5 +4,5 @@
 mod ledger;
 mod text;
 
-pub use ledger::put_ledger;
-pub use text::put_lines;
+pub use ledger::{put_ledger, put_row};
+pub use text::{put_all_lines, put_lines};

@@ -142,8 +142,9 @@ fn put_line(
     Ok(())
 }
 
-/// The lines of an event, each with the event's number.
-fn put_all_lines(
+/// Appends the lines of an event, each with the event's number. Where memory is refused, a part of them may stand behind
+/// `out`.
+pub fn put_all_lines(
     alloc: Global,
     out: &mut Bytes,
     frames: bool,

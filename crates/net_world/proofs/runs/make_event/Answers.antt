@@ -20,7 +20,7 @@ pub returns-clause-text : goal.returns-clause-text
 returns-clause-text g c = λ w h.
     let lines = (c.in_ok-lines.ensures.ok w h).list in
     let own = entries_are w c.args.event.now _ _ c.args.world.now.made (ap (λ n. n + 1) c.event_count-number.ensures) h.is.made (c.as_slice-2.ensures ∙ lines) in
-    c.in_ok-put_lines.ensures.whole ∙ ap (λ x. c.args.text.now ++ entries_text c.args.frames x) own
+    c.in_ok-put_all_lines.ensures ∙ ap (λ x. c.args.text.now ++ entries_text c.args.frames x) own
 
 pub returns-clause-world : goal.returns-clause-world
 returns-clause-world g c = λ w h. (c.in_ok-lines.ensures.ok w h).world
