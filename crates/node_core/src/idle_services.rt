@@ -81,7 +81,9 @@ fn turn_of(
     before: ActList,
 ) -> Result<(Vec<Act>, Leavings), NoMemory>
     requires { All (Carries mark) settled.visit.outbox }
-    ensures acts { IfOk result (λ t. t.0.items ≡ before ++ (map Noted settled.visit.notes ++ (Ended family settled.visit.outcome settled.visit.evals settled.visit.left ∷ spec.handled_acts family settled.handled left))) }
+    ensures acts { IfOk result (λ t. t.0.items ≡ before ++
+        (map Noted settled.visit.notes ++ (Ended family settled.visit.outcome settled.visit.evals
+        settled.visit.left ∷ spec.handled_acts family settled.handled left))) }
     ensures sends { IfOk result (λ t. t.1 ≡ spec.visit_sends mark settled.visit) }
     ensures room { IfOk result (λ t. vec_len t.0 + length t.1 ≤ vec_capacity t.0) }
 {
@@ -118,8 +120,12 @@ fn open_turn<S: Services>(
     requires near { length ctx.now.neighbours ≤ 8 }
     requires rows { AreGoodRows (S.stands services.old).rows }
     requires open { IsSome (S.stands services.old).begun }
-    ensures turn { IfOk result (λ turn. IsOpen mark before packet.now (visit_of ctx.entry.now (S.stands services.old) packet.now).left (settles.visit_settled packet.now ctx.entry.now (visit_of ctx.entry.now (S.stands services.old) packet.now)) turn) }
-    ensures closing { IfOk result (λ turn. closed_services turn.is_spent (S.stands services.new) ≡ services_after ctx.entry.now (S.stands services.old) packet.now) }
+    ensures turn { IfOk result (λ turn. IsOpen mark before packet.now
+        (visit_of ctx.entry.now (S.stands services.old) packet.now).left
+        (settles.visit_settled packet.now ctx.entry.now
+        (visit_of ctx.entry.now (S.stands services.old) packet.now)) turn) }
+    ensures closing { IfOk result (λ turn. closed_services turn.is_spent (S.stands services.new) ≡
+        services_after ctx.entry.now (S.stands services.old) packet.now) }
     ensures ready { OnOk result (IsTrue (S.stands services.new).ready) }
     ensures offer { (S.stands services.new).offer ≡ (S.stands services.old).offer }
     ensures begun { (S.stands services.new).begun ≡ (S.stands services.old).begun }
@@ -168,9 +174,15 @@ fn visit_turn<S: Services>(
     requires carried { MayCarry mark packet.now.handler }
     requires near { length ctx.now.neighbours ≤ 8 }
     requires rests { IsResting (S.stands services.old) }
-    ensures acts { IfOk result (λ acts. acts ≡ before ++ spec.visit_acts mark lanes.old packet.now (visit_of ctx.entry.now (begun_now (S.stands services.old)) packet.now).left (settles.visit_settled packet.now ctx.entry.now (visit_of ctx.entry.now (begun_now (S.stands services.old)) packet.now))) }
-    ensures lanes { OnOk result (lanes.new ≡ spec.sends_queues lanes.old (spec.visit_sends mark (settles.visit_settled packet.now ctx.entry.now (visit_of ctx.entry.now (begun_now (S.stands services.old)) packet.now)).visit)) }
-    ensures services { OnOk result (S.stands services.new ≡ services_after ctx.entry.now (begun_now (S.stands services.old)) packet.now) }
+    ensures acts { IfOk result (λ acts. acts ≡ before ++ spec.visit_acts mark lanes.old packet.now
+        (visit_of ctx.entry.now (begun_now (S.stands services.old)) packet.now).left
+        (settles.visit_settled packet.now ctx.entry.now
+        (visit_of ctx.entry.now (begun_now (S.stands services.old)) packet.now))) }
+    ensures lanes { OnOk result (lanes.new ≡ spec.sends_queues lanes.old
+        (spec.visit_sends mark (settles.visit_settled packet.now ctx.entry.now
+        (visit_of ctx.entry.now (begun_now (S.stands services.old)) packet.now)).visit)) }
+    ensures services { OnOk result (S.stands services.new ≡ services_after ctx.entry.now
+        (begun_now (S.stands services.old)) packet.now) }
     ensures same { OnErr result (lanes.new ≡ lanes.old) }
     ensures undone { OnErr result (S.stands services.new ≡ S.stands services.old) }
     ensures rests { IsResting (S.stands services.new) }
@@ -218,9 +230,15 @@ impl<S: Services> IdleServices<S> {
         requires source { ctx.now.source ≡ packet.now.family.source }
         requires carried { MayCarry mark packet.now.handler }
         requires near { length ctx.now.neighbours ≤ 8 }
-        ensures acts { IfOk result (λ acts. acts ≡ before ++ spec.visit_acts mark lanes.old packet.now (visit_of ctx.entry.now (begun_now (S.stands self.old)) packet.now).left (settles.visit_settled packet.now ctx.entry.now (visit_of ctx.entry.now (begun_now (S.stands self.old)) packet.now))) }
-        ensures lanes { OnOk result (lanes.new ≡ spec.sends_queues lanes.old (spec.visit_sends mark (settles.visit_settled packet.now ctx.entry.now (visit_of ctx.entry.now (begun_now (S.stands self.old)) packet.now)).visit)) }
-        ensures services { OnOk result (S.stands self.new ≡ services_after ctx.entry.now (begun_now (S.stands self.old)) packet.now) }
+        ensures acts { IfOk result (λ acts. acts ≡ before ++ spec.visit_acts mark lanes.old
+            packet.now (visit_of ctx.entry.now (begun_now (S.stands self.old)) packet.now).left
+            (settles.visit_settled packet.now ctx.entry.now
+            (visit_of ctx.entry.now (begun_now (S.stands self.old)) packet.now))) }
+        ensures lanes { OnOk result (lanes.new ≡ spec.sends_queues lanes.old
+            (spec.visit_sends mark (settles.visit_settled packet.now ctx.entry.now
+            (visit_of ctx.entry.now (begun_now (S.stands self.old)) packet.now)).visit)) }
+        ensures services { OnOk result (S.stands self.new ≡ services_after ctx.entry.now
+            (begun_now (S.stands self.old)) packet.now) }
         ensures same { OnErr result (lanes.new ≡ lanes.old) }
         ensures undone { OnErr result (S.stands self.new ≡ S.stands self.old) }
     {

@@ -125,7 +125,8 @@ impl<S: Services + Drop> Node<S> {
     pub fn new(alloc: Global, config: NodeConfig, services: S) -> Result<Node<S>, NoMemory>
         requires config { ConfigFits config }
         requires services { IsResting (S.stands services) }
-        ensures stands { IfOk result (λ node. NodeStands S.stands node (new_node config (S.stands services))) }
+        ensures stands { IfOk result (λ node. NodeStands S.stands node
+            (new_node config (S.stands services))) }
         ensures version { IfOk result (λ node. version_of node ≡ config.version) }
     {
         let NodeConfig {
@@ -173,7 +174,8 @@ impl<S: Services> Node<S> {
 
     /// The number of frames that are queued on a device, 0 for one that isn't there. Takes no memory.
     pub fn queued(&self, dev: Dev) -> u32
-        ensures { (s : NodeState) → NodeStands S.stands self.now s → result ≡ queued_at (slice_get s.queues dev.0) }
+        ensures { (s : NodeState) → NodeStands S.stands self.now s → result ≡ queued_at
+            (slice_get s.queues dev.0) }
     {
         count_frames(&self.lanes, dev.0 as usize)
     }
@@ -195,7 +197,8 @@ impl<S: Services> Node<S> {
 
     /// What stands around the visit of a packet.
     fn around(&self, alloc: Global, packet: &CheckedPacket) -> Result<Ctx, NoMemory>
-        ensures ctx { (s : NodeState) → NodeStands S.stands self.now s → IfOk result (λ ctx. ctx ≡ around s packet.now) }
+        ensures ctx { (s : NodeState) → NodeStands S.stands self.now s → IfOk result
+            (λ ctx. ctx ≡ around s packet.now) }
         ensures near { IfOk result (λ ctx. length ctx.neighbours ≤ 8) }
         ensures purse { IfOk result (λ ctx. ctx.purse ≡ packet.now.bound) }
         ensures source { IfOk result (λ ctx. ctx.source ≡ packet.now.family.source) }
@@ -219,8 +222,10 @@ impl<S: Services> Node<S> {
         packet: &CheckedPacket,
     ) -> Result<Acts, NoMemory>
         requires carried { MayCarry (mark_on self.old) packet.now.handler }
-        ensures ok { (s : NodeState) → NodeStands S.stands self.old s → IfOk result (λ acts. IsStep S.stands (spec.visit_step before s packet.now) acts self.new) }
-        ensures err { (s : NodeState) → NodeStands S.stands self.old s → OnErr result (NodeStands S.stands self.new s) }
+        ensures ok { (s : NodeState) → NodeStands S.stands self.old s → IfOk result
+            (λ acts. IsStep S.stands (spec.visit_step before s packet.now) acts self.new) }
+        ensures err { (s : NodeState) → NodeStands S.stands self.old s → OnErr result
+            (NodeStands S.stands self.new s) }
         ensures same { version_of self.new ≡ version_of self.old }
         ensures serial { self.new.serial ≡ self.old.serial }
     {
@@ -252,7 +257,8 @@ impl<S: Services> Node<S> {
     ) -> Result<CheckedPacket, NoMemory>
         requires bound { bound ≤ 65535 }
         requires handler { MayHandle chunk.now handler.now }
-        ensures { IfOk result (λ p. p ≡ own_packet self.now.here self.now.serial chunk.now bound handler.now) }
+        ensures { IfOk result (λ p. p ≡ own_packet self.now.here self.now.serial chunk.now bound
+            handler.now) }
     {
         let route = default_route(alloc)?;
         let name = copy_handler(alloc, handler)?;
@@ -271,8 +277,11 @@ impl<S: Services> Node<S> {
     ) -> Result<Acts, NoMemory>
         requires left { self.old.serial < 18446744073709551615 }
         requires carried { MayCarry (mark_on self.old) packet.now.handler }
-        ensures ok { (s : NodeState) → NodeStands S.stands self.old s → IfOk result (λ acts. IsStep S.stands (spec.visit_step before (spec.next_serial s) packet.now) acts self.new) }
-        ensures err { (s : NodeState) → NodeStands S.stands self.old s → OnErr result (NodeStands S.stands self.new s) }
+        ensures ok { (s : NodeState) → NodeStands S.stands self.old s → IfOk result
+            (λ acts. IsStep S.stands (spec.visit_step before (spec.next_serial s) packet.now)
+            acts self.new) }
+        ensures err { (s : NodeState) → NodeStands S.stands self.old s → OnErr result
+            (NodeStands S.stands self.new s) }
         ensures same { version_of self.new ≡ version_of self.old }
     {
         let acts = self.visit(alloc, before, packet)?;
@@ -293,8 +302,11 @@ impl<S: Services> Node<S> {
     ) -> Result<Acts, NoMemory>
         requires small { bound ≤ 65535 }
         requires handler { MayName (version_of self.old) chunk.now handler.now }
-        ensures ok { (s : NodeState) → NodeStands S.stands self.old s → IfOk result (λ acts. IsStep S.stands (spec.inject_step before s chunk.now bound handler.now) acts self.new) }
-        ensures err { (s : NodeState) → NodeStands S.stands self.old s → OnErr result (NodeStands S.stands self.new s) }
+        ensures ok { (s : NodeState) → NodeStands S.stands self.old s → IfOk result
+            (λ acts. IsStep S.stands (spec.inject_step before s chunk.now bound handler.now)
+            acts self.new) }
+        ensures err { (s : NodeState) → NodeStands S.stands self.old s → OnErr result
+            (NodeStands S.stands self.new s) }
         ensures same { version_of self.new ≡ version_of self.old }
     {
         if self.serial == u64::MAX {
@@ -318,8 +330,11 @@ impl<S: Services> Node<S> {
     ) -> Result<Acts, NoMemory>
         requires small { bound ≤ 65535 }
         requires handler { MayName (version_of self.old) chunk.now handler.now }
-        ensures ok { (s : NodeState) → NodeStands S.stands self.old s → IfOk result (λ acts. IsStep S.stands (spec.inject_step [] s chunk.now bound handler.now) acts self.new) }
-        ensures err { (s : NodeState) → NodeStands S.stands self.old s → OnErr result (NodeStands S.stands self.new s) }
+        ensures ok { (s : NodeState) → NodeStands S.stands self.old s → IfOk result
+            (λ acts. IsStep S.stands (spec.inject_step [] s chunk.now bound handler.now)
+            acts self.new) }
+        ensures err { (s : NodeState) → NodeStands S.stands self.old s → OnErr result
+            (NodeStands S.stands self.new s) }
         ensures same { version_of self.new ≡ version_of self.old }
     {
         let before = Items::new(alloc);
@@ -335,8 +350,12 @@ impl<S: Services> Node<S> {
         over: Dev,
     ) -> Result<Acts, NoMemory>
         requires carried { MayCarry (mark_on self.old) packet.now.handler }
-        ensures ok { (s : NodeState) → NodeStands S.stands self.old s → IfOk result (λ acts. IsStep S.stands (spec.onward s dev (spec.packet_sending (spec.mark s) (record { dev = over; packet = packet.now }))) acts self.new) }
-        ensures err { (s : NodeState) → NodeStands S.stands self.old s → OnErr result (NodeStands S.stands self.new s) }
+        ensures ok { (s : NodeState) → NodeStands S.stands self.old s → IfOk result
+            (λ acts. IsStep S.stands (spec.onward s dev
+            (spec.packet_sending (spec.mark s) (record { dev = over; packet = packet.now })))
+            acts self.new) }
+        ensures err { (s : NodeState) → NodeStands S.stands self.old s → OnErr result
+            (NodeStands S.stands self.new s) }
         ensures same { version_of self.new ≡ version_of self.old }
     {
         let mut list = Vec::with_capacity(alloc, 2)?;
@@ -370,8 +389,10 @@ impl<S: Services> Node<S> {
         hop: Hop,
     ) -> Result<Acts, NoMemory>
         requires carried { MayCarry (mark_on self.old) packet.now.handler }
-        ensures ok { (s : NodeState) → NodeStands S.stands self.old s → IfOk result (λ acts. IsStep S.stands (spec.forward_by s dev packet.now hop) acts self.new) }
-        ensures err { (s : NodeState) → NodeStands S.stands self.old s → OnErr result (NodeStands S.stands self.new s) }
+        ensures ok { (s : NodeState) → NodeStands S.stands self.old s → IfOk result
+            (λ acts. IsStep S.stands (spec.forward_by s dev packet.now hop) acts self.new) }
+        ensures err { (s : NodeState) → NodeStands S.stands self.old s → OnErr result
+            (NodeStands S.stands self.new s) }
         ensures same { version_of self.new ≡ version_of self.old }
     {
         let reason = match hop {
@@ -385,7 +406,8 @@ impl<S: Services> Node<S> {
 
     /// Where a packet for another host goes next.
     fn hop(&self, alloc: Global, packet: &CheckedPacket) -> Result<Hop, NoMemory>
-        ensures { (s : NodeState) → NodeStands S.stands self.now s → IfOk result (λ to. to ≡ hop (all_routes (routing_of s)) packet.now.route s.here packet.now.dest) }
+        ensures { (s : NodeState) → NodeStands S.stands self.now s → IfOk result
+            (λ to. to ≡ hop (all_routes (routing_of s)) packet.now.route s.here packet.now.dest) }
     {
         let dest = packet.dest();
         let router = self.routes.router_to(alloc, dest)?;
@@ -396,8 +418,10 @@ impl<S: Services> Node<S> {
     #[tactic(auto, unfolding(node_model::specs::Node::forward_step))]
     fn forward(&mut self, alloc: Global, dev: Dev, packet: &CheckedPacket) -> Result<Acts, NoMemory>
         requires carried { MayCarry (mark_on self.old) packet.now.handler }
-        ensures ok { (s : NodeState) → NodeStands S.stands self.old s → IfOk result (λ acts. IsStep S.stands (spec.forward_step s dev packet.now) acts self.new) }
-        ensures err { (s : NodeState) → NodeStands S.stands self.old s → OnErr result (NodeStands S.stands self.new s) }
+        ensures ok { (s : NodeState) → NodeStands S.stands self.old s → IfOk result
+            (λ acts. IsStep S.stands (spec.forward_step s dev packet.now) acts self.new) }
+        ensures err { (s : NodeState) → NodeStands S.stands self.old s → OnErr result
+            (NodeStands S.stands self.new s) }
         ensures same { version_of self.new ≡ version_of self.old }
     {
         if packet.bound() == 0 {
@@ -412,8 +436,10 @@ impl<S: Services> Node<S> {
     #[tactic(auto, unfolding(node_model::specs::Node::packet_step))]
     fn take_in(&mut self, alloc: Global, dev: Dev, packet: &CheckedPacket) -> Result<Acts, NoMemory>
         requires carried { MayCarry (mark_on self.old) packet.now.handler }
-        ensures ok { (s : NodeState) → NodeStands S.stands self.old s → IfOk result (λ acts. IsStep S.stands (spec.packet_step s dev packet.now) acts self.new) }
-        ensures err { (s : NodeState) → NodeStands S.stands self.old s → OnErr result (NodeStands S.stands self.new s) }
+        ensures ok { (s : NodeState) → NodeStands S.stands self.old s → IfOk result
+            (λ acts. IsStep S.stands (spec.packet_step s dev packet.now) acts self.new) }
+        ensures err { (s : NodeState) → NodeStands S.stands self.old s → OnErr result
+            (NodeStands S.stands self.new s) }
         ensures same { version_of self.new ≡ version_of self.old }
     {
         if packet.dest().0 != self.here.0 {
@@ -425,14 +451,16 @@ impl<S: Services> Node<S> {
 
     /// Whether a device leads to this neighbour.
     fn knows(&self, dev: Dev, host: Host) -> bool
-        ensures { (s : NodeState) → NodeStands S.stands self.now s → result ≡ leads_to s.neighbours dev host }
+        ensures { (s : NodeState) → NodeStands S.stands self.now s → result ≡ leads_to
+            s.neighbours dev host }
     {
         leads_to(self.neighbours.as_slice(), dev, host)
     }
 
     /// Hears an advert on a device. Takes no memory.
     fn learn(&mut self, dev: Dev, advert: &Advert)
-        ensures stands { (s : NodeState) → NodeStands S.stands self.old s → NodeStands S.stands self.new (spec.hearing s dev advert.now) }
+        ensures stands { (s : NodeState) → NodeStands S.stands self.old s → NodeStands S.stands
+            self.new (spec.hearing s dev advert.now) }
         ensures same { version_of self.new ≡ version_of self.old }
     {
         self.routes.hear(dev, advert);
@@ -441,8 +469,10 @@ impl<S: Services> Node<S> {
     /// An advert arrives: it is heard where it comes from the neighbour on its device.
     #[tactic(auto, unfolding(node_model::specs::Node::advert_step))]
     fn hear(&mut self, alloc: Global, dev: Dev, advert: &Advert) -> Result<Acts, NoMemory>
-        ensures ok { (s : NodeState) → NodeStands S.stands self.old s → IfOk result (λ acts. IsStep S.stands (spec.advert_step s dev advert.now) acts self.new) }
-        ensures err { (s : NodeState) → NodeStands S.stands self.old s → OnErr result (NodeStands S.stands self.new s) }
+        ensures ok { (s : NodeState) → NodeStands S.stands self.old s → IfOk result
+            (λ acts. IsStep S.stands (spec.advert_step s dev advert.now) acts self.new) }
+        ensures err { (s : NodeState) → NodeStands S.stands self.old s → OnErr result
+            (NodeStands S.stands self.new s) }
         ensures same { version_of self.new ≡ version_of self.old }
     {
         if !self.knows(dev, advert.host) {
@@ -456,8 +486,10 @@ impl<S: Services> Node<S> {
     /// A frame arrives. Condition: under version 1 a packet has no handler.
     fn arrive_frame(&mut self, alloc: Global, dev: Dev, frame: &Frame) -> Result<Acts, NoMemory>
         requires { MayGoOn (mark_on self.old) (plain_of frame.now) }
-        ensures ok { (s : NodeState) → NodeStands S.stands self.old s → IfOk result (λ acts. IsStep S.stands (spec.frame_step s dev (plain_of frame.now)) acts self.new) }
-        ensures err { (s : NodeState) → NodeStands S.stands self.old s → OnErr result (NodeStands S.stands self.new s) }
+        ensures ok { (s : NodeState) → NodeStands S.stands self.old s → IfOk result
+            (λ acts. IsStep S.stands (spec.frame_step s dev (plain_of frame.now)) acts self.new) }
+        ensures err { (s : NodeState) → NodeStands S.stands self.old s → OnErr result
+            (NodeStands S.stands self.new s) }
         ensures same { version_of self.new ≡ version_of self.old }
     {
         match frame {
@@ -470,7 +502,8 @@ impl<S: Services> Node<S> {
     /// What a device takes a frame with this stamp as. Takes no memory.
     #[tactic(auto, unfolding(node_model::specs::Node::takes_as))]
     fn judge(&self, dev: Dev, stamp: Option<Stamp>) -> Took
-        ensures { (s : NodeState) → NodeStands S.stands self.now s → result ≡ spec.takes_as s.seen dev stamp }
+        ensures { (s : NodeState) → NodeStands S.stands self.now s → result ≡ spec.takes_as
+            s.seen dev stamp }
     {
         match stamp {
             None => Took::Fresh,
@@ -481,7 +514,9 @@ impl<S: Services> Node<S> {
     /// Takes a fresh stamp on a device. Takes no memory.
     #[tactic(auto, unfolding(node_model::specs::Node::takes_as, node_model::specs::Node::seen_then))]
     fn note(&mut self, dev: Dev, stamp: Option<Stamp>)
-        ensures stands { (s : NodeState) → NodeStands S.stands self.old s → spec.takes_as s.seen dev stamp ≡ FreshOne → NodeStands S.stands self.new (spec.with_seen (spec.seen_then s.seen dev stamp) s) }
+        ensures stands { (s : NodeState) → NodeStands S.stands self.old s → spec.takes_as s.seen dev
+            stamp ≡ FreshOne → NodeStands S.stands self.new
+            (spec.with_seen (spec.seen_then s.seen dev stamp) s) }
         ensures same { version_of self.new ≡ version_of self.old }
     {
         let Some(stamp) = stamp else {
@@ -499,8 +534,12 @@ impl<S: Services> Node<S> {
         frame: &Frame,
     ) -> Result<Acts, NoMemory>
         requires { MayGoOn (mark_on self.old) (plain_of frame.now) }
-        ensures ok { (s : NodeState) → NodeStands S.stands self.old s → spec.takes_as s.seen dev stamp ≡ FreshOne → IfOk result (λ acts. IsStep S.stands (spec.stamped_as s dev (with_stamp stamp (plain_of frame.now)) FreshOne) acts self.new) }
-        ensures err { (s : NodeState) → NodeStands S.stands self.old s → OnErr result (NodeStands S.stands self.new s) }
+        ensures ok { (s : NodeState) → NodeStands S.stands self.old s → spec.takes_as s.seen dev
+            stamp ≡ FreshOne → IfOk result (λ acts. IsStep S.stands
+            (spec.stamped_as s dev (with_stamp stamp (plain_of frame.now)) FreshOne)
+            acts self.new) }
+        ensures err { (s : NodeState) → NodeStands S.stands self.old s → OnErr result
+            (NodeStands S.stands self.new s) }
         ensures same { version_of self.new ≡ version_of self.old }
     {
         let acts = self.arrive_frame(alloc, dev, frame)?;
@@ -516,7 +555,8 @@ impl<S: Services> Node<S> {
         took: Took,
         frame: &Frame,
     ) -> Result<Acts, NoMemory>
-        ensures list { IfOk result (λ acts. acts.list ≡ act.Arrived dev ∷ act.Stale took (spelled.what_of (plain_of frame.now)) ∷ []) }
+        ensures list { IfOk result (λ acts. acts.list ≡ act.Arrived dev ∷ act.Stale took
+            (spelled.what_of (plain_of frame.now)) ∷ []) }
         ensures frame { IfOk result (λ acts. acts.frame ≡ None) }
     {
         let stale = Act::Stale(took, what_of(frame));
@@ -534,8 +574,11 @@ impl<S: Services> Node<S> {
         frame: &Frame,
     ) -> Result<Acts, NoMemory>
         requires { MayGoOn (mark_on self.old) (plain_of frame.now) }
-        ensures ok { (s : NodeState) → NodeStands S.stands self.old s → IfOk result (λ acts. IsStep S.stands (spec.stamped_step s dev (with_stamp stamp (plain_of frame.now))) acts self.new) }
-        ensures err { (s : NodeState) → NodeStands S.stands self.old s → OnErr result (NodeStands S.stands self.new s) }
+        ensures ok { (s : NodeState) → NodeStands S.stands self.old s → IfOk result
+            (λ acts. IsStep S.stands (spec.stamped_step s dev
+            (with_stamp stamp (plain_of frame.now))) acts self.new) }
+        ensures err { (s : NodeState) → NodeStands S.stands self.old s → OnErr result
+            (NodeStands S.stands self.new s) }
         ensures same { version_of self.new ≡ version_of self.old }
     {
         match self.judge(dev, stamp) {
@@ -547,7 +590,8 @@ impl<S: Services> Node<S> {
 
     /// Keeps the program of a frame's chunk, where it has one. Takes no memory.
     fn remember(&mut self, frame: &Frame)
-        ensures stands { (s : NodeState) → NodeStands S.stands self.old s → NodeStands S.stands self.new s }
+        ensures stands { (s : NodeState) → NodeStands S.stands self.old s → NodeStands
+            S.stands self.new s }
         ensures same { version_of self.new ≡ version_of self.old }
         ensures mark { mark_on self.new ≡ mark_on self.old }
     {
@@ -559,8 +603,10 @@ impl<S: Services> Node<S> {
     /// The step of bytes that arrive over a device.
     #[tactic(auto, unfolding(node_model::specs::Node::arrive_step))]
     pub fn arrive(&mut self, alloc: Global, dev: Dev, bytes: &[u8]) -> Result<Acts, NoMemory>
-        ensures ok { (s : NodeState) → NodeStands S.stands self.old s → IfOk result (λ acts. IsStep S.stands (spec.arrive_step s dev bytes.now) acts self.new) }
-        ensures err { (s : NodeState) → NodeStands S.stands self.old s → OnErr result (NodeStands S.stands self.new s) }
+        ensures ok { (s : NodeState) → NodeStands S.stands self.old s → IfOk result
+            (λ acts. IsStep S.stands (spec.arrive_step s dev bytes.now) acts self.new) }
+        ensures err { (s : NodeState) → NodeStands S.stands self.old s → OnErr result
+            (NodeStands S.stands self.new s) }
         ensures same { version_of self.new ≡ version_of self.old }
     {
         match read_as(alloc, bytes, self.version, self.known.as_ref()) {
@@ -581,8 +627,11 @@ impl<S: Services> Node<S> {
         dev: Dev,
         frame: &SpelledFrame,
     ) -> Result<Acts, NoMemory>
-        ensures ok { (s : NodeState) → NodeStands S.stands self.old s → IsMarked s.version frame.now.stamp → IfOk result (λ acts. IsStep S.stands (spec.stamped_step s dev frame.now) acts self.new) }
-        ensures err { (s : NodeState) → NodeStands S.stands self.old s → OnErr result (NodeStands S.stands self.new s) }
+        ensures ok { (s : NodeState) → NodeStands S.stands self.old s → IsMarked s.version
+            frame.now.stamp → IfOk result (λ acts. IsStep S.stands
+            (spec.stamped_step s dev frame.now) acts self.new) }
+        ensures err { (s : NodeState) → NodeStands S.stands self.old s → OnErr result
+            (NodeStands S.stands self.new s) }
         ensures same { version_of self.new ≡ version_of self.old }
     {
         let bytes = frame.bytes();
@@ -597,8 +646,10 @@ impl<S: Services> Node<S> {
     #[tactic(auto, using(crate::proofs::StepLaws::none_named))]
     fn ask_frame(&mut self, alloc: Global, frame: &Frame) -> Result<Acts, NoMemory>
         requires { asks_within (plain_of frame.now) }
-        ensures ok { (s : NodeState) → NodeStands S.stands self.old s → IfOk result (λ acts. IsStep S.stands (spec.asked_plain s (plain_of frame.now)) acts self.new) }
-        ensures err { (s : NodeState) → NodeStands S.stands self.old s → OnErr result (NodeStands S.stands self.new s) }
+        ensures ok { (s : NodeState) → NodeStands S.stands self.old s → IfOk result
+            (λ acts. IsStep S.stands (spec.asked_plain s (plain_of frame.now)) acts self.new) }
+        ensures err { (s : NodeState) → NodeStands S.stands self.old s → OnErr result
+            (NodeStands S.stands self.new s) }
         ensures same { version_of self.new ≡ version_of self.old }
     {
         match frame {
@@ -613,8 +664,10 @@ impl<S: Services> Node<S> {
     /// Bytes arrive from the owner: an ask is an injection.
     #[tactic(auto, unfolding(node_model::specs::Node::control_step))]
     fn control(&mut self, alloc: Global, bytes: &[u8]) -> Result<Acts, NoMemory>
-        ensures ok { (s : NodeState) → NodeStands S.stands self.old s → IfOk result (λ acts. IsStep S.stands (spec.control_step s bytes.now) acts self.new) }
-        ensures err { (s : NodeState) → NodeStands S.stands self.old s → OnErr result (NodeStands S.stands self.new s) }
+        ensures ok { (s : NodeState) → NodeStands S.stands self.old s → IfOk result
+            (λ acts. IsStep S.stands (spec.control_step s bytes.now) acts self.new) }
+        ensures err { (s : NodeState) → NodeStands S.stands self.old s → OnErr result
+            (NodeStands S.stands self.new s) }
         ensures same { version_of self.new ≡ version_of self.old }
     {
         match read_as(alloc, bytes, self.version, self.known.as_ref()) {
@@ -630,8 +683,10 @@ impl<S: Services> Node<S> {
     /// The step of a tick: rows that have expired go, and the advert is queued for each neighbour.
     #[tactic(auto, unfolding(node_model::specs::Node::tick_step, node_model::specs::Node::tick_sends))]
     pub fn tick(&mut self, alloc: Global) -> Result<Acts, NoMemory>
-        ensures ok { (s : NodeState) → NodeStands S.stands self.old s → IfOk result (λ acts. IsStep S.stands (spec.tick_step s) acts self.new) }
-        ensures err { (s : NodeState) → NodeStands S.stands self.old s → OnErr result (NodeStands S.stands self.new s) }
+        ensures ok { (s : NodeState) → NodeStands S.stands self.old s → IfOk result
+            (λ acts. IsStep S.stands (spec.tick_step s) acts self.new) }
+        ensures err { (s : NodeState) → NodeStands S.stands self.old s → OnErr result
+            (NodeStands S.stands self.new s) }
         ensures same { version_of self.new ≡ version_of self.old }
     {
         let now = next_tick(self.time);
@@ -651,8 +706,10 @@ impl<S: Services> Node<S> {
     /// The step that takes the first frame of a device.
     #[tactic(auto, unfolding(node_model::specs::Node::take_step))]
     pub fn take(&mut self, alloc: Global, dev: Dev) -> Result<Acts, NoMemory>
-        ensures ok { (s : NodeState) → NodeStands S.stands self.old s → IfOk result (λ acts. IsStep S.stands (spec.take_step s dev) acts self.new) }
-        ensures err { (s : NodeState) → NodeStands S.stands self.old s → OnErr result (NodeStands S.stands self.new s) }
+        ensures ok { (s : NodeState) → NodeStands S.stands self.old s → IfOk result
+            (λ acts. IsStep S.stands (spec.take_step s dev) acts self.new) }
+        ensures err { (s : NodeState) → NodeStands S.stands self.old s → OnErr result
+            (NodeStands S.stands self.new s) }
         ensures same { version_of self.new ≡ version_of self.old }
     {
         let mut list = Vec::with_capacity(alloc, 1)?;
@@ -674,8 +731,10 @@ impl<S: Services> Node<S> {
     /// The step of an event, by its case.
     fn step_by_case(&mut self, alloc: Global, event: &Event) -> Result<Acts, NoMemory>
         requires { comes_within (version_of self.old) event.now }
-        ensures ok { (s : NodeState) → NodeStands S.stands self.old s → IfOk result (λ acts. IsStep S.stands (spec.node_step s event.now) acts self.new) }
-        ensures err { (s : NodeState) → NodeStands S.stands self.old s → OnErr result (NodeStands S.stands self.new s) }
+        ensures ok { (s : NodeState) → NodeStands S.stands self.old s → IfOk result
+            (λ acts. IsStep S.stands (spec.node_step s event.now) acts self.new) }
+        ensures err { (s : NodeState) → NodeStands S.stands self.old s → OnErr result
+            (NodeStands S.stands self.new s) }
         ensures same { version_of self.new ≡ version_of self.old }
     {
         match event {
@@ -692,11 +751,15 @@ impl<S: Services> Node<S> {
     /// its handler none under version 1, and one that may handle or none under version 2; a device is at most 8.
     pub fn step(&mut self, alloc: Global, event: &Event) -> Result<Acts, NoMemory>
         requires { comes_within (version_of self.old) event.now }
-        ensures ok { (s : NodeState) → NodeStands S.stands self.old s → IfOk result (λ acts. IsStep S.stands (spec.node_step s event.now) acts self.new) }
-        ensures err { (s : NodeState) → NodeStands S.stands self.old s → OnErr result (NodeStands S.stands self.new s) }
+        ensures ok { (s : NodeState) → NodeStands S.stands self.old s → IfOk result
+            (λ acts. IsStep S.stands (spec.node_step s event.now) acts self.new) }
+        ensures err { (s : NodeState) → NodeStands S.stands self.old s → OnErr result
+            (NodeStands S.stands self.new s) }
         ensures same { version_of self.new ≡ version_of self.old }
-        ensures balance { (f : FamilyOf) (s : NodeState) → StepBalances f (came f s event.now) (stale f s event.now) s (spec.node_step s event.now) }
-        ensures keeps { (s : NodeState) → comes_fit s.version event.now → NodeFits s → NodeFits (spec.node_step s event.now).node }
+        ensures balance { (f : FamilyOf) (s : NodeState) → StepBalances f (came f s event.now)
+            (stale f s event.now) s (spec.node_step s event.now) }
+        ensures keeps { (s : NodeState) → comes_fit s.version event.now → NodeFits s → NodeFits
+            (spec.node_step s event.now).node }
     {
         self.step_by_case(alloc, event)
     }

@@ -23,7 +23,8 @@ fn own_sending(
     packet: CheckedPacket,
 ) -> Result<Leaving, NoMemory>
     requires { MayCarry mark packet.handler }
-    ensures { IfOk result (λ s. s ≡ spec.packet_sending mark (record { dev = dev; packet = packet })) }
+    ensures { IfOk result (λ s. s ≡ spec.packet_sending mark
+        (record { dev = dev; packet = packet })) }
 {
     let bound = packet.bound();
     let left = bound.saturating_sub(1);
@@ -41,7 +42,8 @@ pub fn packet_sending(
     packet: &CheckedPacket,
 ) -> Result<Leaving, NoMemory>
     requires { MayCarry mark packet.now.handler }
-    ensures { IfOk result (λ s. s ≡ spec.packet_sending mark (record { dev = dev; packet = packet.now })) }
+    ensures { IfOk result (λ s. s ≡ spec.packet_sending mark
+        (record { dev = dev; packet = packet.now })) }
 {
     let own = copy_packet(alloc, packet)?;
     own_sending(alloc, mark, dev, own)
@@ -88,7 +90,8 @@ pub fn advert_sendings(
     neighbours: &[(Host, Dev)],
 ) -> Result<Leavings, NoMemory>
     requires { AdvertFits advert.now }
-    ensures { IfOk result (λ sends. sends ≡ map (spec.advert_sending mark advert.now) neighbours.now) }
+    ensures { IfOk result (λ sends. sends ≡ map (spec.advert_sending mark advert.now)
+        neighbours.now) }
 {
     let mut sends = Items::from_vec(Vec::with_capacity(alloc, neighbours.len())?);
     for link in neighbours {

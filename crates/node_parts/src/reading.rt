@@ -25,7 +25,8 @@ pub fn are_bytes(bytes: &[u8])
 /// Reads a frame of version 1.
 fn read_first(alloc: Global, bytes: &[u8], known: Option<&Checked>) -> Result<Stamped, FrameFault>
     ensures found { IfOk result (λ x. AcceptsBy One bytes.now (stamped_plain x)) }
-    ensures fault { IfErr result (λ e. (e ≡ FrameFault.NoMemory) ⊎ (read_by One bytes.now ≡ Err e)) }
+    ensures fault { IfErr result (λ e. (e ≡ FrameFault.NoMemory) ⊎
+        (read_by One bytes.now ≡ Err e)) }
 {
     are_bytes(bytes);
     let frame = get_frame(alloc, bytes, known)?;
@@ -35,7 +36,8 @@ fn read_first(alloc: Global, bytes: &[u8], known: Option<&Checked>) -> Result<St
 /// Reads a frame of version 2.
 fn read_second(alloc: Global, bytes: &[u8], known: Option<&Checked>) -> Result<Stamped, FrameFault>
     ensures found { IfOk result (λ x. AcceptsBy Two bytes.now (stamped_plain x)) }
-    ensures fault { IfErr result (λ e. (e ≡ FrameFault.NoMemory) ⊎ (read_by Two bytes.now ≡ Err e)) }
+    ensures fault { IfErr result (λ e. (e ≡ FrameFault.NoMemory) ⊎
+        (read_by Two bytes.now ≡ Err e)) }
 {
     are_bytes(bytes);
     get_frame2(alloc, bytes, known)
@@ -51,9 +53,11 @@ pub fn read_as(
     known: Option<&Checked>,
 ) -> Result<Stamped, FrameFault>
     ensures found { IfOk result (λ x. read_by version bytes.now ≡ Ok (stamped_plain x)) }
-    ensures fault { IfErr result (λ e. (e ≡ FrameFault.NoMemory) ⊎ (read_by version bytes.now ≡ Err e)) }
+    ensures fault { IfErr result (λ e. (e ≡ FrameFault.NoMemory) ⊎
+        (read_by version bytes.now ≡ Err e)) }
     ensures within { IfOk result (λ x. asks_within (plain_of x.frame)) }
-    ensures carried { (boot : ℕ) → IfOk result (λ x. MayGoOn (mark_of version boot) (plain_of x.frame)) }
+    ensures carried { (boot : ℕ) → IfOk result (λ x. MayGoOn (mark_of version boot)
+        (plain_of x.frame)) }
 {
     match version {
         Version::One => read_first(alloc, bytes, known),

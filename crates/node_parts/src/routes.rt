@@ -48,7 +48,8 @@ impl Routes {
         neighbours: &Neighbours,
     ) -> Result<Routes, NoMemory>
         requires { NetworkFits hosts.now }
-        ensures { IfOk result (λ t. Stands (opening_routing here (sorted_into [] hosts.now) neighbours.now) t) }
+        ensures { IfOk result (λ t. Stands (opening_routing here (sorted_into [] hosts.now)
+            neighbours.now) t) }
     {
         let _number = number_of(here);
         let sorted = sorted_hosts(alloc, hosts)?;
@@ -72,7 +73,8 @@ impl Routes {
 
     /// The route to one host of the network, as far as it is known.
     pub fn router_to(&self, alloc: Global, host: Host) -> Result<Router, NoMemory>
-        ensures { (r : Routing) → Stands r self.now → IfOk result (λ rows. rows ≡ routes_within r host) }
+        ensures { (r : Routing) → Stands r self.now → IfOk result
+            (λ rows. rows ≡ routes_within r host) }
     {
         self.table.router_to(alloc, host)
     }

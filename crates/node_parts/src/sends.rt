@@ -125,7 +125,8 @@ pub fn begin_acts(
     handled: Option<Act>,
     sends: usize,
 ) -> Result<Vec<Act>, AllocError>
-    ensures acts { IfOk result (λ acts. acts.items ≡ before ++ (map Noted notes ++ (end ∷ option_to_list handled))) }
+    ensures acts { IfOk result (λ acts. acts.items ≡ before ++
+        (map Noted notes ++ (end ∷ option_to_list handled))) }
     ensures room { IfOk result (λ acts. vec_len acts + sends ≤ vec_capacity acts) }
 {
     let mut acts = before.into_vec();

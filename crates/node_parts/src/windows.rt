@@ -23,7 +23,8 @@ pub fn open_windows(alloc: Global) -> Result<Vec<Window>, AllocError>
 
 /// What a stamp would be taken as on a device. Takes no memory.
 pub fn judge(windows: &[Window], dev: Dev, s: Stamp) -> Took
-    ensures { (seen : List Seen) → AllSeen seen windows.now → result ≡ took_by (slice_get seen dev.0) s }
+    ensures { (seen : List Seen) → AllSeen seen windows.now → result ≡ took_by
+        (slice_get seen dev.0) s }
 {
     match windows.get(dev.0 as usize) {
         None => Took::Fresh,
@@ -33,7 +34,8 @@ pub fn judge(windows: &[Window], dev: Dev, s: Stamp) -> Took
 
 /// Takes a stamp that is fresh on a device, where the device is there. Takes no memory.
 pub fn note(windows: &mut [Window], dev: Dev, s: Stamp)
-    ensures { (seen : List Seen) → AllSeen seen windows.old → took_by (slice_get seen dev.0) s ≡ FreshOne → AllSeen (seen_at seen dev s (slice_get seen dev.0)) windows.new }
+    ensures { (seen : List Seen) → AllSeen seen windows.old → took_by (slice_get seen dev.0) s ≡
+        FreshOne → AllSeen (seen_at seen dev s (slice_get seen dev.0)) windows.new }
 {
     let at = dev.0 as usize;
     if at >= windows.len() {

@@ -30,12 +30,15 @@ fn land_flow(
     top: Activation,
     flow: Result<Flow, EvalStop>,
 ) -> Result<Mode, EvalStop>
-    ensures turned { (codes : List Code) (code : Code) (at : Spot) (want : RunStep AValue) (s : VisitState) → Stands codes outer.old top code at
-        → Flows codes code top.fun at want flow s → Turned (all_ended codes outer.old (ended_frame codes top want)) result codes outer.new s }
+    ensures turned { (codes : List Code) (code : Code) (at : Spot) (want : RunStep AValue)
+        (s : VisitState) → Stands codes outer.old top code at
+        → Flows codes code top.fun at want flow s → Turned
+        (all_ended codes outer.old (ended_frame codes top want)) result codes outer.new s }
     ensures shrinks { (depth old new : ℕ) → 0 < depth → Spends depth old flow new
         → IfOk result (λ how. load how outer.new new < load mode.Run (outer.old ++ top ∷ []) old) }
     ensures bounded { (old new : ℕ) → Lasts 3 old flow new
-        → IfOk result (λ how. load how outer.new new ≤ load mode.Run (outer.old ++ top ∷ []) old + 3) }
+        → IfOk result (λ how. load how outer.new new ≤ load mode.Run
+        (outer.old ++ top ∷ []) old + 3) }
 {
     match flow {
         Ok(Flow::Done(v)) => {
@@ -90,11 +93,15 @@ fn run_top<S: Services>(
     requires open { IsSome (S.stands svc.old).begun }
     requires sized { IsProgramSize codes.old last.old }
     requires linked { IsSome (spot_in codes.old top.now) }
-    requires safe { (code : Code) (at : Spot) → slice_get codes.old top.now.code ≡ Some code → spot_in codes.old top.now ≡ Some at
+    requires safe { (code : Code) (at : Spot) → slice_get codes.old top.now.code ≡ Some code →
+        spot_in codes.old top.now ≡ Some at
         → IsSafe (task_step code top.now.fun at task
         (joined_state state.old (S.stands svc.old))).asks }
-    ensures flows { (code : Code) (at : Spot) → slice_get codes.old top.now.code ≡ Some code → spot_in codes.old top.now ≡ Some at
-        → Flows codes.new code top.now.fun at (task_step code top.now.fun at task (joined_state state.old (S.stands svc.old))) result (joined_state state.new (S.stands svc.new)) }
+    ensures flows { (code : Code) (at : Spot) → slice_get codes.old top.now.code ≡ Some code →
+        spot_in codes.old top.now ≡ Some at
+        → Flows codes.new code top.now.fun at (task_step code top.now.fun at task
+        (joined_state state.old (S.stands svc.old))) result
+        (joined_state state.new (S.stands svc.new)) }
     ensures performs { Performs task state.old.work result state.new.work }
     ensures grown { Grows codes.old codes.new }
     ensures sized { IsProgramSize codes.new last.new }
@@ -139,9 +146,13 @@ fn begin<S: Services>(
     requires open { IsSome (S.stands svc.old).begun }
     requires sized { IsProgramSize codes.old last.old }
     requires linked { AreLinked codes.old (outer.old ++ top ∷ []) }
-    requires safe { IsSafe (stands_for codes.old (outer.old ++ top ∷ []) mode.Run (joined_state state.old (S.stands svc.old))).asks }
-    ensures turned { Turned (stands_for codes.old (outer.old ++ top ∷ []) mode.Run (joined_state state.old (S.stands svc.old))) result codes.new outer.new (joined_state state.new (S.stands svc.new)) }
-    ensures shrinks { IfOk result (λ how. load how outer.new state.new.work < load mode.Run (outer.old ++ top ∷ []) state.old.work) }
+    requires safe { IsSafe (stands_for codes.old (outer.old ++ top ∷ []) mode.Run
+        (joined_state state.old (S.stands svc.old))).asks }
+    ensures turned { Turned (stands_for codes.old (outer.old ++ top ∷ []) mode.Run
+        (joined_state state.old (S.stands svc.old))) result codes.new outer.new
+        (joined_state state.new (S.stands svc.new)) }
+    ensures shrinks { IfOk result (λ how. load how outer.new state.new.work < load mode.Run
+        (outer.old ++ top ∷ []) state.old.work) }
     ensures sized { IsProgramSize codes.new last.new }
     ensures offer { (S.stands svc.new).offer ≡ (S.stands svc.old).offer }
     ensures begun { (S.stands svc.new).begun ≡ (S.stands svc.old).begun }
@@ -164,9 +175,13 @@ fn give<S: Services>(
     requires open { IsSome (S.stands svc.old).begun }
     requires sized { IsProgramSize codes.old last.old }
     requires linked { AreLinked codes.old (outer.old ++ top ∷ []) }
-    requires safe { IsSafe (stands_for codes.old (outer.old ++ top ∷ []) (mode.Give v) (joined_state state.old (S.stands svc.old))).asks }
-    ensures turned { Turned (stands_for codes.old (outer.old ++ top ∷ []) (mode.Give v) (joined_state state.old (S.stands svc.old))) result codes.new outer.new (joined_state state.new (S.stands svc.new)) }
-    ensures shrinks { IfOk result (λ how. load how outer.new state.new.work < load (mode.Give v) (outer.old ++ top ∷ []) state.old.work) }
+    requires safe { IsSafe (stands_for codes.old (outer.old ++ top ∷ []) (mode.Give v)
+        (joined_state state.old (S.stands svc.old))).asks }
+    ensures turned { Turned (stands_for codes.old (outer.old ++ top ∷ []) (mode.Give v)
+        (joined_state state.old (S.stands svc.old))) result codes.new outer.new
+        (joined_state state.new (S.stands svc.new)) }
+    ensures shrinks { IfOk result (λ how. load how outer.new state.new.work < load (mode.Give v)
+        (outer.old ++ top ∷ []) state.old.work) }
     ensures sized { IsProgramSize codes.new last.new }
     ensures offer { (S.stands svc.new).offer ≡ (S.stands svc.old).offer }
     ensures begun { (S.stands svc.new).begun ≡ (S.stands svc.old).begun }
@@ -194,9 +209,13 @@ fn raise<S: Services>(
     requires open { IsSome (S.stands svc.old).begun }
     requires sized { IsProgramSize codes.old last.old }
     requires linked { AreLinked codes.old (outer.old ++ top ∷ []) }
-    requires safe { IsSafe (stands_for codes.old (outer.old ++ top ∷ []) (mode.Raise x) (joined_state state.old (S.stands svc.old))).asks }
-    ensures turned { Turned (stands_for codes.old (outer.old ++ top ∷ []) (mode.Raise x) (joined_state state.old (S.stands svc.old))) result codes.new outer.new (joined_state state.new (S.stands svc.new)) }
-    ensures shrinks { IfOk result (λ how. load how outer.new state.new.work < load (mode.Raise x) (outer.old ++ top ∷ []) state.old.work) }
+    requires safe { IsSafe (stands_for codes.old (outer.old ++ top ∷ []) (mode.Raise x)
+        (joined_state state.old (S.stands svc.old))).asks }
+    ensures turned { Turned (stands_for codes.old (outer.old ++ top ∷ []) (mode.Raise x)
+        (joined_state state.old (S.stands svc.old))) result codes.new outer.new
+        (joined_state state.new (S.stands svc.new)) }
+    ensures shrinks { IfOk result (λ how. load how outer.new state.new.work < load (mode.Raise x)
+        (outer.old ++ top ∷ []) state.old.work) }
     ensures sized { IsProgramSize codes.new last.new }
     ensures offer { (S.stands svc.new).offer ≡ (S.stands svc.old).offer }
     ensures begun { (S.stands svc.new).begun ≡ (S.stands svc.old).begun }
@@ -227,9 +246,13 @@ fn turn<S: Services>(
     requires open { IsSome (S.stands svc.old).begun }
     requires sized { IsProgramSize codes.old last.old }
     requires linked { AreLinked codes.old (outer.old ++ top ∷ []) }
-    requires safe { IsSafe (stands_for codes.old (outer.old ++ top ∷ []) how (joined_state state.old (S.stands svc.old))).asks }
-    ensures turned { Turned (stands_for codes.old (outer.old ++ top ∷ []) how (joined_state state.old (S.stands svc.old))) result codes.new outer.new (joined_state state.new (S.stands svc.new)) }
-    ensures shrinks { IfOk result (λ next. load next outer.new state.new.work < load how (outer.old ++ top ∷ []) state.old.work) }
+    requires safe { IsSafe (stands_for codes.old (outer.old ++ top ∷ []) how
+        (joined_state state.old (S.stands svc.old))).asks }
+    ensures turned { Turned (stands_for codes.old (outer.old ++ top ∷ []) how
+        (joined_state state.old (S.stands svc.old))) result codes.new outer.new
+        (joined_state state.new (S.stands svc.new)) }
+    ensures shrinks { IfOk result (λ next. load next outer.new state.new.work < load how
+        (outer.old ++ top ∷ []) state.old.work) }
     ensures sized { IsProgramSize codes.new last.new }
     ensures offer { (S.stands svc.new).offer ≡ (S.stands svc.old).offer }
     ensures begun { (S.stands svc.new).begun ≡ (S.stands svc.old).begun }
@@ -253,8 +276,11 @@ pub fn run<S: Services>(
     requires open { IsSome (S.stands svc.old).begun }
     requires sized { IsProgramSize codes first }
     requires linked { AreLinked codes activations }
-    requires safe { IsSafe (stands_for codes activations mode.Run (joined_state state.old (S.stands svc.old))).asks }
-    ensures meets { Meets (stands_for codes activations mode.Run (joined_state state.old (S.stands svc.old))) result (joined_state state.new (S.stands svc.new)) }
+    requires safe { IsSafe (stands_for codes activations mode.Run
+        (joined_state state.old (S.stands svc.old))).asks }
+    ensures meets { Meets (stands_for codes activations mode.Run
+        (joined_state state.old (S.stands svc.old))) result
+        (joined_state state.new (S.stands svc.new)) }
     ensures offer { (S.stands svc.new).offer ≡ (S.stands svc.old).offer }
     ensures begun { (S.stands svc.new).begun ≡ (S.stands svc.old).begun }
 {

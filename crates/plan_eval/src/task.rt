@@ -54,9 +54,11 @@ fn give<S: Services>(
 ) -> Result<Flow, EvalStop>
     requires open { IsSome (S.stands svc.old).begun }
     requires here { IsHere codes.old here.now }
-    requires safe { IsSafe (resume here.now.code.now here.now.fun (spot here.now e.now) frame (quiet (gave v (joined_state state.old (S.stands svc.old))))).asks }
+    requires safe { IsSafe (resume here.now.code.now here.now.fun (spot here.now e.now) frame
+        (quiet (gave v (joined_state state.old (S.stands svc.old))))).asks }
     ensures flows { Flows codes.new here.now.code.now here.now.fun (spot here.now e.now)
-        (resume here.now.code.now here.now.fun (spot here.now e.now) frame (quiet (gave v (joined_state state.old (S.stands svc.old)))))
+        (resume here.now.code.now here.now.fun (spot here.now e.now) frame
+        (quiet (gave v (joined_state state.old (S.stands svc.old)))))
         result (joined_state state.new (S.stands svc.new)) }
     ensures lasts { Lasts 3 state.old.work result state.new.work }
     ensures grown { Grows codes.old codes.new }
@@ -82,9 +84,11 @@ fn raise<S: Services>(
 ) -> Result<Flow, EvalStop>
     requires open { IsSome (S.stands svc.old).begun }
     requires here { IsHere codes.old here.now }
-    requires safe { IsSafe (resume here.now.code.now here.now.fun (spot here.now e.now) frame.now (quiet (stopped (Raised x) (joined_state state.old (S.stands svc.old))))).asks }
+    requires safe { IsSafe (resume here.now.code.now here.now.fun (spot here.now e.now) frame.now
+        (quiet (stopped (Raised x) (joined_state state.old (S.stands svc.old))))).asks }
     ensures flows { Flows codes.new here.now.code.now here.now.fun (spot here.now e.now)
-        (resume here.now.code.now here.now.fun (spot here.now e.now) frame.now (quiet (stopped (Raised x) (joined_state state.old (S.stands svc.old)))))
+        (resume here.now.code.now here.now.fun (spot here.now e.now) frame.now
+        (quiet (stopped (Raised x) (joined_state state.old (S.stands svc.old)))))
         result (joined_state state.new (S.stands svc.new)) }
     ensures lasts { Lasts 3 state.old.work result state.new.work }
     ensures grown { Grows codes.old codes.new }
@@ -109,9 +113,11 @@ pub fn perform<S: Services>(
 ) -> Result<Flow, EvalStop>
     requires open { IsSome (S.stands svc.old).begun }
     requires here { IsHere codes.old here.now }
-    requires safe { IsSafe (task_step here.now.code.now here.now.fun (spot here.now e.now) task (joined_state state.old (S.stands svc.old))).asks }
+    requires safe { IsSafe (task_step here.now.code.now here.now.fun (spot here.now e.now) task
+        (joined_state state.old (S.stands svc.old))).asks }
     ensures flows { Flows codes.new here.now.code.now here.now.fun (spot here.now e.now)
-        (task_step here.now.code.now here.now.fun (spot here.now e.now) task (joined_state state.old (S.stands svc.old)))
+        (task_step here.now.code.now here.now.fun (spot here.now e.now) task
+        (joined_state state.old (S.stands svc.old)))
         result (joined_state state.new (S.stands svc.new)) }
     ensures performs { Performs task state.old.work result state.new.work }
     ensures grown { Grows codes.old codes.new }

@@ -75,7 +75,9 @@ fn run_chunk<S: Services>(
     requires open { IsSome (S.stands svc.old).begun }
     requires safe { IsSafe (visited_chunk meaning chunk.now
         (joined_state state.old (S.stands svc.old))).asks }
-    ensures meets { Meets (visited_chunk meaning chunk.now (joined_state state.old (S.stands svc.old))) result (joined_state state.new (S.stands svc.new)) }
+    ensures meets { Meets (visited_chunk meaning chunk.now
+        (joined_state state.old (S.stands svc.old))) result
+        (joined_state state.new (S.stands svc.new)) }
     ensures offer { (S.stands svc.new).offer ≡ (S.stands svc.old).offer }
     ensures begun { (S.stands svc.new).begun ≡ (S.stands svc.old).begun }
 {
@@ -108,7 +110,8 @@ fn visit_chunk<S: Services>(
     requires near { length ctx.now.neighbours ≤ 8 }
     requires rows { AreGoodRows (S.stands svc.old).rows }
     requires open { IsSome (S.stands svc.old).begun }
-    ensures visits { IfOk result (λ r. IsVisit allowance chunk.now ctx.entry.now family (S.stands svc.old) r (S.stands svc.new)) }
+    ensures visits { IfOk result (λ r. IsVisit allowance chunk.now ctx.entry.now family
+        (S.stands svc.old) r (S.stands svc.new)) }
     ensures offer { (S.stands svc.new).offer ≡ (S.stands svc.old).offer }
     ensures begun { (S.stands svc.new).begun ≡ (S.stands svc.old).begun }
 {
@@ -140,8 +143,10 @@ fn visit_by_laws<S: Services>(
     requires near { length ctx.now.neighbours ≤ 8 }
     requires rows { AreGoodRows (S.stands svc.old).rows }
     requires open { IsSome (S.stands svc.old).begun }
-    ensures visits { IfOk result (λ r. IsVisit allowance chunk.now ctx.entry.now family (S.stands svc.old) r (S.stands svc.new)) }
-    ensures value { IfOk result (λ r. (d : AFun) → fun_of chunk.now.code chunk.now.entry ≡ Some d → IsGoodEnd d.result r.outcome) }
+    ensures visits { IfOk result (λ r. IsVisit allowance chunk.now ctx.entry.now family
+        (S.stands svc.old) r (S.stands svc.new)) }
+    ensures value { IfOk result (λ r. (d : AFun) → fun_of chunk.now.code chunk.now.entry ≡ Some d →
+        IsGoodEnd d.result r.outcome) }
     ensures notes { IfOk result (λ r. AreGoodNotes r.notes) }
     ensures note_types { IfOk result (λ r. All NoteHasTypes r.notes) }
     ensures sends { IfOk result (λ r. AreGoodPackets r.outbox) }
@@ -149,7 +154,8 @@ fn visit_by_laws<S: Services>(
     ensures kept { OnOk result (AreGoodRows (S.stands svc.new).rows) }
     ensures ends { VisitEnds chunk.now ctx.entry.now family (S.stands svc.old) }
     ensures alike { VisitsAlike chunk.now ctx.entry.now family (S.stands svc.old) }
-    ensures spent { IfOk result (λ r. (r.outcome ≡ outcome.WorkSpent) ↔ NoneSuffices allowance chunk.now ctx.entry.now family (S.stands svc.old)) }
+    ensures spent { IfOk result (λ r. (r.outcome ≡ outcome.WorkSpent) ↔ NoneSuffices allowance
+        chunk.now ctx.entry.now family (S.stands svc.old)) }
     ensures offer { (S.stands svc.new).offer ≡ (S.stands svc.old).offer }
     ensures begun { (S.stands svc.new).begun ≡ (S.stands svc.old).begun }
 {
@@ -176,8 +182,10 @@ pub fn visit<S: Services>(
     requires near { length ctx.now.neighbours ≤ 8 }
     requires rows { AreGoodRows (S.stands svc.old).rows }
     requires open { IsSome (S.stands svc.old).begun }
-    ensures visits { IfOk result (λ r. IsVisit allowance p.now.chunk ctx.entry.now p.now.family (S.stands svc.old) r (S.stands svc.new)) }
-    ensures value { IfOk result (λ r. (d : AFun) → fun_of p.now.chunk.code p.now.chunk.entry ≡ Some d → IsGoodEnd d.result r.outcome) }
+    ensures visits { IfOk result (λ r. IsVisit allowance p.now.chunk ctx.entry.now p.now.family
+        (S.stands svc.old) r (S.stands svc.new)) }
+    ensures value { IfOk result (λ r. (d : AFun) → fun_of p.now.chunk.code p.now.chunk.entry ≡ Some
+        d → IsGoodEnd d.result r.outcome) }
     ensures notes { IfOk result (λ r. AreGoodNotes r.notes) }
     ensures note_types { IfOk result (λ r. All NoteHasTypes r.notes) }
     ensures sends { IfOk result (λ r. AreGoodPackets r.outbox) }
@@ -185,7 +193,8 @@ pub fn visit<S: Services>(
     ensures kept { OnOk result (AreGoodRows (S.stands svc.new).rows) }
     ensures ends { VisitEnds p.now.chunk ctx.entry.now p.now.family (S.stands svc.old) }
     ensures alike { VisitsAlike p.now.chunk ctx.entry.now p.now.family (S.stands svc.old) }
-    ensures spent { IfOk result (λ r. (r.outcome ≡ outcome.WorkSpent) ↔ NoneSuffices allowance p.now.chunk ctx.entry.now p.now.family (S.stands svc.old)) }
+    ensures spent { IfOk result (λ r. (r.outcome ≡ outcome.WorkSpent) ↔ NoneSuffices allowance
+        p.now.chunk ctx.entry.now p.now.family (S.stands svc.old)) }
     ensures offer { (S.stands svc.new).offer ≡ (S.stands svc.old).offer }
     ensures begun { (S.stands svc.new).begun ≡ (S.stands svc.old).begun }
     ensures still { IsSome (S.stands svc.new).begun }

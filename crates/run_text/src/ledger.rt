@@ -56,7 +56,8 @@ fn put_rows(out: &mut Bytes, ledger: &Ledger) -> Result<(), NoMemory>
 
 /// The text of a ledger.
 fn put_ledger_text(out: &mut Bytes, ledger: &Ledger) -> Result<(), NoMemory>
-    ensures { OnOk result ((h : List EntryOf) (w : WorldState) → Stands h ledger.now → ((f : FamilyOf) → Balanced f h w) → out.new ≡ out.old ++ ledger_text h w) }
+    ensures { OnOk result ((h : List EntryOf) (w : WorldState) → Stands h ledger.now →
+        ((f : FamilyOf) → Balanced f h w) → out.new ≡ out.old ++ ledger_text h w) }
 {
     out.add_all(b"ledger\n")?;
     put_rows(out, ledger)?;
@@ -67,7 +68,8 @@ fn put_ledger_text(out: &mut Bytes, ledger: &Ledger) -> Result<(), NoMemory>
 /// Appends the text of a ledger. It is that of each history that the ledger stands for, with each network
 /// with which the history is in balance. Where memory is refused, `out` stays.
 pub fn put_ledger(alloc: Global, out: &mut Bytes, ledger: &Ledger) -> Result<(), NoMemory>
-    ensures whole { OnOk result ((h : List EntryOf) (w : WorldState) → Stands h ledger.now → ((f : FamilyOf) → Balanced f h w) → out.new ≡ out.old ++ ledger_text h w) }
+    ensures whole { OnOk result ((h : List EntryOf) (w : WorldState) → Stands h ledger.now →
+        ((f : FamilyOf) → Balanced f h w) → out.new ≡ out.old ++ ledger_text h w) }
     ensures stays { OnErr result (out.new ≡ out.old) }
 {
     let mut text = Bytes::new(alloc);

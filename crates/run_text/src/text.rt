@@ -18,7 +18,8 @@ const LINES_ROOM: usize = 512;
 /// The front of a line: the number of its event, a word and a number.
 fn write_numbered(text: &mut ShortText, event: u32, word: &[u8], number: u32)
     requires { 41 + length word.now + length text.old ≤ 192 }
-    ensures { text.new ≡ decimal event ++ (codes " " ++ (word.now ++ (decimal number ++ text.old))) }
+    ensures { text.new ≡ decimal event ++ (codes " " ++
+        (word.now ++ (decimal number ++ text.old))) }
 {
     text.number(u64::from(number));
     text.word(word);
@@ -57,7 +58,8 @@ fn put_wired(
     number: u32,
     frame: &Bytes,
 ) -> Result<(), NoMemory>
-    ensures { OnOk result (out.new ≡ out.old ++ line_of event (codes "wire " ++ (decimal number ++ spec.shown_text frames frame.now))) }
+    ensures { OnOk result (out.new ≡ out.old ++ line_of event
+        (codes "wire " ++ (decimal number ++ spec.shown_text frames frame.now))) }
 {
     let mut text = ShortText::new();
     write_numbered(&mut text, event, b"wire ", number);
@@ -74,7 +76,8 @@ fn put_forged(
     f: Family,
     bound: u32,
 ) -> Result<(), NoMemory>
-    ensures { OnOk result (out.new ≡ out.old ++ line_of event (head_text (codes "forged") host ++ bound_text f bound)) }
+    ensures { OnOk result (out.new ≡ out.old ++ line_of event
+        (head_text (codes "forged") host ++ bound_text f bound)) }
 {
     let mut text = ShortText::new();
     text.byte(b'\n');
@@ -97,7 +100,8 @@ fn write_lost(text: &mut ShortText, what: What)
 }
 
 fn put_lost(out: &mut Bytes, event: u32, what: What) -> Result<(), NoMemory>
-    ensures { OnOk result (out.new ≡ out.old ++ line_of event (codes "lost" ++ spec.lost_text what)) }
+    ensures { OnOk result (out.new ≡ out.old ++ line_of event
+        (codes "lost" ++ spec.lost_text what)) }
 {
     let mut text = ShortText::new();
     text.byte(b'\n');
@@ -151,7 +155,8 @@ pub fn put_all_lines(
     event: u32,
     lines: &[Line],
 ) -> Result<(), NoMemory>
-    ensures { OnOk result (out.new ≡ out.old ++ spec.entries_text frames (map (entry_at event) lines.now)) }
+    ensures { OnOk result (out.new ≡ out.old ++ spec.entries_text frames
+        (map (entry_at event) lines.now)) }
 {
     for line in lines {
         put_line(alloc, out, frames, event, line)?;
@@ -167,7 +172,8 @@ pub fn put_lines(
     event: u32,
     lines: &[Line],
 ) -> Result<(), NoMemory>
-    ensures whole { OnOk result (out.new ≡ out.old ++ spec.entries_text frames (map (entry_at event) lines.now)) }
+    ensures whole { OnOk result (out.new ≡ out.old ++ spec.entries_text frames
+        (map (entry_at event) lines.now)) }
     ensures stays { OnErr result (out.new ≡ out.old) }
 {
     let mut text = Bytes::of(Vec::with_capacity(alloc, LINES_ROOM)?);
