@@ -148,8 +148,8 @@ fn run_events<S: Services, K: Sink>(
     }
 }
 
-#[tactic(auto, using(node_io::proofs::SinkLaws::prefix_none))]
 /// Adds a row of a ledger to what waits to be written; what still waits.
+#[tactic(auto, using(node_io::proofs::SinkLaws::prefix_none))]
 fn write_row<K: Sink>(
     alloc: Global,
     f: Family,
@@ -206,8 +206,8 @@ fn write_end<K: Sink>(text: Bytes, out: &mut K) -> Result<(), RunFault>
     }
 }
 
-#[tactic(auto, using(node_io::proofs::SinkLaws::prefix_none))]
 /// Writes a ledger, piece by piece.
+#[tactic(auto, using(node_io::proofs::SinkLaws::prefix_none))]
 fn write_ledger<K: Sink>(alloc: Global, ledger: &Ledger, out: &mut K) -> Result<(), RunFault>
     ensures { (h : List EntryOf) (w : WorldState) → Stands h ledger.now
         → ((f : FamilyOf) → Balanced f h w)

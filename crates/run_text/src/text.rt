@@ -1,4 +1,4 @@
-ghost use Rattle.std.specs.Prelude.{◌≡◌, ◌+◌, ◌≤◌, ◌++◌, codes, length, map, OnOk, OnErr};
+ghost use Rattle.std.specs.Prelude.{◌≡◌, ◌+◌, ◌≤◌, ◌++◌, codes, length, map, OnOk};
 ghost use Rattle.std.specs.Fmt.{decimal};
 ghost use Rattle.node_model.specs.Texts.{head_text, bound_text};
 ghost use Rattle.act_text.specs.Lines.{line_of};
@@ -11,9 +11,6 @@ use node_model::What;
 use plan_base::{Bytes, Family, Host, NoMemory};
 use std::alloc::Global;
 use world_model::Line;
-
-/// The bytes for which the text of an event's lines has room at first; most take no more.
-const LINES_ROOM: usize = 512;
 
 /// The front of a line: the number of its event, a word and a number.
 fn write_numbered(text: &mut ShortText, event: u32, word: &[u8], number: u32)
@@ -161,23 +158,5 @@ pub fn put_all_lines(
     for line in lines {
         put_line(alloc, out, frames, event, line)?;
     }
-    Ok(())
-}
-
-/// Appends the lines of an event, each with the event's number. Where memory is refused, `out` stays.
-pub fn put_lines(
-    alloc: Global,
-    out: &mut Bytes,
-    frames: bool,
-    event: u32,
-    lines: &[Line],
-) -> Result<(), NoMemory>
-    ensures whole { OnOk result (out.new ≡ out.old ++ spec.entries_text frames
-        (map (entry_at event) lines.now)) }
-    ensures stays { OnErr result (out.new ≡ out.old) }
-{
-    let mut text = Bytes::of(Vec::with_capacity(alloc, LINES_ROOM)?);
-    put_all_lines(alloc, &mut text, frames, event, lines)?;
-    out.add_all(text.as_slice())?;
     Ok(())
 }
