@@ -3,7 +3,7 @@ use Rattle.plan_meaning.specs.State.{joined_state}
 use Rattle.eval_steps.specs.declared.stack_frame.StackFrame.{StackFrame}
 use Rattle.eval_flow.proofs.Taking.{turn_bare_raised, stands_below, safe_raised}
 use Rattle.eval_flow.proofs.Diving.{turn_raises, grows_none}
-use Rattle.plan_eval.proofs.Leaving.{passed_on}
+use Rattle.plan_eval.proofs.Leaving.{passed_on, raised_less}
 use Rattle.plan_eval.proofs.machine.raise.Goals as goal
 
 pub returns-in_default-clause-turned : goal.returns-in_default-clause-turned
@@ -16,6 +16,11 @@ returns-then-passes_on-clause-turned g c =
     c.leave.result c.leave.new.outer (joined_state c.args.state.now (g.S.Services.stands c.args.svc.now))
     c.args.top c.in-Some.frame (joined_state c.args.state.now (g.S.Services.stands c.args.svc.now)) (ap (λ (fs : List StackFrame). record c.args.top { frames = fs }) c.in-Some.ensures) c.requires.linked c.args.x
     (λ code at is there stands. c.leave.ensures.turned c.args.codes.now code at _ _ stands (λ other. passed_on code c.args.top.fun at (joined_state c.args.state.now (g.S.Services.stands c.args.svc.now)) c.in-Some.frame c.args.x (sym c.passes_on.ensures ∙ c.if-passes_on.true)))
+
+pub returns-then-passes_on-clause-shrinks : goal.returns-then-passes_on-clause-shrinks
+returns-then-passes_on-clause-shrinks g c =
+    raised_less c.args.outer.now c.leave.new.outer c.args.top (record c.args.top { frames = c.pop.new.self }) c.in-Some.frame c.args.x c.args.state.now.work c.leave.result
+    (ap (λ (fs : List StackFrame). record c.args.top { frames = fs }) c.in-Some.ensures) (c.leave.ensures.bounded c.args.state.now.work)
 
 pub run_top-flow-requires-clause-linked : goal.run_top-flow-requires-clause-linked
 run_top-flow-requires-clause-linked g c =
