@@ -30,8 +30,8 @@ returns-in-Ok-write_ledger g c =
     whole_run s.frames s.events w (out c.args.out.now) (out c.put_all.new.sink) (out c.run_events.new.out) (out c.write_ledger.new.out) c.in-Ok-put_all.ensures c.in_default-run_events.ensures.lines
     (c.in-Ok-write_ledger.ensures (history_of s.events w) (world_after s.events w) c.in_default-run_events.ensures.ledger (whole_balances s c.requires.rules))
 
-pub returns-in-Err-write_ledger : goal.returns-in-Err-write_ledger
-returns-in-Err-write_ledger g c =
+pub returns : goal.returns
+returns g c =
     let s = c.args.schedule.now in
     let w = opening s.topology in
     let out = g.K.Sink.state in
