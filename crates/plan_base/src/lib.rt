@@ -3,6 +3,7 @@
 
 mod bytes;
 mod ids;
+mod letters;
 mod limit;
 mod memory;
 mod name;
