@@ -104,8 +104,27 @@ impl Name {
         ensures same { IsTrue result ↔ (self.now ≡ other.now) }
         ensures tested { result ≡ bytes_eq self.now other.now }
     {
-        self.as_slice() == other.as_slice()
+        same_bytes(self.as_slice(), other.as_slice())
     }
+}
+
+/// Whether two slices have the same bytes, one by one: names are short.
+pub fn same_bytes(a: &[u8], b: &[u8]) -> bool
+    ensures { result ≡ bytes_eq a.now b.now }
+{
+    let mut left = a;
+    let mut right = b;
+    while let [x, xs @ ..] = left {
+        let [y, ys @ ..] = right else {
+            return false;
+        };
+        if *x != *y {
+            return false;
+        }
+        left = xs;
+        right = ys;
+    }
+    right.is_empty()
 }
 
 /// Whether the bytes are a name.
@@ -191,15 +210,5 @@ pub fn is_reserved(word: &[u8]) -> bool
 fn is_among(word: &[u8], words: &[&[u8]]) -> bool
     ensures { result ≡ list_any (λ r. bytes_eq r.now word.now) words.now }
 {
-    words.iter().any(|r| is_same(r, word))
-}
-
-/// Whether two words are the same; most differ in their first byte.
-fn is_same(word: &[u8], other: &[u8]) -> bool
-    ensures { result ≡ bytes_eq word.now other.now }
-{
-    match (word, other) {
-        ([a, ..], [b, ..]) if a != b => false,
-        _ => word == other,
-    }
+    words.iter().any(|r| same_bytes(r, word))
 }
