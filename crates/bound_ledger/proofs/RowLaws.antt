@@ -93,6 +93,16 @@ changed_at move f v w (e ∷ es) (suc i) d h m = λ j. sym (change_other move f 
     before (x ∷ xs) zero a h = same_turned f e.0 ∙ ap (λ y. same_family e.0 y.0) (sym (ap (λ o. unwrap_or o x) h)) ∙ a.0
     before (x ∷ xs) (suc i) a h = before xs i a.1 h
 
+-- two changes of a row are one
+pub changed_twice : (one two : Row → Row) (f : Family) (rows : List FamilyRow) → changed_rows (λ r. two (one r)) f rows ≡ changed_rows two f (changed_rows one f rows)
+unfolding changed_rows
+changed_twice one two f [] = refl
+changed_twice one two f (e ∷ es) = λ i. at (same_family f e.0) refl i ∷ changed_twice one two f es i
+  where
+    at : (b : Bool) → same_family f e.0 ≡ b → change (λ r. two (one r)) f e ≡ change two f (change one f e)
+    at true t = change_own (λ r. two (one r)) f e t ∙ sym (ap (change two f) (change_own one f e t) ∙ change_own two f (e.0, one e.1) t)
+    at false t = change_other (λ r. two (one r)) f e t ∙ sym (ap (change two f) (change_other one f e t) ∙ change_other two f e t)
+
 -- ---- look-ups
 
 own_row : (move : Row → Row) (f : Family) (rows : List FamilyRow) → row_of f (changed_rows move f rows) ≡ option_map move (row_of f rows)

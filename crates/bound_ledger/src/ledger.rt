@@ -164,4 +164,17 @@ impl Ledger {
         };
         self.put(place, row.with_left(n));
     }
+
+    /// Moves `evals` of what a family still has to its evals, and `left` of the rest to what it left. Takes no memory.
+    /// Condition: it still has as much as both, where a family without a row has 0.
+    pub fn end(&mut self, f: Family, evals: u32, left: u32)
+        requires live { evals + left ≤ (counts_of f self.old).live }
+        ensures { self.new ≡ changed_rows (quit left) f (changed_rows (paid evals) f self.old) }
+    {
+        let Some((place, row)) = self.find(f) else {
+            return;
+        };
+        let ended = row.with_evals(evals);
+        self.put(place, ended.with_left(left));
+    }
 }

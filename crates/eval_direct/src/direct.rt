@@ -5,7 +5,6 @@ ghost use Rattle.plan_base.specs.declared.tree.Ty.{Ty};
 ghost use Rattle.plan_base.specs.Sizes.{code_size};
 ghost use Rattle.eval_steps.specs.declared.stack_frame.StackFrame.TheVariants as frame;
 ghost use Rattle.eval_steps.specs.Stack.{part_or_self};
-ghost use Rattle.typing_rules.specs.TypingNames.{place_of};
 ghost use Rattle.plan_meaning.specs.State.{joined_state};
 ghost use Rattle.plan_meaning.specs.Meaning.{entered_function, meaning, visited_chunk};
 ghost use Rattle.plan_meaning.specs.Safe.{IsSafe};
@@ -20,13 +19,14 @@ use eval_flow::{
     last_back, leaf_number, number, numbers, open_code, operands_back, part_back, pause, pause_in,
     stepped_back, variable, visited_back, written,
 };
-use eval_steps::{Codes, Next, StackFrame, part_or_self, same_name};
+use eval_steps::{Codes, Next, StackFrame, part_or_self};
 use plan_base::{Chunk, Expr, Fun, Name, Op, Program, Value, Values};
 use plan_items::{Items, Shared};
 use plan_meaning::EvalStop;
 use plan_sizes::code_size;
 use service_api::Services;
 use std::alloc::Global;
+use typing_rules::place_of;
 use visit_state::{State, as_bool};
 
 /// Evaluates an expression, down to a depth.
@@ -579,13 +579,6 @@ fn body_flow<S: Services>(
     evaluate(alloc, codes, &here, &function.body, depth, state, svc)
 }
 
-/// The place of the first function of that name.
-pub(crate) fn function_named(name: &Name, funs: &[Fun]) -> Option<usize>
-    ensures { result ≡ place_of name.now funs.now }
-{
-    funs.iter().position(|f| same_name(&f.name, name))
-}
-
 /// Evaluates a chunk.
 #[cycle(evaluate)]
 #[inline(never)]
@@ -609,7 +602,7 @@ fn visit<S: Services>(
     ensures begun { (S.stands svc.new).begun ≡ (S.stands svc.old).begun }
 {
     let Chunk { code, entry, args } = chunk;
-    let Some(fun) = function_named(&entry, code.get().funs.as_slice()) else {
+    let Some(fun) = place_of(&entry, code.get().funs.as_slice()) else {
         return Err(EvalStop::Wrong);
     };
     let number = open_code(codes, &code)?;

@@ -12,7 +12,7 @@ ghost use Rattle.eval_steps.specs.declared.next.Next.TheVariants as next;
 ghost use Rattle.eval_steps.specs.Nexts.{begins, call_of, next_step};
 ghost use Rattle.eval_flow.specs.Direct.{spot, IsHere, Flows, Enters, Grows, Lasts, RowLasts, Rows, row_gave};
 
-use crate::direct::{enter, evaluate, function_named, general, proceed};
+use crate::direct::{enter, evaluate, general, proceed};
 use eval_flow::{
     Flow, Here, Row, body_back, chunk_back, ended_by_value, inside, pack_chunk, pay_packed,
     stopped_in,
@@ -23,6 +23,7 @@ use plan_items::Items;
 use plan_meaning::EvalStop;
 use service_api::Services;
 use std::alloc::Global;
+use typing_rules::place_of;
 use visit_state::State;
 
 /// Evaluates a tuple, a call or a chunk.
@@ -324,7 +325,7 @@ fn visit_here<S: Services>(
     ensures offer { (S.stands svc.new).offer ≡ (S.stands svc.old).offer }
     ensures begun { (S.stands svc.new).begun ≡ (S.stands svc.old).begun }
 {
-    let Some(fun) = function_named(f, here.code.get().funs.as_slice()) else {
+    let Some(fun) = place_of(f, here.code.get().funs.as_slice()) else {
         return Err(EvalStop::Wrong);
     };
     let (code, number, size) = (here.code, here.number, here.size);

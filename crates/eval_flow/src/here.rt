@@ -3,7 +3,7 @@ ghost use Rattle.std.specs.Prelude.{◌≡◌};
 ghost use Rattle.std.specs.Option.{option_copied};
 ghost use Rattle.eval_flow.specs.Direct.{bound_value};
 
-use eval_steps::{StackFrame, same_name};
+use eval_steps::StackFrame;
 use plan_base::{Fun, Name, Program, Value};
 use plan_items::Shared;
 
@@ -49,7 +49,7 @@ pub fn bound_value<'a>(
     let mut found = before;
     let mut left = bindings;
     while let [b, more @ ..] = left {
-        if same_name(b.name, name) {
+        if b.name.is(name) {
             found = Some(b.value);
         }
         left = more;

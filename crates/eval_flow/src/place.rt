@@ -9,7 +9,7 @@ ghost use Rattle.plan_meaning.specs.Run.{stopped};
 ghost use Rattle.plan_meaning.specs.Meaning.{entered_function, meaning};
 ghost use Rattle.eval_steps.specs.Nexts.{Enters};
 
-use eval_steps::{Codes, same_name};
+use eval_steps::Codes;
 use plan_base::{Name, NoMemory, Param, Program, Value, Values};
 use plan_items::Shared;
 
@@ -25,7 +25,7 @@ pub fn argument_of<'a>(name: &Name, params: &[Param], args: &'a [Value]) -> Opti
         let [v, vs @ ..] = values else {
             return found;
         };
-        if same_name(&p.name, name) {
+        if p.name.is(name) {
             found = Some(v);
         }
         names = ps;

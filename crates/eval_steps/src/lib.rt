@@ -25,4 +25,4 @@ pub use parts::part_at;
 pub use raise::frame_raised;
 pub use send::neighbour_sent;
 pub use stack_frame::{Activation, Activations, Codes, Mode, StackFrame, StackFrames};
-pub use walk::{expr_from, part_or_self, same_name, value_from};
+pub use walk::{expr_from, part_or_self, value_from};

@@ -1,7 +1,6 @@
 //! Where the frames of a body lead.
 ghost use Rattle.std.specs.Prelude.{◌≡◌, Option, Some, None};
 ghost use Rattle.std.specs.Option.{option_copied};
-ghost use Rattle.std.specs.Str.{bytes_eq};
 ghost use Rattle.eval_steps.specs.Stack.{part_number, part_or_self, expr_from, value_from, value_at};
 
 use crate::parts::part_of;
@@ -36,32 +35,6 @@ pub fn expr_from<'a>(start: &'a Expr, frames: &[StackFrame]) -> Option<&'a Expr>
     Some(e)
 }
 
-/// Whether two slices have the same bytes, one by one: names are short.
-pub fn same_bytes(a: &[u8], b: &[u8]) -> bool
-    ensures { result ≡ bytes_eq a.now b.now }
-{
-    let mut left = a;
-    let mut right = b;
-    while let [x, xs @ ..] = left {
-        let [y, ys @ ..] = right else {
-            return false;
-        };
-        if *x != *y {
-            return false;
-        }
-        left = xs;
-        right = ys;
-    }
-    right.is_empty()
-}
-
-/// Whether two names are the same.
-pub fn same_name(a: &Name, b: &Name) -> bool
-    ensures { result ≡ bytes_eq a.now b.now }
-{
-    same_bytes(a.as_slice(), b.as_slice())
-}
-
 /// What a name is bound to inside a frame, where it is bound to `before` outside.
 #[tactic(auto, using(plan_base::specs::Trees::trees))]
 fn value_at<'a>(
@@ -74,9 +47,7 @@ fn value_at<'a>(
         ≡ value_at name.now e.now frame.now (option_copied before.entry) }
 {
     match (frame, e) {
-        (StackFrame::Bound(value), Expr::Let(bound, _, _, _)) if same_name(bound, name) => Some(
-            value,
-        ),
+        (StackFrame::Bound(value), Expr::Let(bound, _, _, _)) if bound.is(name) => Some(value),
         _ => before,
     }
 }

@@ -12,7 +12,6 @@ use crate::{Choice, choose};
 use net_world::World;
 use network_plan::WorldEvent;
 use plan_base::{Host, NoMemory};
-use plan_items::Boxed;
 use plan_types::Checked;
 use rand_pcg::Lcg64Xsh32;
 use service_api::Services;
@@ -32,7 +31,7 @@ fn event_of(alloc: Global, code: &Checked, choice: Choice) -> Result<WorldEvent,
 {
     match choice {
         Choice::Inject(from, to) => {
-            let chunk = Boxed::new(alloc, ping(alloc, code, from, to)?)?;
+            let chunk = ping(alloc, code, from, to)?;
             Ok(WorldEvent::Inject(from, chunk, PING_BOUND, None))
         }
         Choice::Send(host, dev) => Ok(WorldEvent::Send(host, dev)),

@@ -1,3 +1,4 @@
 pub mod Roomy
 pub mod Order
 pub mod Index
+pub mod Moved

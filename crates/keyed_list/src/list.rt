@@ -1,7 +1,8 @@
-ghost use Rattle.std.specs.Prelude.{◌≡◌, ◌+◌, ◌<◌, ◌≤◌, [], length, OnOk, IfOk, IsTrue, ◌↔◌};
+ghost use Rattle.std.specs.Prelude.{◌≡◌, ◌+◌, ◌<◌, ◌≤◌, [], length, reverse, OnOk, IfOk, IsTrue, ◌↔◌};
 ghost use Rattle.std.specs.List.{remove};
 ghost use Rattle.std.specs.Option.{option_copied};
 ghost use Rattle.item_keys.specs.Keys.{IsUnique, first_of_key, put, without};
+ghost use Rattle.keyed_list.specs.Moved.{all_put};
 
 use crate::edits::{put_place, swap_in, take_out};
 use crate::search::{look_up, search};
@@ -97,7 +98,38 @@ impl<T: HasKey> KeyedList<T> {
     }
 }
 
+/// Puts the items of a vector into a list, the last first; none stays. There is room for them.
+fn pour<T: HasKey + Drop>(items: &mut Vec<T>, list: &mut KeyedList<T>)
+    requires { length items.old.items ≤ list.old.spare }
+    ensures moved { list.new.items ≡ all_put T.key_of (reverse items.old.items) list.old.items }
+    ensures none { items.new.items ≡ [] }
+{
+    while let Some(item) = items.pop() {
+        list.put(item);
+    }
+}
+
 impl<T: HasKey + Drop> KeyedList<T> {
+    /// Drops all items; the room for them stays. Takes no memory.
+    pub fn clear(&mut self)
+        ensures { self.new.items ≡ [] }
+    {
+        self.items.clear();
+        self.order.clear();
+    }
+
+    /// Puts the items into `other`, the first first; none stays here, but the room for them does. Condition: there is room for
+    /// them in `other`. Takes no memory.
+    pub fn move_to(&mut self, other: &mut KeyedList<T>)
+        requires { length self.old.items ≤ other.old.spare }
+        ensures moved { other.new.items ≡ all_put T.key_of self.old.items other.old.items }
+        ensures none { self.new.items ≡ [] }
+    {
+        self.order.clear();
+        self.items.reverse();
+        pour(&mut self.items, other);
+    }
+
     /// The same list over equal items. Condition: `items` are those of this list. The room isn't kept.
     pub fn over(&self, alloc: Global, items: Vec<T>) -> Result<KeyedList<T>, AllocError>
         requires { items.items ≡ self.now.items }

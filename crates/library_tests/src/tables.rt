@@ -102,7 +102,7 @@ fn keeps_order_in(alloc: Global, tables: &mut Tables, name: &Text) -> bool {
     {
         return false;
     }
-    tables.commit(overlay);
+    tables.commit(&mut overlay);
     true
 }
 

@@ -53,3 +53,20 @@ within_narrow low high word h = by (spelled_number word)
     by : (o : Option ℕ) → within low high (within 0 18446744073709551615 o) ≡ within low high o
     by None = refl
     by (Some n) = ap (within low high) (from_zero 18446744073709551615 n) ∙ within_all (leb n 18446744073709551615) low high 18446744073709551615 n h refl
+
+-- ---- a word of one byte
+
+pub one_digit : (d : ℕ) → 48 ≤ d → d ≤ 57 → number_in 0 18446744073709551615 (d ∷ []) ≡ Some (d - 48)
+one_digit d low high =
+    let at : 0 * 10 + (d - 48) ≡ d - 48 = omega arith in
+    rw (le-leb 48 d low) (rw (le-leb d 57 high) (fits_wide (0 * 10 + (d - 48)) (omega (arith, high)) ∙ ap (λ (n : ℕ). Some n) at))
+
+pub below_digits : (d : ℕ) → d < 48 → number_in 0 18446744073709551615 (d ∷ []) ≡ none
+below_digits d low = rw (lt-leb 48 d low) refl
+
+pub above_digits : (d : ℕ) → 57 < d → number_in 0 18446744073709551615 (d ∷ []) ≡ none
+above_digits d high = rw (lt-leb d 57 high) (by (leb 48 d))
+  where
+    by : (t : Bool) → within 0 18446744073709551615 (cond ((t && false) && true) (Some (digits_from 0 (d ∷ []))) None) ≡ none
+    by true = refl
+    by false = refl

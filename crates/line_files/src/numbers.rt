@@ -1,4 +1,4 @@
-ghost use Rattle.std.specs.Prelude.{◌≡◌, ◌≤◌, IfSome, IfOk};
+ghost use Rattle.std.specs.Prelude.{◌≡◌, ◌≤◌, [], ◌∷◌, IfSome, IfOk};
 ghost use Rattle.std.specs.List.{list_all};
 ghost use Rattle.line_files.specs.Numbers.{is_digit, is_padded, digits_from, within, number_in, number_at};
 ghost use Rattle.line_files.specs.Reads.{Reads};
@@ -37,10 +37,27 @@ fn are_digits(word: &[u8]) -> bool
     word.iter().all(|d| 48 <= *d && *d <= 57)
 }
 
+/// The number that one byte spells, if it is a digit.
+#[tactic(auto, using(crate::proofs::Digits::one_digit, crate::proofs::Digits::below_digits, crate::proofs::Digits::above_digits))]
+fn digit(byte: u8) -> Option<u64>
+    ensures { result ≡ number_in 0 18446744073709551615 (byte ∷ []) }
+{
+    if byte < b'0' {
+        return None;
+    }
+    if byte > b'9' {
+        return None;
+    }
+    Some(u64::from(byte - b'0'))
+}
+
 /// The number that a word spells, where it spells one below 2^64.
 pub fn decimal(word: &[u8]) -> Option<u64>
     ensures { result ≡ number_in 0 18446744073709551615 word.now }
 {
+    if let [byte] = word {
+        return digit(*byte);
+    }
     if is_padded_word(word) {
         return None;
     }

@@ -22,13 +22,16 @@ pub fn no_lines(alloc: Global) -> Lines
     Items::new(alloc)
 }
 
-/// One line.
+/// The lines of most events are no more than these.
+const MOST_LINES: usize = 4;
+
+/// One line, with room for those of most events.
 pub fn one_line(alloc: Global, line: Line) -> Result<Lines, NoMemory>
     ensures { IfOk result (λ lines. lines ≡ line ∷ []) }
 {
-    let mut lines = Items::new(alloc);
-    lines.add(line)?;
-    Ok(lines)
+    let mut lines = Vec::with_capacity(alloc, MOST_LINES)?;
+    lines.push_reserved(line);
+    Ok(Items::from_vec(lines))
 }
 
 /// Lines, and then those of a node's acts.

@@ -210,7 +210,7 @@ impl<S: Services> Network<S> {
     {
         match event {
             WorldEvent::Inject(host, chunk, bound, handler) => {
-                self.inject(alloc, *host, chunk.get(), *bound, handler)
+                self.inject(alloc, *host, chunk, *bound, handler)
             }
             WorldEvent::Send(host, dev) => self.send(alloc, *host, *dev),
             WorldEvent::Deliver(number) => self.hand(alloc, Handing::Taking, *number),

@@ -50,7 +50,7 @@ fn keep_types(event: &WorldEvent)
 {
     match event {
         WorldEvent::Inject(_, chunk, _, _) => {
-            let _typed = chunk.get().chunk();
+            let _typed = chunk.chunk();
         }
         WorldEvent::Raw(_, _, bytes) => are_bytes(bytes.as_slice()),
         _ => {}

@@ -1,6 +1,6 @@
 use chunk_types::CheckedChunk;
 use plan_base::{Bytes, Dev, Host, Name};
-use plan_items::{Boxed, Items};
+use plan_items::Items;
 
 /// A list of events of a network.
 pub type WorldEvents = Items<WorldEvent>;
@@ -8,9 +8,8 @@ pub type WorldEvents = Items<WorldEvent>;
 /// What happens to a network at one moment.
 #[derive(Drop)]
 pub enum WorldEvent {
-    /// A typed chunk is injected at a host with a bound of at most 65,535 and its handler, under version 2 alone. The chunk
-    /// is boxed, since most events have none, and a list of events has a place of this size for each.
-    Inject(Host, Boxed<CheckedChunk>, u32, Option<Name>),
+    /// A typed chunk is injected at a host with a bound of at most 65,535 and its handler, under version 2 alone.
+    Inject(Host, CheckedChunk, u32, Option<Name>),
     /// A host sends the first frame queued on a device, from 0 to 8.
     Send(Host, Dev),
     /// The frame with this number is taken off the wire and arrives.

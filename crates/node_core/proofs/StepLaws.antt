@@ -1,8 +1,9 @@
 -- The node after an injection and after an arrival, and what a reading answers.
 use Rattle.std.proofs.Common.{◌≡◌, ◌≢◌, ◌+◌, ◌++◌, ℕ, List, [], ◌∷◌, Bool, true, false, cond, Option, Some, ap, refl, sym, ◌∙◌, subst, arith}
 use Rattle.std.proofs.lemmas.Bool.Decides.{nat_tests}
-use Rattle.std.specs.Prelude.{◌==◌, Result, Ok, Err, IfOk, None}
+use Rattle.std.specs.Prelude.{◌==◌, Result, Ok, Err, IfOk, OnOk, OnErr, None}
 use Rattle.plan_base.specs.declared.ids.Dev.{Dev}
+use Rattle.plan_base.specs.declared.ids.Host.{Host}
 use Rattle.plan_base.specs.declared.name.Name.{Name}
 use Rattle.plan_base.specs.declared.tree.Chunk.{Chunk}
 use Rattle.plan_base.specs.declared.tree.Packet.{Packet}
@@ -17,20 +18,38 @@ use Rattle.packet_frame.specs.declared.frame.PlainStamped.{PlainStamped}
 use Rattle.packet_frame.specs.Stamped.{AcceptsBy}
 use Rattle.packet_frame.proofs.Versions.{accepted_by}
 use Rattle.spelled_frame.specs.Spelled.{what_of, MayCarry, version_of}
-use Rattle.service_api.specs.Services.{ServiceState}
+use Rattle.service_api.specs.declared.ctx.Ctx.{Ctx}
+use Rattle.service_api.specs.declared.router.RouteRow.{RouteRow}
+use Rattle.service_api.specs.Services.{ServiceState, begun_now}
+use Rattle.dv_routing.specs.Stands.{Stands}
 use Rattle.plan_base.specs.declared.memory.NoMemory.{NoMemory}
 use Rattle.network_plan.specs.Rules.{MayName}
 use Rattle.node_model.specs.declared.acts.Act.{Act}
 use Rattle.node_model.specs.declared.acts.Act.TheVariants.{Injected, Arrived, Stale, SerialsSpent}
 use Rattle.node_model.specs.declared.acts.Acts.{Acts}
-use Rattle.node_model.specs.State.{NodeState}
-use Rattle.node_model.specs.Node.{NodeStep, next_serial, injected_packet, visit_step, inject_step, stepped_node, mark_of, mark, takes_as, seen_then, with_seen, frame_step, only_acts, stamped_as, stamped_step, arrived_read, arrive_step}
+use Rattle.node_model.specs.State.{NodeState, Queues, routing_of}
+use Rattle.node_model.specs.Visits.{around, visit_of, services_after}
+use Rattle.node_model.specs.Node.{NodeStep, next_serial, injected_packet, visit_acts, visit_sends, sends_queues, visit_step, inject_step, stepped_node, mark_of, mark, takes_as, seen_then, with_seen, frame_step, only_acts, stamped_as, stamped_step, arrived_read, arrive_step}
 use Rattle.node_model.specs.Fits.{IsMarked}
 use Rattle.node_laws.proofs.Staying.{frame_stays}
 use Rattle.node_parts.proofs.ReadingLaws.{goes_on}
-use Rattle.node_core.specs.Stands.{NodeStands, IsStep, mark_on, own_family, own_packet}
+use Rattle.node_core.specs.Stands.{NodeStands, IsStep, mark_on, own_family, own_packet, around_at}
 use Rattle.node_parts.specs.Carried.{MayGoOn}
+use Rattle.node_parts.specs.Heard.{TellsAll}
+use Rattle.node_parts.specs.Windows.{AllSeen}
+use Rattle.settled_visit.specs.Settles.{visit_settled}
 use Rattle.node_core.specs.declared.node.Node.{Node}
+
+-- ---- what a call's result was
+
+pub if_ok : {A E : Type 0} (P : A → Type 0) (r : Result A E) (a : A) → r ≡ Ok a → IfOk r P → P a
+if_ok P r a e h = subst (λ x. IfOk x P) e h
+
+pub on_ok : {A E : Type 0} {X : Type 0} (r : Result A E) (a : A) → r ≡ Ok a → OnOk r X → X
+on_ok {X = X} r a e h = subst (λ x. OnOk x X) e h
+
+pub on_err : {A E : Type 0} {X : Type 0} (r : Result A E) (x : E) → r ≡ Err x → OnErr r X → X
+on_err {X = X} r x e h = subst (λ y. OnErr y X) e h
 
 -- ---- injections
 
@@ -44,6 +63,55 @@ module _ {S : Type 0} (stands : S → ServiceState) where
   -- what a node's frames bear is what those of its state bear
   pub mark_stands : (n : Node S) (s : NodeState) → NodeStands stands n s → mark_on n ≡ mark s
   mark_stands n s h = λ i. mark_of (h.version i) (h.boot i)
+
+  -- ---- visits, for which a node's neighbours and routes are handed out and given back
+
+  -- a node that is the same but for how its services and queues are kept
+  pub same_stands : (old new : Node S) (s : NodeState) → NodeStands stands old s → new.here ≡ old.here → new.version ≡ old.version → new.boot ≡ old.boot → new.windows ≡ old.windows
+      → new.serial ≡ old.serial → new.time ≡ old.time → new.routes ≡ old.routes → new.neighbours ≡ old.neighbours → stands new.services ≡ stands old.services → new.lanes.items ≡ old.lanes.items
+      → NodeStands stands new s
+  same_stands old new s h a v b w n t r k u l = record {
+    here = a ∙ h.here;
+    routes = subst (Stands (routing_of s)) (sym r) h.routes;
+    neighbours = k ∙ h.neighbours;
+    services = u ∙ h.services;
+    version = v ∙ h.version;
+    boot = b ∙ h.boot;
+    queues = l ∙ h.queues;
+    windows = subst (λ x. AllSeen s.seen x.items) (sym w) h.windows;
+    serial = n ∙ h.serial;
+    time = t ∙ h.time;
+  }
+
+  -- what stands around a visit at a node
+  pub around_is : (n : Node S) (s : NodeState) (p : Packet) (ctx : Ctx) (links : List (Host × Dev)) (rows : List RouteRow) → NodeStands stands n s → ctx ≡ around_at n.here n.time p links rows
+      → links ≡ n.neighbours → TellsAll n.routes rows → ctx ≡ around s p
+  around_is n s p ctx links rows h e l r = e ∙ (λ i. around_at (h.here i) (h.time i) p ((l ∙ h.neighbours) i) (r (routing_of s) h.routes i))
+
+  pub visited : (old new : Node S) (s : NodeState) (p : Packet) (before list : List Act) (ctx : Ctx) (m : Option Stamp) (q : Queues) → NodeStands stands old s → q ≡ old.lanes.items → ctx ≡ around s p → m ≡ mark s
+      → list ≡ before ++ visit_acts m q p (visit_of ctx (begun_now (stands old.services)) p).left (visit_settled p ctx (visit_of ctx (begun_now (stands old.services)) p))
+      → new.lanes.items ≡ sends_queues q (visit_sends m (visit_settled p ctx (visit_of ctx (begun_now (stands old.services)) p)).visit)
+      → stands new.services ≡ services_after ctx (begun_now (stands old.services)) p
+      → new.here ≡ old.here → new.version ≡ old.version → new.boot ≡ old.boot → new.windows ≡ old.windows
+      → new.serial ≡ old.serial → new.time ≡ old.time → new.routes ≡ old.routes → new.neighbours ≡ old.neighbours
+      → IsStep stands (visit_step before s p) (record { list = list; frame = None }) new
+  unfolding visit_step
+  visited old new s p before list ctx m q h z e f g x u a v b w n t r k = record {
+    list = g ∙ (λ i. before ++ visit_acts (f i) ((z ∙ h.queues) i) p (visit_of (e i) (begun_now (h.services i)) p).left (visit_settled p (e i) (visit_of (e i) (begun_now (h.services i)) p)));
+    frame = refl;
+    node = record {
+      here = a ∙ h.here;
+      routes = subst (Stands (routing_of s)) (sym r) h.routes;
+      neighbours = k ∙ h.neighbours;
+      services = u ∙ (λ i. services_after (e i) (begun_now (h.services i)) p);
+      version = v ∙ h.version;
+      boot = b ∙ h.boot;
+      queues = x ∙ (λ i. sends_queues ((z ∙ h.queues) i) (visit_sends (f i) (visit_settled p (e i) (visit_of (e i) (begun_now (h.services i)) p)).visit));
+      windows = subst (λ x. AllSeen s.seen x.items) (sym w) h.windows;
+      serial = n ∙ h.serial;
+      time = t ∙ h.time;
+    };
+  }
 
   -- a visit, and then the next serial number
   pub injected_visit_steps : (before : List Act) (s : NodeState) (p : Packet) (acts : Acts) (mid : Node S) (serial : ℕ) → serial ≡ mid.serial + 1

@@ -1,6 +1,5 @@
 ghost use Rattle.std.specs.Prelude.{◌≡◌, ◌≤◌, ◌<◌, length, ◌++◌, IfOk, OnErr, [], ◌∷◌, slice_get, None};
 ghost use Rattle.node_model.specs.State.{NodeState, new_node, neighbour_on, leads_to, routing_of};
-ghost use Rattle.node_model.specs.Visits.{around};
 ghost use Rattle.node_model.specs.declared.acts.Act.TheVariants as act;
 ghost use Rattle.node_model.specs.Node as spec;
 ghost use Rattle.plan_base.specs.declared.ids.Family.{Family as FamilyOf};
@@ -16,7 +15,7 @@ ghost use Rattle.packet_frame.specs.Typed.{plain_of};
 ghost use Rattle.dv_routing.specs.Routing.{all_routes};
 ghost use Rattle.service_api.specs.Routes.{hop};
 ghost use Rattle.node_core.specs.Turns.{IsResting};
-ghost use Rattle.node_core.specs.Stands.{NodeStands, IsStep, version_of, mark_on, with_stamp, own_family, own_packet};
+ghost use Rattle.node_core.specs.Stands.{NodeStands, IsStep, version_of, mark_on, with_stamp, own_family, own_packet, around_at};
 ghost use Rattle.node_parts.specs.Carried.{MayGoOn, asks_within};
 
 use crate::idle_services::IdleServices;
@@ -30,12 +29,11 @@ use node_parts::{
 };
 use packet_frame::{Frame, FrameFault};
 use plan_base::{Dev, Family, Host, Name, NoMemory};
-use plan_copies::copy_handler;
 use plan_items::Items;
 use plan_types::Checked;
 use remote_calls::default_route;
-use service_api::{Advert, Ctx, Hop, Services};
-use spelled_frame::{SpelledFrame, with_handler};
+use service_api::{Advert, Ctx, Hop, Neighbours, Router, Services};
+use spelled_frame::SpelledFrame;
 use std::alloc::Global;
 
 /// A node: its host, its version, the moment at which it began, its neighbours by device, its routes, its services, for each
@@ -56,13 +54,23 @@ pub struct Node<S: Services> {
     known: Option<Checked>,
 }
 
-/// A list of one act.
+/// The acts of most steps are no more than these.
+const MOST_ACTS: usize = 4;
+
+/// No acts, with room for those of most steps.
+fn no_acts(alloc: Global) -> Result<ActList, NoMemory>
+    ensures { IfOk result (λ acts. acts ≡ []) }
+{
+    Ok(Items::from_vec(Vec::with_capacity(alloc, MOST_ACTS)?))
+}
+
+/// A list of one act, with room for those of most steps.
 fn one_act(alloc: Global, act: Act) -> Result<ActList, NoMemory>
     ensures { IfOk result (λ acts. acts ≡ act ∷ []) }
 {
-    let mut acts = Items::new(alloc);
-    acts.add(act)?;
-    Ok(acts)
+    let mut acts = Vec::with_capacity(alloc, MOST_ACTS)?;
+    acts.push_reserved(act);
+    Ok(Items::from_vec(acts))
 }
 
 /// Acts and one more.
@@ -78,10 +86,10 @@ fn with_act(before: ActList, act: Act) -> Result<ActList, NoMemory>
 fn two_acts(alloc: Global, first: Act, second: Act) -> Result<ActList, NoMemory>
     ensures { IfOk result (λ acts. acts ≡ first ∷ second ∷ []) }
 {
-    let mut acts = Items::new(alloc);
-    acts.add(first)?;
-    acts.add(second)?;
-    Ok(acts)
+    let mut acts = Vec::with_capacity(alloc, 2)?;
+    acts.push_reserved(first);
+    acts.push_reserved(second);
+    Ok(Items::from_vec(acts))
 }
 
 /// The neighbour on a device.
@@ -108,6 +116,30 @@ fn leads_to(links: &[(Host, Dev)], dev: Dev, host: Host) -> bool
     match neighbour_on(links, dev) {
         None => false,
         Some(there) => there.0 == host.0,
+    }
+}
+
+/// What stands around the visit of a packet, with the neighbours and the routes of its node. Condition: at most 8 neighbours.
+fn around(
+    here: Host,
+    now: u64,
+    packet: &CheckedPacket,
+    neighbours: Neighbours,
+    router: Router,
+) -> Ctx
+    requires { length neighbours ≤ 8 }
+    ensures ctx { result ≡ around_at here now packet.now neighbours router }
+    ensures near { length result.neighbours ≤ 8 }
+    ensures purse { result.purse ≡ packet.now.bound }
+    ensures source { result.source ≡ packet.now.family.source }
+{
+    Ctx {
+        here,
+        source: packet.family().source,
+        purse: packet.bound(),
+        now,
+        neighbours,
+        router,
     }
 }
 
@@ -195,24 +227,6 @@ impl<S: Services> Node<S> {
         }
     }
 
-    /// What stands around the visit of a packet.
-    fn around(&self, alloc: Global, packet: &CheckedPacket) -> Result<Ctx, NoMemory>
-        ensures ctx { (s : NodeState) → NodeStands S.stands self.now s → IfOk result
-            (λ ctx. ctx ≡ around s packet.now) }
-        ensures near { IfOk result (λ ctx. length ctx.neighbours ≤ 8) }
-        ensures purse { IfOk result (λ ctx. ctx.purse ≡ packet.now.bound) }
-        ensures source { IfOk result (λ ctx. ctx.source ≡ packet.now.family.source) }
-    {
-        Ok(Ctx {
-            here: self.here,
-            source: packet.family().source,
-            purse: packet.bound(),
-            now: self.time,
-            neighbours: Items::from_slice(alloc, self.neighbours.as_slice())?,
-            router: self.routes.router(alloc)?,
-        })
-    }
-
     /// The settled visit of a packet, after some acts. Condition: under version 1 it has no handler.
     #[tactic(auto, unfolding(node_model::specs::Node::visit_step))]
     fn visit(
@@ -229,12 +243,24 @@ impl<S: Services> Node<S> {
         ensures same { version_of self.new ≡ version_of self.old }
         ensures serial { self.new.serial ≡ self.old.serial }
     {
-        let ctx = self.around(alloc, packet)?;
         let mark = self.mark();
-        let list = self
+        let rows = self.routes.take_router(alloc)?;
+        let links = self.neighbours.take(alloc);
+        let ctx = around(self.here, self.time, packet, links, rows);
+        let turned = self
             .services
-            .turn(alloc, &ctx, mark, &mut self.lanes, before, packet)?;
-        Ok(Acts { list, frame: None })
+            .turn(alloc, &ctx, mark, &mut self.lanes, before, packet);
+        let Ctx {
+            neighbours,
+            router,
+            ..
+        } = ctx;
+        self.neighbours.put(neighbours);
+        self.routes.keep_router(router);
+        match turned {
+            Ok(list) => Ok(Acts { list, frame: None }),
+            Err(refused) => Err(refused),
+        }
     }
 
     /// The family of the next injection.
@@ -261,10 +287,12 @@ impl<S: Services> Node<S> {
             handler.now) }
     {
         let route = default_route(alloc)?;
-        let name = copy_handler(alloc, handler)?;
         let chunk = chunk.copy(alloc)?;
         let packet = CheckedPacket::of(self.next_family(), self.here, bound, route, chunk);
-        Ok(with_handler(packet, name))
+        let Some(name) = handler else {
+            return Ok(packet);
+        };
+        Ok(packet.handled_by(name.copy(alloc)?))
     }
 
     /// The visit of an injected packet, after some acts; the next injection gets the next serial number. Conditions: a serial
@@ -337,7 +365,7 @@ impl<S: Services> Node<S> {
             (NodeStands S.stands self.new s) }
         ensures same { version_of self.new ≡ version_of self.old }
     {
-        let before = Items::new(alloc);
+        let before = no_acts(alloc)?;
         self.admit(alloc, before, chunk, bound, handler)
     }
 

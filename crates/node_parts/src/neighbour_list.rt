@@ -1,9 +1,9 @@
-ghost use Rattle.std.specs.Prelude.{◌≡◌, ◌≤◌, length, IfOk};
+ghost use Rattle.std.specs.Prelude.{◌≡◌, ◌≤◌, [], length};
 
-use plan_base::NoMemory;
 use plan_items::Items;
 use std::alloc::Global;
 use std::marker::Model;
+use std::mem;
 
 /// A list of at most 8 items, which contracts see as that list.
 #[derive(Drop)]
@@ -39,5 +39,24 @@ impl<T> NeighbourList<T> {
         ensures few { length self.now ≤ 8 }
     {
         self.items.as_slice()
+    }
+}
+
+impl<T: Drop> NeighbourList<T> {
+    /// The items, handed out: none stays. Takes no memory.
+    pub fn take(&mut self, alloc: Global) -> Items<T>
+        ensures items { result ≡ self.old }
+        ensures few { length result ≤ 8 }
+        ensures none { self.new ≡ [] }
+    {
+        mem::replace(&mut self.items, Items::new(alloc))
+    }
+
+    /// Puts items in the place of these. Condition: they are at most 8. Takes no memory.
+    pub fn put(&mut self, items: Items<T>)
+        requires { length items ≤ 8 }
+        ensures { self.new ≡ items }
+    {
+        self.items = items;
     }
 }

@@ -1,4 +1,4 @@
-ghost use Rattle.std.specs.Prelude.{◌≡◌, ◌∷◌, ◌++◌, map, IfOk, OnOk, vec_len, vec_capacity, ◌≤◌, ◌+◌, length, [], Some, IsTrue, slice_get};
+ghost use Rattle.std.specs.Prelude.{◌≡◌, ◌∷◌, ◌++◌, map, IfOk, vec_len, vec_capacity, ◌≤◌, ◌+◌, length, [], Some, IsTrue, slice_get};
 ghost use Rattle.std.specs.Option.{option_to_list};
 ghost use Rattle.node_model.specs.declared.acts.Act.TheVariants.{Noted};
 ghost use Rattle.node_model.specs.Node as spec;
@@ -106,14 +106,16 @@ pub fn send_all(acts: &mut Vec<Act>, lanes: &mut [Lane], sends: Leavings)
     }
 }
 
-/// Adds the notes of a visit.
-fn note_all(acts: &mut Vec<Act>, notes: Notes) -> Result<(), AllocError>
-    ensures { OnOk result (acts.new.items ≡ acts.old.items ++ map Noted notes) }
+/// Adds the notes of a visit. Condition: there is room for them. Takes no memory.
+fn note_all(acts: &mut Vec<Act>, notes: Notes)
+    requires { vec_len acts.old + length notes ≤ vec_capacity acts.old }
+    ensures acts { acts.new.items ≡ acts.old.items ++ map Noted notes }
+    ensures len { vec_len acts.new ≡ vec_len acts.old + length notes }
+    ensures capacity { vec_capacity acts.new ≡ vec_capacity acts.old }
 {
     for note in notes.into_vec() {
-        acts.push(Act::Noted(note))?;
+        acts.push_reserved(Act::Noted(note));
     }
-    Ok(())
 }
 
 /// What a step lists: some acts, the notes of a visit, its end and the act of its handler, if there is one, with room for its
@@ -130,8 +132,9 @@ pub fn begin_acts(
     ensures room { IfOk result (λ acts. vec_len acts + sends ≤ vec_capacity acts) }
 {
     let mut acts = before.into_vec();
-    note_all(&mut acts, notes)?;
-    acts.push(end)?;
+    acts.reserve(notes.len() + 1)?;
+    note_all(&mut acts, notes);
+    acts.push_reserved(end);
     if let Some(act) = handled {
         acts.push(act)?;
     }

@@ -3,6 +3,7 @@
 
 mod bytes;
 mod ids;
+mod letters;
 mod limit;
 mod memory;
 mod name;
@@ -14,7 +15,7 @@ pub use bytes::Bytes;
 pub use ids::{Dev, Family, Host};
 pub use limit::Limit;
 pub use memory::NoMemory;
-pub use name::{Name, NameFault, Names, is_name, is_reserved};
+pub use name::{Name, NameFault, Names, is_name, is_reserved, same_bytes};
 pub use prim::Primitive;
 pub use text::{Text, Texts};
 pub use tree::{

@@ -4,17 +4,19 @@ ghost use Rattle.std.specs.Str.{bytes_eq};
 ghost use Rattle.plan_base.specs.Words.{is_word_byte, is_word, is_reserved, is_name, IsName};
 
 use crate::NoMemory;
-use plan_items::Items;
+use crate::letters::Letters;
+use plan_items::{Items, Shared};
 use std::alloc::{AllocError, Global};
 use std::marker::Model;
 use thiserror::Error;
 
 /// A name: a word of 1 to 32 bytes that isn't reserved, which contracts see as the list of its bytes.
 ///
-/// A word begins with a letter; letters, digits and `_` may follow, all of them ASCII.
+/// A word begins with a letter; letters, digits and `_` may follow, all of them ASCII. A copy of a name is one more owner of
+/// its bytes.
 #[derive(Drop)]
 pub struct Name {
-    bytes: Vec<u8>,
+    bytes: Shared<Letters<32>>,
 }
 
 impl Model for Name {
@@ -26,9 +28,9 @@ impl Model for Name {
 
     ghost coded = { coded_list coded_ℕ };
 
-    ghost view = { λ n. n.bytes.items };
+    ghost view = { λ n. n.bytes };
 
-    ghost invariant = { λ n. IsName n.bytes.items };
+    ghost invariant = { λ n. IsName n.bytes };
 }
 
 /// A list of names.
@@ -58,6 +60,7 @@ impl From<AllocError> for NameFault {
 
 impl Name {
     /// The bytes as a name. `BadName` comes exactly where they are none.
+    #[tactic(auto, using(crate::proofs::WordLaws::is_name_within))]
     pub fn read(alloc: Global, bytes: &[u8]) -> Result<Name, NameFault>
         ensures found { IfOk result (λ n. n ≡ bytes.now) }
         ensures only { OnOk result (IsName bytes.now) }
@@ -66,16 +69,17 @@ impl Name {
         if !is_name(bytes) {
             return Err(NameFault::BadName);
         }
-        let bytes = Vec::from_slice(alloc, bytes)?;
+        let bytes = Shared::new(alloc, Letters::of(bytes))?;
         Ok(Name { bytes })
     }
 
     /// A name that the language itself needs, as `Overflow` or `defaultRoute`. Condition: `word` is a name.
+    #[tactic(auto, using(crate::proofs::WordLaws::is_name_within))]
     pub fn of(alloc: Global, word: &[u8]) -> Result<Name, NoMemory>
         requires { IsName word.now }
         ensures { IfOk result (λ n. n ≡ word.now) }
     {
-        let bytes = Vec::from_slice(alloc, word)?;
+        let bytes = Shared::new(alloc, Letters::of(word))?;
         Ok(Name { bytes })
     }
 
@@ -84,14 +88,14 @@ impl Name {
         ensures value { result.now ≡ self.now }
         ensures name { IsName self.now }
     {
-        self.bytes.as_slice()
+        self.bytes.get().as_slice()
     }
 
-    /// The same name.
-    pub fn copy(&self, alloc: Global) -> Result<Name, NoMemory>
+    /// The same name, with one more owner. Takes no memory, and fails only where the count of owners is full.
+    pub fn copy(&self, _alloc: Global) -> Result<Name, NoMemory>
         ensures { IfOk result (λ n. n ≡ self.now) }
     {
-        let bytes = Vec::from_slice(alloc, self.bytes.as_slice())?;
+        let bytes = self.bytes.share()?;
         Ok(Name { bytes })
     }
 
@@ -100,8 +104,27 @@ impl Name {
         ensures same { IsTrue result ↔ (self.now ≡ other.now) }
         ensures tested { result ≡ bytes_eq self.now other.now }
     {
-        self.as_slice() == other.as_slice()
+        same_bytes(self.as_slice(), other.as_slice())
     }
+}
+
+/// Whether two slices have the same bytes, one by one: names are short.
+pub fn same_bytes(a: &[u8], b: &[u8]) -> bool
+    ensures { result ≡ bytes_eq a.now b.now }
+{
+    let mut left = a;
+    let mut right = b;
+    while let [x, xs @ ..] = left {
+        let [y, ys @ ..] = right else {
+            return false;
+        };
+        if *x != *y {
+            return false;
+        }
+        left = xs;
+        right = ys;
+    }
+    right.is_empty()
 }
 
 /// Whether the bytes are a name.
@@ -187,15 +210,5 @@ pub fn is_reserved(word: &[u8]) -> bool
 fn is_among(word: &[u8], words: &[&[u8]]) -> bool
     ensures { result ≡ list_any (λ r. bytes_eq r.now word.now) words.now }
 {
-    words.iter().any(|r| is_same(r, word))
-}
-
-/// Whether two words are the same; most differ in their first byte.
-fn is_same(word: &[u8], other: &[u8]) -> bool
-    ensures { result ≡ bytes_eq word.now other.now }
-{
-    match (word, other) {
-        ([a, ..], [b, ..]) if a != b => false,
-        _ => word == other,
-    }
+    words.iter().any(|r| same_bytes(r, word))
 }

@@ -1,26 +1,58 @@
 ghost use Rattle.std.specs.Prelude.{◌≡◌, ◌↔◌, IsTrue, [], ◌∷◌, ◌++◌, ◌<◌, length, get_or, IfOk, OnOk, OnErr};
 ghost use Rattle.std.specs.Str.{IsUtf8};
+ghost use Rattle.plan_base.specs.Held.{held_bytes};
 
 use crate::NoMemory;
+use crate::letters::Letters;
 use plan_items::Items;
 use std::alloc::{AllocError, Global};
 use std::marker::Model;
 
-/// A text, which contracts see as the list of its UTF-8 bytes.
+/// The bytes of a text.
 #[derive(Drop)]
+pub enum Held {
+    /// At most 16, which take no memory.
+    Short(Letters<16>),
+    /// Any number, in memory of their own.
+    Long(Vec<u8>),
+}
+
+/// A text, which contracts see as the list of its UTF-8 bytes. A short one takes no memory.
 pub struct Text {
-    all: Vec<u8>,
+    held: Held,
+    alloc: Global,
+}
+
+// (with a drop of its own, so that what lets a text go need not prove again how its bytes are dropped)
+impl Drop for Text {
+    fn drop(self) {
+        let Text {
+            held: _held,
+            alloc: _alloc,
+        } = self;
+    }
 }
 
 impl Model for Text {
     ghost use Rattle.std.specs.Prelude.{List, ℕ};
     ghost use Rattle.std.specs.Coded.{coded_list, coded_ℕ};
+    ghost use Rattle.plan_base.specs.Held.{held_bytes};
 
     ghost Value = { List ℕ };
 
     ghost coded = { coded_list coded_ℕ };
 
-    ghost view = { λ b. b.all.items };
+    ghost view = { λ b. held_bytes b.held };
+}
+
+/// The same bytes.
+fn copied(alloc: Global, held: &Held) -> Result<Held, AllocError>
+    ensures { IfOk result (λ h. held_bytes h ≡ held_bytes held.now) }
+{
+    match held {
+        Held::Short(few) => Ok(Held::Short(few.copy())),
+        Held::Long(all) => Ok(Held::Long(Vec::from_slice(alloc, all.as_slice())?)),
+    }
 }
 
 impl Text {
@@ -29,30 +61,34 @@ impl Text {
         ensures { result ≡ [] }
     {
         Text {
-            all: Vec::new(alloc),
+            held: Held::Short(Letters::none()),
+            alloc,
         }
     }
 
-    /// The bytes of `v`, taken as they are.
+    /// The bytes of `v`.
     pub fn of(v: Vec<u8>) -> Text
         ensures { result ≡ v.items }
     {
-        Text { all: v }
-    }
-
-    /// The vector of these bytes, given back.
-    pub fn into_vec(self) -> Vec<u8>
-        ensures { result.items ≡ self }
-    {
-        let Text { all } = self;
-        all
+        let alloc = *v.allocator();
+        if v.len() <= 16 {
+            let few = Letters::of(v.as_slice());
+            return Text {
+                held: Held::Short(few),
+                alloc,
+            };
+        }
+        Text {
+            held: Held::Long(v),
+            alloc,
+        }
     }
 
     /// The number of bytes.
     pub fn len(&self) -> usize
         ensures { result ≡ length self.now }
     {
-        self.all.len()
+        self.as_slice().len()
     }
 
     /// The byte at place `i`, from 0. Condition: `i` is below the length.
@@ -60,14 +96,17 @@ impl Text {
         requires { i < length self.now }
         ensures { result ≡ get_or self.now i 0 }
     {
-        self.all[i]
+        self.as_slice()[i]
     }
 
     /// All bytes, lent.
     pub fn as_slice(&self) -> &[u8]
         ensures { result.now ≡ self.now }
     {
-        self.all.as_slice()
+        match &self.held {
+            Held::Short(few) => few.as_slice(),
+            Held::Long(all) => all.as_slice(),
+        }
     }
 
     /// The text, lent. Condition: its bytes are valid UTF-8. Takes no memory.
@@ -76,15 +115,15 @@ impl Text {
         ensures { result.now ≡ self.now }
     {
         // Safety: the condition is that of the call.
-        unsafe { str::from_utf8_unchecked(self.all.as_slice()) }
+        unsafe { str::from_utf8_unchecked(self.as_slice()) }
     }
 
     /// The same text.
     pub fn copy(&self, alloc: Global) -> Result<Text, NoMemory>
         ensures { IfOk result (λ b. b ≡ self.now) }
     {
-        let all = Vec::from_slice(alloc, self.all.as_slice())?;
-        Ok(Text { all })
+        let held = copied(alloc, &self.held)?;
+        Ok(Text { held, alloc })
     }
 
     /// Adds `byte` at the end. Where memory is refused, the bytes stay.
@@ -92,8 +131,8 @@ impl Text {
         ensures ok { OnOk result (self.new ≡ self.old ++ byte ∷ []) }
         ensures err { OnErr result (self.new ≡ self.old) }
     {
-        self.all.push(byte)?;
-        Ok(())
+        let more = [byte];
+        self.add_all(more.as_slice())
     }
 
     /// Adds `more` at the end. Where memory is refused, the bytes stay.
@@ -101,7 +140,9 @@ impl Text {
         ensures ok { OnOk result (self.new ≡ self.old ++ more.now) }
         ensures err { OnErr result (self.new ≡ self.old) }
     {
-        self.all.extend_from_slice(more)?;
+        let mut all = Vec::from_slice(self.alloc, self.as_slice())?;
+        all.extend_from_slice(more)?;
+        *self = Text::of(all);
         Ok(())
     }
 

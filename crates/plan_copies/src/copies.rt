@@ -1,4 +1,4 @@
-ghost use Rattle.std.specs.Prelude.{◌≡◌, IfOk};
+ghost use Rattle.std.specs.Prelude.{◌≡◌, [], IfOk};
 ghost use Rattle.plan_base.specs.declared.tree.Expr.{Expr};
 
 use crate::copied::Copied;
@@ -469,12 +469,19 @@ fn copy_value(alloc: Global, v: &Value) -> Result<Value, NoMemory>
     }
 }
 
+/// No values yet, with room for so many.
+fn room_for(alloc: Global, n: usize) -> Result<Values, NoMemory>
+    ensures { IfOk result (λ done. done ≡ []) }
+{
+    Ok(Items::from_vec(Vec::with_capacity(alloc, n)?))
+}
+
 /// The same values.
 #[cycle(copy_value)]
 pub fn copy_values(alloc: Global, values: &[Value]) -> Result<Values, NoMemory>
     ensures { IfOk result (λ copies. copies ≡ values.now) }
 {
-    let mut done = Items::new(alloc);
+    let mut done = room_for(alloc, values.len())?;
     for v in values {
         done.add(copy_value(alloc, v)?)?;
     }

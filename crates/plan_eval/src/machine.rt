@@ -265,20 +265,21 @@ fn turn<S: Services>(
 }
 
 /// Runs a stack to its end.
-pub fn run<S: Services>(
+fn run<S: Services>(
     alloc: Global,
     codes: Codes,
     first: ProgramSize,
     activations: Activations,
+    start: Mode,
     state: &mut State,
     svc: &mut S,
 ) -> Result<Value, EvalStop>
     requires open { IsSome (S.stands svc.old).begun }
     requires sized { IsProgramSize codes first }
     requires linked { AreLinked codes activations }
-    requires safe { IsSafe (stands_for codes activations mode.Run
+    requires safe { IsSafe (stands_for codes activations start
         (joined_state state.old (S.stands svc.old))).asks }
-    ensures meets { Meets (stands_for codes activations mode.Run
+    ensures meets { Meets (stands_for codes activations start
         (joined_state state.old (S.stands svc.old))) result
         (joined_state state.new (S.stands svc.new)) }
     ensures offer { (S.stands svc.new).offer ≡ (S.stands svc.old).offer }
@@ -287,7 +288,7 @@ pub fn run<S: Services>(
     let mut programs = codes;
     let mut last = first;
     let mut stack = activations;
-    let mut how = Mode::Run;
+    let mut how = start;
     while let Some(top) = stack.pop() {
         match turn(
             alloc,
@@ -307,5 +308,43 @@ pub fn run<S: Services>(
         Mode::Give(v) => Ok(v),
         Mode::Raise(x) => Err(EvalStop::Raised(x)),
         Mode::Run => Err(EvalStop::Wrong),
+    }
+}
+
+/// Runs an activation to its end. Its first turn needs no stack.
+pub fn run_from<S: Services>(
+    alloc: Global,
+    codes: Codes,
+    first: ProgramSize,
+    top: Activation,
+    state: &mut State,
+    svc: &mut S,
+) -> Result<Value, EvalStop>
+    requires open { IsSome (S.stands svc.old).begun }
+    requires sized { IsProgramSize codes first }
+    requires linked { AreLinked codes (top ∷ []) }
+    requires safe { IsSafe (stands_for codes (top ∷ []) mode.Run
+        (joined_state state.old (S.stands svc.old))).asks }
+    ensures meets { Meets (stands_for codes (top ∷ []) mode.Run
+        (joined_state state.old (S.stands svc.old))) result
+        (joined_state state.new (S.stands svc.new)) }
+    ensures offer { (S.stands svc.new).offer ≡ (S.stands svc.old).offer }
+    ensures begun { (S.stands svc.new).begun ≡ (S.stands svc.old).begun }
+{
+    let mut programs = codes;
+    let mut last = first;
+    let mut stack = Items::new(alloc);
+    match turn(
+        alloc,
+        &mut programs,
+        &mut last,
+        &mut stack,
+        top,
+        Mode::Run,
+        state,
+        svc,
+    ) {
+        Ok(how) => run(alloc, programs, last, stack, how, state, svc),
+        Err(stop) => Err(stop),
     }
 }

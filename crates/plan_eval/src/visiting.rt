@@ -13,10 +13,10 @@ ghost use Rattle.meaning_laws.specs.Laws.{VisitEnds, VisitsAlike, NoneSuffices};
 ghost use Rattle.visit_state.specs.Meets.{Meets};
 ghost use Rattle.eval_flow.specs.Turns.{entry};
 
-use crate::machine::run;
+use crate::machine::run_from;
 use chunk_types::CheckedPacket;
 use eval_flow::{ProgramSize, enters};
-use eval_steps::{Activation, Activations, Codes};
+use eval_steps::{Activation, Codes};
 use plan_base::{Chunk, Family, NoMemory, Value};
 use plan_copies::copy_values;
 use plan_items::Items;
@@ -44,23 +44,21 @@ fn visit_without_effect(alloc: Global, bound: u32) -> Visit
 fn first_codes(alloc: Global, chunk: &Chunk) -> Result<Codes, NoMemory>
     ensures { IfOk result (λ codes. codes ≡ chunk.now.code ∷ []) }
 {
-    let mut codes = Items::new(alloc);
-    codes.add(chunk.code.share()?)?;
-    Ok(codes)
+    let mut codes = Vec::with_capacity(alloc, 1)?;
+    codes.push_reserved(chunk.code.share()?);
+    Ok(Items::from_vec(codes))
 }
 
 /// The activation with which a visit starts: the function at that place.
-fn first_activation(alloc: Global, chunk: &Chunk, fun: usize) -> Result<Activations, NoMemory>
-    ensures { IfOk result (λ activations. activations ≡ entry 0 fun chunk.now.args ∷ []) }
+fn first_activation(alloc: Global, chunk: &Chunk, fun: usize) -> Result<Activation, NoMemory>
+    ensures { IfOk result (λ activation. activation ≡ entry 0 fun chunk.now.args) }
 {
-    let mut activations = Items::new(alloc);
-    activations.add(Activation {
+    Ok(Activation {
         code: 0,
         fun,
         args: copy_values(alloc, chunk.args.as_slice())?,
         frames: Items::new(alloc),
-    })?;
-    Ok(activations)
+    })
 }
 
 /// Runs a chunk from its entry to its end.
@@ -88,9 +86,9 @@ fn run_chunk<S: Services>(
         return Err(EvalStop::Wrong);
     }
     let codes = first_codes(alloc, chunk)?;
-    let activations = first_activation(alloc, chunk, fun)?;
+    let top = first_activation(alloc, chunk, fun)?;
     let first = ProgramSize { number: 0, size };
-    run(alloc, codes, first, activations, state, svc)
+    run_from(alloc, codes, first, top, state, svc)
 }
 
 /// What the visit of a chunk ends with.

@@ -128,12 +128,19 @@ fn printed_host(alloc: Global, h: Host) -> Result<Text, NoMemory>
     Ok(Text::of(text.into_bytes()))
 }
 
+/// The bytes of a text.
+fn bytes_of(alloc: Global, s: &Text) -> Result<Bytes, NoMemory>
+    ensures { IfOk result (λ b. b ≡ s.now) }
+{
+    Ok(Bytes::of(Vec::from_slice(alloc, s.as_slice())?))
+}
+
 #[tactic(auto, using(plan_base::specs::Trees::trees))]
 fn string_to_blob(alloc: Global, a: &Value) -> Result<Value, PrimFault>
     ensures { Answers (rules.of_one prim.StringToBlob (out-Value a.now)) result }
 {
     match a {
-        Value::Str(s) => Ok(Value::Blob(Bytes::of(s.copy(alloc)?.into_vec()))),
+        Value::Str(s) => Ok(Value::Blob(bytes_of(alloc, s)?)),
         _ => Err(PrimFault::Unfit),
     }
 }

@@ -20,7 +20,7 @@ use chunk_types::CheckedChunk;
 use net_world::World;
 use network_plan::WorldEvent;
 use plan_base::{Bytes, Host, NoMemory};
-use plan_items::{Boxed, Items};
+use plan_items::Items;
 use port_files::PortEvent;
 use reliable_ports::{AckFault, OfferFault, Receiver, Sender, TransmitFault};
 use remote_calls::Purse;
@@ -44,13 +44,12 @@ const ACKS: u16 = 2;
 const PRICE: u32 = 4;
 
 /// The injection of a message or an ack, with the bound that its end paid.
-fn injection(alloc: Global, host: Host, chunk: CheckedChunk) -> Result<WorldEvent, NoMemory>
-    ensures event { IfOk result (λ e. e ≡ happens.Inject host chunk 4 None) }
-    ensures fits { IfOk result (event_fits Two) }
+fn injection(host: Host, chunk: CheckedChunk) -> WorldEvent
+    ensures event { result ≡ happens.Inject host chunk 4 None }
+    ensures fits { event_fits Two result }
 {
     let _kept = chunk.chunk();
-    let boxed = Boxed::new(alloc, chunk)?;
-    Ok(WorldEvent::Inject(host, boxed, PRICE, None))
+    WorldEvent::Inject(host, chunk, PRICE, None)
 }
 
 /// Two ends of a reliable port, their purses, and the network between them.
@@ -123,7 +122,7 @@ impl<S: Services> Ports<S> {
     {
         match self.receiver.ack(alloc, &mut self.second, FIRST) {
             Ok(chunk) => {
-                let event = injection(alloc, SECOND, chunk)?;
+                let event = injection(SECOND, chunk);
                 self.make(alloc, &event)?;
                 Ok(())
             }
@@ -299,7 +298,7 @@ impl<S: Services> Ports<S> {
     {
         match self.sender.transmit(alloc, &mut self.first, seq, SECOND) {
             Ok(chunk) => {
-                let event = injection(alloc, FIRST, chunk)?;
+                let event = injection(FIRST, chunk);
                 self.wire(alloc, number, &event, text)
             }
             Err(TransmitFault::NotHeld) => put_told(alloc, text, number, PortLine::Nothing),

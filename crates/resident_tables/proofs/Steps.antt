@@ -3,12 +3,14 @@ use Rattle.std.proofs.Common.{◌≡◌, ℕ, zero, suc, ◌+◌, ◌<◌, Bool,
 use Rattle.std.specs.Prelude.{nat_lt, if◌then◌else◌, filter}
 use Rattle.std.specs.List.{remove}
 use Rattle.table_rows.specs.declared.row.Row.{Row}
-use Rattle.table_rows.specs.Rows.{put_row, is_live, living}
+use Rattle.keyed_list.specs.Moved.{all_put}
+use Rattle.table_rows.specs.Rows.{row_key, put_row, is_live, living}
 use Rattle.resident_tables.specs.Layers.{put_all}
 
-pub put_more : (r : Row) (puts rows : List Row) → put_all (puts ++ r ∷ []) rows ≡ put_row r (put_all puts rows)
-put_more r [] rows = refl
-put_more r (x ∷ xs) rows = put_more r xs (put_row x rows)
+-- rows that are put as the items of a list
+pub puts_are : (puts rows : List Row) → all_put row_key puts rows ≡ put_all puts rows
+puts_are [] rows = refl
+puts_are (x ∷ xs) rows = puts_are xs (put_row x rows)
 
 pub kept_first : (now : ℕ) (x : Row) (xs : List Row) → is_live now x ≡ true → living now (x ∷ xs) ≡ x ∷ living now xs
 kept_first now x xs e = rw e

@@ -1,7 +1,7 @@
-ghost use Rattle.std.specs.Prelude.{◌≡◌, ◌≤◌, length, min, IfOk, OnOk, OnErr};
+ghost use Rattle.std.specs.Prelude.{◌≡◌, ◌≤◌, min, IfOk, OnOk, OnErr};
 ghost use Rattle.table_rows.specs.Rows.{put_row, without_row, living, rows_size};
 ghost use Rattle.resident_tables.specs.Expiries.{least_expiry};
-ghost use Rattle.resident_tables.specs.Layers.{put_all, without_all};
+ghost use Rattle.resident_tables.specs.Layers.{without_all};
 ghost use Rattle.resident_tables.specs.PartRows.{part_row};
 
 use crate::gone::Gone;
@@ -53,22 +53,14 @@ pub fn forget(
 }
 
 /// Drops the rows of the keys. Takes no memory.
-pub fn drop_gone(rows: &mut KeyedList<Row>, gone: Vec<Gone>)
-    ensures rows { rows.new.items ≡ without_all gone.items rows.old.items }
+pub fn drop_gone(rows: &mut KeyedList<Row>, gone: &[Gone])
+    ensures rows { rows.new.items ≡ without_all gone.now rows.old.items }
     ensures spare { rows.old.spare ≤ rows.new.spare }
 {
-    for g in gone {
-        rows.remove(&g);
-    }
-}
-
-/// Puts the rows, for which there is room. Takes no memory.
-pub fn put_each(rows: &mut KeyedList<Row>, puts: Vec<Row>)
-    requires { length puts.items ≤ rows.old.spare }
-    ensures { rows.new.items ≡ put_all puts.items rows.old.items }
-{
-    for row in puts {
-        rows.put(row);
+    let mut rest = gone;
+    while let [g, later @ ..] = rest {
+        rows.remove(g);
+        rest = later;
     }
 }
 

@@ -1,4 +1,4 @@
-ghost use Rattle.std.specs.Prelude.{◌≡◌, [], true, None, pos, ◌≤ℤ◌, OnOk, OnErr};
+ghost use Rattle.std.specs.Prelude.{◌≡◌, ◌≤◌, [], true, None, pos, ◌≤ℤ◌, OnOk, OnErr};
 ghost use Rattle.std.specs.Option.{option_copied};
 ghost use Rattle.item_keys.specs.Keys.{IsUnique};
 ghost use Rattle.table_rows.specs.Rows.{row_key, without_row, found_row, got, fresh_key, key_after};
@@ -10,7 +10,7 @@ ghost use Rattle.resident_tables.specs.Tables.{row_of, IsPut, IsGot};
 use crate::counts::Counts;
 use crate::fault::TableFault;
 use crate::gone::Gone;
-use crate::moves::{forget, put_parts};
+use crate::moves::{drop_gone, forget, put_parts};
 use crate::next::take_key;
 use crate::parts::Parts;
 use crate::tables::{Tables, value_of};
@@ -62,6 +62,19 @@ impl Overlay {
             counted: None,
             next,
         }
+    }
+
+    /// Drops the changes, and takes that next key; the room for changes stays. Condition: the key is at least 1. Takes no memory.
+    pub fn restart(&mut self, next: i64)
+        requires { pos 1 ≤ℤ «next» }
+        ensures none { (self.new.gone ≡ []) × (self.new.puts ≡ []) }
+        ensures counted { self.new.counted ≡ None }
+        ensures next_key { self.new.«next» ≡ «next» }
+    {
+        self.gone.clear();
+        self.puts.clear();
+        self.counted = None;
+        self.next = next;
     }
 
     /// For how many rows there must be room to commit the changes.
@@ -210,19 +223,34 @@ impl Overlay {
         take_key(&mut self.next)
     }
 
-    /// The removals, the puts, the counts after them, and the next key.
-    pub fn into_parts(self) -> (Vec<Gone>, Vec<Row>, Option<Counts>, i64)
-        ensures gone { result.0.items ≡ self.gone }
-        ensures puts { result.1.items ≡ self.puts }
-        ensures counted { result.2 ≡ self.counted }
-        ensures next_key { result.3 ≡ self.«next» }
+    /// The rows that were put.
+    pub(crate) fn puts(&self) -> &[Row]
+        ensures { result.now ≡ self.now.puts }
     {
-        let Overlay {
-            gone,
-            puts,
-            counted,
-            next,
-        } = self;
-        (gone.into_vec(), puts.into_vec(), counted, next)
+        self.puts.as_slice()
+    }
+
+    /// The counts of the rows after the changes, once there is a change.
+    pub(crate) fn counted(&self) -> Option<Counts>
+        ensures { result ≡ self.now.counted }
+    {
+        self.counted
+    }
+
+    /// The next key to be given out.
+    pub(crate) fn next_key(&self) -> i64
+        ensures key { result ≡ self.now.«next» }
+        ensures least { pos 1 ≤ℤ self.now.«next» }
+    {
+        self.next
+    }
+
+    /// Makes the changes in `rows`. Condition: there is room for the puts. Takes no memory.
+    pub(crate) fn make_in(&mut self, rows: &mut KeyedList<Row>)
+        requires { room_of self.old ≤ rows.old.spare }
+        ensures { rows.new.items ≡ over rows.old.items self.old }
+    {
+        drop_gone(rows, self.gone.as_slice());
+        self.puts.move_to(rows);
     }
 }

@@ -9,9 +9,7 @@ ghost use Rattle.resident_tables.specs.Tables.{row_of, IsPut, IsGot};
 
 use crate::counts::{Counts, bytes_after};
 use crate::fault::TableFault;
-use crate::moves::{
-    copy_rows, drop_expired, drop_gone, least_expiry, put_each, put_parts, total_size,
-};
+use crate::moves::{copy_rows, drop_expired, least_expiry, put_parts, total_size};
 use crate::next::take_key;
 use crate::overlay::Overlay;
 use crate::parts::Parts;
@@ -225,18 +223,16 @@ impl Tables {
 
     /// Makes the changes of `changes` here. Conditions: there is room for them, and `changes` was used over these
     /// rows alone. Takes no memory.
-    pub fn commit(&mut self, changes: Overlay)
-        requires room { room_of changes ≤ self.old.spare }
-        requires over { IsOver self.old.rows changes }
-        ensures rows { self.new.rows ≡ over self.old.rows changes }
-        ensures next_key { self.new.«next» ≡ changes.«next» }
+    pub fn commit(&mut self, changes: &mut Overlay)
+        requires room { room_of changes.old ≤ self.old.spare }
+        requires over { IsOver self.old.rows changes.old }
+        ensures rows { self.new.rows ≡ over self.old.rows changes.old }
+        ensures next_key { self.new.«next» ≡ changes.old.«next» }
     {
-        let (gone, puts, counted, next) = changes.into_parts();
-        self.earliest = least_expiry(puts.as_slice(), self.earliest);
-        drop_gone(&mut self.rows, gone);
-        put_each(&mut self.rows, puts);
-        self.bytes = bytes_after(counted, self.bytes);
-        self.next = next;
+        self.next = changes.next_key();
+        self.bytes = bytes_after(changes.counted(), self.bytes);
+        self.earliest = least_expiry(changes.puts(), self.earliest);
+        changes.make_in(&mut self.rows);
     }
 
     /// Equal tables.

@@ -49,10 +49,7 @@ fn move_act(ledger: &mut Ledger, late: bool, act: &Act)
 {
     match act {
         Act::Queued(_, f, _) => ledger.hop(*f),
-        Act::Ended(f, _, evals, left) => {
-            ledger.eval(*f, *evals);
-            ledger.leave(*f, *left);
-        }
+        Act::Ended(f, _, evals, left) => ledger.end(*f, *evals, *left),
         Act::Dropped(_, f, bound) => ledger.leave(*f, *bound),
         Act::Stale(_, What::Packet(f, bound)) => leave_first(ledger, late, *f, *bound),
         _ => {}

@@ -9,7 +9,6 @@ use chunk_types::CheckedChunk;
 use line_files::{LineReason, LineStop, Words, add_weight, allow, hex_bytes, injection, number};
 use network_plan::WorldEvent;
 use plan_base::{Host, Name};
-use plan_items::Boxed;
 use std::alloc::Global;
 
 /// `inject N PROGRAM ENTRY BOUND ARGS` behind the first word, under version 2 with `handler NAME` in front of ARGS or
@@ -36,10 +35,9 @@ fn inject(alloc: Global, reading: &mut Reading, words: &mut Words<'_>) -> Result
 {
     let (host, chunk, bound, handler) = read_injection(alloc, reading, words)?;
     let weight = add_weight(reading.weight, &chunk)?;
-    let boxed = Boxed::new(alloc, chunk)?;
     reading
         .events
-        .add(WorldEvent::Inject(host, boxed, bound, handler))?;
+        .add(WorldEvent::Inject(host, chunk, bound, handler))?;
     reading.weight = weight;
     Ok(())
 }

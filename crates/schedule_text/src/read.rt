@@ -2,6 +2,7 @@ ghost use Rattle.std.specs.Prelude.{◌≡◌, ◌≤◌, ◌⊎◌, length, Ok,
 ghost use Rattle.line_files.specs.declared.fault.LineFault.TheVariants.{NoMemory};
 ghost use Rattle.network_plan.specs.declared.schedule.Schedule.{Schedule};
 ghost use Rattle.network_plan.specs.Rules.{KeepsRules};
+ghost use Rattle.line_files.specs.Reads.{FileLeaves};
 ghost use Rattle.schedule_text.specs.Leaving.{LeavesStep};
 ghost use Rattle.schedule_text.specs.Schedules.{header_step, network_step, program_step, event_step, step, finish, schedule_of, nothing_read};
 
@@ -70,21 +71,22 @@ fn program_step(
     }
 }
 
-/// An event.
-fn event_step(
+/// An event, behind which the stage stays.
+fn event_line(
     alloc: Global,
     number: u32,
     line: &[u8],
     reading: &mut Reading,
-) -> Result<Stage, LineFault>
-    ensures { LeavesStep result reading.new (event_step number line.now reading.old) }
+) -> Result<(), LineFault>
+    ensures { FileLeaves result (Stage.Events, reading.new)
+        (event_step number line.now reading.old) }
 {
     if says_nothing(line) {
-        return Ok(Stage::Events);
+        return Ok(());
     }
     let mut words = Words::of(line);
     match read_event(alloc, reading, &mut words) {
-        Ok(()) => Ok(Stage::Events),
+        Ok(()) => Ok(()),
         Err(stop) => Err(stopped_at(number, stop)),
     }
 }
@@ -104,7 +106,10 @@ fn read_line(
         Stage::Header => read_header(number, line, reading),
         Stage::Network => network_step(alloc, number, line, reading),
         Stage::Inside(begun) => program_step(alloc, line, begun, reading),
-        Stage::Events => event_step(alloc, number, line, reading),
+        Stage::Events => {
+            event_line(alloc, number, line, reading)?;
+            Ok(Stage::Events)
+        }
     }
 }
 
@@ -143,7 +148,12 @@ impl LineFile for ScheduleFile {
 
     ghost format = { schedule_format };
 
+    // (most lines are events, which leave the stage in its place)
+    #[tactic(auto, unfolding(crate::specs::Schedules::step))]
     fn line(&mut self, alloc: Global, number: u32, line: &[u8]) -> Result<(), LineFault> {
+        if let Stage::Events = &self.stage {
+            return event_line(alloc, number, line, &mut self.reading);
+        }
         let stage = mem::replace(&mut self.stage, Stage::Header);
         self.stage = read_line(alloc, number, line, stage, &mut self.reading)?;
         Ok(())

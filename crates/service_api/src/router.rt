@@ -2,7 +2,7 @@ ghost use Rattle.std.specs.Prelude.{◌≡◌, IfOk};
 ghost use Rattle.std.specs.Str.{bytes_eq};
 ghost use Rattle.service_api.specs.Routes as spec;
 
-use plan_base::{Dev, Host, Name, NoMemory};
+use plan_base::{Dev, Host, Name, NoMemory, same_bytes};
 use plan_items::Items;
 use std::alloc::Global;
 use std::marker::Model;
@@ -56,7 +56,7 @@ impl Model for Router {
 fn is_default(route: &Name) -> bool
     ensures { result ≡ bytes_eq route.now spec.default_route }
 {
-    route.as_slice() == b"defaultRoute".as_slice()
+    same_bytes(route.as_slice(), b"defaultRoute".as_slice())
 }
 
 impl Router {

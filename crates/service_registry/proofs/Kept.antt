@@ -1,5 +1,5 @@
 -- What a registry keeps and stands for after a call and after a tick.
-use Rattle.std.proofs.Common.{◌≡◌, ℕ, ℤ, ◌≤◌, Bool, List, length, Option, Some, None, Result, Ok, Err, sym, ap, ◌∙◌, subst}
+use Rattle.std.proofs.Common.{◌≡◌, ℕ, ℤ, ◌≤◌, Bool, true, false, List, length, Option, Some, None, Result, Ok, Err, sym, ap, ◌∙◌, subst}
 use Rattle.std.proofs.lemmas.List.Elements.{All-filter}
 use Rattle.plan_base.specs.declared.memory.NoMemory.{NoMemory}
 use Rattle.plan_base.specs.declared.tree.Svc.{Svc}
@@ -19,7 +19,7 @@ use Rattle.service_meaning.specs.Offered.{InstalledPackages, offered_service, ty
 use Rattle.service_meaning.specs.Serving.{serve, serve_at, serve_offered}
 use Rattle.service_meaning.proofs.Goods.{serve_good}
 use Rattle.service_registry.proofs.ArgumentReads.{with_next}
-use Rattle.service_registry.specs.RegistryState.{rows_of, rows_begun, IsKept}
+use Rattle.service_registry.specs.RegistryState.{rows_of, rows_begun, opened, IsOpen, IsKept}
 use Rattle.service_registry.specs.Meets.{Meets}
 
 -- ---- a call
@@ -35,6 +35,15 @@ served_some p svc args ctx rows s t e f = ap (λ (o : Option Service). serve_off
 pub meets_good : (p : InstalledPackages) (svc : Svc) (args : List Value) (ctx : Ctx) (old new : Rows) (r : Result Answer NoMemory) → Meets (serve p svc args ctx old) old r new → AreGoodRows old → AreGoodValues svc.params args → length ctx.neighbours ≤ 8 → AreGoodRows new
 meets_good p svc args ctx old new (Ok a) e g ga near = subst (λ (s : Served). AreGoodRows s.rows) e (serve_good p svc args ctx old g ga near).rows
 meets_good p svc args ctx old new (Err x) e g ga near = subst AreGoodRows (sym e) g
+
+-- the changes of a visit, where a `begin` is open
+pub kept_open : (t : Table) (o : Layer) (b ready : Bool) → b ≡ true → IsKept t (opened b o) ready → IsOpen t o ready
+kept_open t o true ready e k = k
+kept_open t o false ready e k = cc
+
+pub open_kept : (t : Table) (o : Layer) (b ready : Bool) → b ≡ true → IsOpen t o ready → IsKept t (opened b o) ready
+open_kept t o true ready e k = k
+open_kept t o false ready e k = cc
 
 -- ---- a tick
 

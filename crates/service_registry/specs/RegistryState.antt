@@ -37,6 +37,11 @@ rows_of t = record { rows = t.rows; «next» = t.«next» }
 abbrev pub rows_over : Table → Layer → Rows
 rows_over t o = record { rows = over t.rows o; «next» = o.«next» }
 
+-- the changes, where a `begin` is open
+abbrev pub opened : Bool → Layer → Option Layer
+opened true o = Some o
+opened false o = None
+
 abbrev pub rows_now : Table → Option Layer → Rows
 rows_now t None = rows_of t
 rows_now t (Some o) = rows_over t o

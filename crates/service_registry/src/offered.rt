@@ -4,7 +4,7 @@ ghost use Rattle.service_meaning.specs.Offered as spec;
 ghost use Rattle.service_registry.specs.Packages.{present_of};
 
 use crate::installed_packages::InstalledPackages;
-use plan_base::Name;
+use plan_base::{Name, same_bytes};
 use service_api::PackageName;
 use service_meaning::Service;
 
@@ -46,29 +46,10 @@ fn package_of(service: Service) -> PackageName
     }
 }
 
-/// Whether two names are the same, byte for byte: names are short.
-fn is_same(a: &[u8], b: &[u8]) -> bool
-    ensures { result ≡ bytes_eq a.now b.now }
-{
-    let mut left = a;
-    let mut right = b;
-    while let [x, xs @ ..] = left {
-        let [y, ys @ ..] = right else {
-            return false;
-        };
-        if *x != *y {
-            return false;
-        }
-        left = xs;
-        right = ys;
-    }
-    right.is_empty()
-}
-
 fn is_named(service: Service, name: &Name) -> bool
     ensures { result ≡ bytes_eq (spec.name_of service) name.now }
 {
-    is_same(name_of(service), name.as_slice())
+    same_bytes(name_of(service), name.as_slice())
 }
 
 /// The service, if it has the name.

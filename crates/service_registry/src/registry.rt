@@ -20,15 +20,17 @@ use std::marker::Model;
 pub struct Registry {
     there: InstalledPackages,
     tables: Tables,
-    /// The changes since `begin`, while one is open.
-    changes: Option<Overlay>,
+    /// The changes since `begin`, while one is open; else the room that they had.
+    changes: Overlay,
+    /// Whether a `begin` is open.
+    is_open: bool,
     /// Whether there is room to keep the changes.
     is_ready: bool,
 }
 
 impl Model for Registry {
     ghost use Rattle.service_api.specs.Services.{AreGoodRows};
-    ghost use Rattle.service_registry.specs.RegistryState.{RegistryState, held_code, held_registry, rows_of, IsKept};
+    ghost use Rattle.service_registry.specs.RegistryState.{RegistryState, held_code, held_registry, opened, rows_of, IsKept};
 
     ghost Value = { RegistryState };
 
@@ -36,9 +38,11 @@ impl Model for Registry {
 
     ghost use Rattle.service_registry.specs.Packages.{present_of};
 
-    ghost view = { λ r. held_registry (present_of r.there) r.tables r.changes r.is_ready };
+    ghost view = { λ r. held_registry (present_of r.there) r.tables (opened r.is_open r.changes)
+        r.is_ready };
 
-    ghost invariant = { λ r. AreGoodRows (rows_of r.tables) × IsKept r.tables r.changes r.is_ready };
+    ghost invariant = { λ r. AreGoodRows (rows_of r.tables) × IsKept r.tables
+        (opened r.is_open r.changes) r.is_ready };
 }
 
 impl Registry {
@@ -49,7 +53,8 @@ impl Registry {
         Registry {
             there: InstalledPackages::without(missing),
             tables: Tables::new(alloc),
-            changes: None,
+            changes: Overlay::new(alloc, 1),
+            is_open: false,
             is_ready: false,
         }
     }
@@ -63,12 +68,14 @@ impl Registry {
             there,
             tables,
             changes,
+            is_open,
             is_ready,
         } = self;
         Registry {
             there: there.one_less(missing),
             tables,
             changes,
+            is_open,
             is_ready,
         }
     }
@@ -96,46 +103,49 @@ impl Services for Registry {
         ctx: &Ctx,
     ) -> Result<Answer, NoMemory> {
         self.is_ready = false;
-        match &mut self.changes {
-            None => unreachable!(),
-            Some(changes) => answer_call(
-                alloc,
-                self.there,
-                &self.tables,
-                changes,
-                svc,
-                args.as_slice(),
-                ctx,
-            ),
+        if !self.is_open {
+            unreachable!();
         }
+        answer_call(
+            alloc,
+            self.there,
+            &self.tables,
+            &mut self.changes,
+            svc,
+            args.as_slice(),
+            ctx,
+        )
     }
 
     fn begin(&mut self, alloc: Global) -> Result<(), NoMemory> {
-        self.changes = Some(Overlay::new(alloc, self.tables.next_key()));
+        let _unused = alloc;
+        self.changes.restart(self.tables.next_key());
+        self.is_open = true;
         self.is_ready = false;
         Ok(())
     }
 
     fn ready(&mut self, alloc: Global) -> Result<(), NoMemory> {
         let _unused = alloc;
-        match &self.changes {
-            None => unreachable!(),
-            Some(changes) => self.tables.reserve(changes)?,
+        if !self.is_open {
+            unreachable!();
         }
+        self.tables.reserve(&self.changes)?;
         self.is_ready = true;
         Ok(())
     }
 
     fn keep(&mut self) {
-        let Some(changes) = self.changes.take() else {
-            unreachable!()
-        };
-        self.tables.commit(changes);
+        if !self.is_open {
+            unreachable!();
+        }
+        self.tables.commit(&mut self.changes);
+        self.is_open = false;
         self.is_ready = false;
     }
 
     fn abandon(&mut self) {
-        self.changes = None;
+        self.is_open = false;
         self.is_ready = false;
     }
 

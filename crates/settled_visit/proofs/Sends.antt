@@ -2,6 +2,7 @@
 use Rattle.std.proofs.Common.{◌≡◌, ℕ, ◌+◌, ◌<◌, Bool, true, false, cond, List, [], ◌∷◌, ◌++◌, Option, Some, None, refl, sym, ap, ◌∙◌, subst, arith}
 use Rattle.std.specs.Prelude.{map, All}
 use Rattle.std.specs.Option.{option_to_list}
+use Rattle.std.proofs.lemmas.List.{append-nil}
 use Rattle.std.proofs.lemmas.List.Elements.{All-nil, All-cons, All-head, All-tail, All-append}
 use Rattle.plan_base.specs.declared.name.Name.{Name}
 use Rattle.plan_base.specs.declared.tree.Chunk.{Chunk}
@@ -12,7 +13,8 @@ use Rattle.service_api.specs.Services.{IsGoodChunk}
 use Rattle.plan_meaning.specs.declared.sent.Sent.{Sent}
 use Rattle.plan_meaning.specs.declared.outcome.Visit.{Visit}
 use Rattle.plan_meaning.specs.Safe.{IsGoodSent, AreGoodPackets}
-use Rattle.settled_visit.specs.Settles.{IsPlain, handler_for, handed_packet, telling, telling_of, visit_settled}
+use Rattle.settled_visit.specs.declared.settling.Settled.{Settled}
+use Rattle.settled_visit.specs.Settles.{IsPlain, handler_for, handed_packet, telling, telling_by, telling_of, with_telling, visit_settled}
 use Rattle.settled_visit.proofs.Handlers.{told_typed, told_formed}
 use Rattle.settled_visit.proofs.Tellings.{Tells, tells}
 
@@ -93,3 +95,11 @@ pub none_handed : (h : Option Name) (ss : List Sent) → h ≡ None → All IsPl
 none_handed None [] e a = refl
 none_handed None (s ∷ ss) e a = λ i. same_plain s (All-head IsPlain s ss a) i ∷ none_handed None ss e (All-tail IsPlain s ss a) i
 none_handed (Some n) ss e a = cc
+
+-- the visit of a packet without a handler is settled as it is
+pub settled_alone : (p : Packet) (ctx : Ctx) (v : Visit) → p.handler ≡ None → All IsPlain v.outbox → ◌≡◌ {A = Settled} (record { visit = v; handled = None }) (visit_settled p ctx v)
+unfolding visit_settled
+settled_alone p ctx v h a =
+    let sends = none_handed None v.outbox refl a ∙ sym (append-nil (map (handed_packet None) v.outbox)) in
+    let alone : ◌≡◌ {A = Settled} (record { visit = v; handled = None }) (with_telling None v None) = λ i. record { visit = record v { outbox = sends i }; handled = None } in
+    alone ∙ ap (λ (o : Option Name). with_telling o v (telling_by p o ctx v.left v.outcome)) (sym h)

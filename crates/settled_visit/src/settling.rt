@@ -136,6 +136,22 @@ fn settle_parts(alloc: Global, p: &CheckedPacket, v: Visit, ctx: &Ctx) -> Result
     with_telling(alloc, p.handler(), v, told)
 }
 
+/// The same, where the visit of a packet without a handler is settled as it is.
+#[tactic(auto, using(crate::proofs::Sends::settled_alone))]
+fn settle_by(alloc: Global, p: &CheckedPacket, v: Visit, ctx: &Ctx) -> Result<Settled, NoMemory>
+    requires plain { All spec.IsPlain v.outbox }
+    requires left { v.left ≤ 65535 }
+    ensures { IfOk result (λ s. s ≡ spec.visit_settled p.now ctx.entry.now v) }
+{
+    let Some(_) = p.handler() else {
+        return Ok(Settled {
+            visit: v,
+            handled: None,
+        });
+    };
+    settle_parts(alloc, p, v, ctx)
+}
+
 /// Settles the visit of a packet: what it sends has the packet's handler where its own code has such a function, and where the
 /// visit gave no value, that handler is called at the source with the exception's name, or with `WorkSpent`, by a packet
 /// that is sent last and has all that was left. That is so where the packet has a handler, something is left, and the
@@ -151,5 +167,5 @@ pub fn settle(alloc: Global, p: &CheckedPacket, v: Visit, ctx: &Ctx) -> Result<S
     ensures balance { IfOk result (λ s. s.visit.evals + s.visit.left + bounds s.visit.outbox ≡
         v.evals + v.left + bounds v.outbox) }
 {
-    settle_parts(alloc, p, v, ctx)
+    settle_by(alloc, p, v, ctx)
 }

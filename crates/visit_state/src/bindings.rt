@@ -40,7 +40,7 @@ pub fn value_of<'a>(x: &Name, env: &'a [Binding]) -> Option<&'a Value>
     let mut found = None;
     let mut rest = env;
     while let [b, more @ ..] = rest {
-        if b.name.as_slice() == x.as_slice() {
+        if b.name.is(x) {
             found = Some(&b.value);
         }
         rest = more;

@@ -1,24 +1,15 @@
 ghost use Rattle.std.specs.Prelude.{◌≡◌, option_copied, take};
-ghost use Rattle.std.specs.Str.{bytes_eq};
 ghost use Rattle.typing_rules.specs.TypingNames as names;
 ghost use Rattle.plan_meaning.specs.Meaning as spec;
 ghost use Rattle.visit_state.specs.Handlers as handlers;
 
 use plan_base::{Clause, Exn, Expr, Fun, Name};
 
-fn is(name: &Name, word: &[u8]) -> bool
-    ensures { result ≡ bytes_eq name.now word.now }
-{
-    name.as_slice() == word
-}
-
 /// The place of the first function of that name among the first `seen`.
 pub fn place_among(f: &Name, seen: usize, funs: &[Fun]) -> Option<usize>
     ensures { result ≡ names.place_of f.now (take seen funs.now) }
 {
-    funs.iter()
-        .take(seen)
-        .position(|d| is(&d.name, f.as_slice()))
+    funs.iter().take(seen).position(|d| d.name.is(f))
 }
 
 /// Whether a clause of that name, or of none, catches the exception.
@@ -26,7 +17,7 @@ pub fn catches(name: &Option<Name>, x: &Exn) -> bool
     ensures { result ≡ spec.catches name.now x.now }
 {
     match name {
-        Some(name) => is(name, x.0.as_slice()),
+        Some(name) => name.is(&x.0),
         None => true,
     }
 }

@@ -10,6 +10,6 @@ pub returns-in-Some-place_among-clause-decides : goal.returns-in-Some-place_amon
 returns-in-Some-place_among-clause-decides g c at =
     let prim : prim_of c.args.f.now ≡ None = cc in
     let service : service_of c.args.f.now c.args.code.now.svcs ≡ None =
-    ap (λ (x : Program). service_of c.args.f.now x.svcs) (sym c.get.ensures) ∙ (ap (λ (x : List Svc). service_of c.args.f.now x) (sym c.as_slice.ensures) ∙ (sym c.declared_service.ensures ∙ rw c.in_default-declared_service.is refl)) in
+    ap (λ (x : Program). service_of c.args.f.now x.svcs) (sym c.get.ensures) ∙ (ap (λ (x : List Svc). service_of c.args.f.now x) (sym c.as_slice.ensures) ∙ (sym c.service_of.ensures ∙ rw c.in_default-service_of.is refl)) in
     let place : place_of c.args.f.now (take c.args.seen c.args.code.now.funs) ≡ Some c.in-Some-place_among.fun = cc in
     calls_function c.args.code.now c.args.seen c.args.f.now c.args.args (joined_state c.args.state.now (g.S.Services.stands c.args.svc.now)) at c.in-Some-place_among.fun prim service place

@@ -1,6 +1,5 @@
 use Rattle.std.proofs.Common.{◌≡◌}
 use Rattle.plan_meaning.specs.State.{joined_state}
-use Rattle.eval_steps.specs.declared.stack_frame.Mode.TheVariants as mode
 use Rattle.eval_steps.specs.Leads.{Leads}
 use Rattle.eval_steps.specs.Stack.{AreLinked, stands_for}
 use Rattle.eval_flow.specs.Turns.{load}
@@ -11,7 +10,7 @@ abbrev pub invariant-loop-top : goal.invariant-loop-top
 invariant-loop-top g l = record {
   sized : IsProgramSize l.programs l.last;
   linked : AreLinked l.programs l.stack;
-  leads : Leads (stands_for l.fn.codes l.fn.activations mode.Run (joined_state l.fn.state (g.S.Services.stands l.fn.svc))) (stands_for l.programs l.stack l.how (joined_state l.state (g.S.Services.stands l.svc)));
+  leads : Leads (stands_for l.fn.codes l.fn.activations l.fn.start (joined_state l.fn.state (g.S.Services.stands l.fn.svc))) (stands_for l.programs l.stack l.how (joined_state l.state (g.S.Services.stands l.svc)));
   offer : (g.S.Services.stands l.svc).offer ≡ (g.S.Services.stands l.fn.svc).offer;
   begun : (g.S.Services.stands l.svc).begun ≡ (g.S.Services.stands l.fn.svc).begun;
 }

@@ -2,4 +2,4 @@ use Rattle.settled_visit.proofs.Sums.{ok_balance}
 use Rattle.settled_visit.proofs.settling.settle.Goals as goal
 
 pub returns-clause-balance : goal.returns-clause-balance
-returns-clause-balance c = ok_balance c.args.p.now c.args.ctx.now c.args.v c.settle_parts.result c.settle_parts.ensures
+returns-clause-balance c = ok_balance c.args.p.now c.args.ctx.now c.args.v c.settle_by.result c.settle_by.ensures

@@ -13,7 +13,7 @@ pub returns-in_ok-make-in-Ok-clause-goes : goal.returns-in_ok-make-in-Ok-clause-
 returns-in_ok-make-in-Ok-clause-goes g c = λ s h.
     let paid = c.in-Ok.ensures.paid in
     let same = h.second in
-    acks_made g.S.Services.stands c.make.new.self c.args.number s c.in-Ok.chunk c.in_ok-event-in-Ok.event c.args.text.now (omega (arith, paid, same)) (c.in-Ok.ensures.chunk ∙ ap (ack_from first_host) h.receiver) c.in_ok-event-in-Ok.ensures.event
+    acks_made g.S.Services.stands c.make.new.self c.args.number s c.in-Ok.chunk c.injection-event.result c.args.text.now (omega (arith, paid, same)) (c.in-Ok.ensures.chunk ∙ ap (ack_from first_host) h.receiver) c.injection-event.ensures.event
     (c.in_ok-make-in-Ok.ensures.made (second_pays s) (second_paid g.S.Services.stands c.args.self.now _ s h refl refl refl refl paid)).is
 
 pub returns-in-Err-NoBound-clause-goes : goal.returns-in-Err-NoBound-clause-goes

@@ -10,21 +10,21 @@ pub wire-requires-clause-ready : goal.wire-requires-clause-ready
 wire-requires-clause-ready g c =
     let r = c.requires.ready in
     let b = held_some c.args.seq c.args.self.now.sender (λ n. absurd (let k = c.in-Ok.ensures.not_held.1 n in cc)) in
-    let made = c.in_ok-event-in-Ok.ensures.event ∙ ap (λ k. event.Inject first_host k 4 None) (c.in-Ok.ensures.chunk b.0 b.1) in
+    let made = c.injection-event.ensures.event ∙ ap (λ k. event.Inject first_host k 4 None) (c.in-Ok.ensures.chunk b.0 b.1) in
     record {
       state = first_pays r.state;
       is = first_paid g.S.Services.stands c.args.self.now _ r.state r.is refl refl refl refl c.in-Ok.ensures.paid;
       few = subst (λ e. WireFew e (first_pays r.state)) (sym made) (r.few b.0 (ap (held_at c.args.seq) (sym r.is.sender) ∙ b.1));
     }
 
-pub returns-in_ok-event-in-Ok-clause-goes : goal.returns-in_ok-event-in-Ok-clause-goes
-returns-in_ok-event-in-Ok-clause-goes g c = λ s h.
+pub returns-in-Ok-clause-goes : goal.returns-in-Ok-clause-goes
+returns-in-Ok-clause-goes g c = λ s h.
     let b = held_some c.args.seq c.args.self.now.sender (λ n. absurd (let k = c.in-Ok.ensures.not_held.1 n in cc)) in
-    let made = c.in_ok-event-in-Ok.ensures.event ∙ ap (λ k. event.Inject first_host k 4 None) (c.in-Ok.ensures.chunk b.0 b.1) in
+    let made = c.injection-event.ensures.event ∙ ap (λ k. event.Inject first_host k 4 None) (c.in-Ok.ensures.chunk b.0 b.1) in
     let paid = c.in-Ok.ensures.paid in
     let same = h.first in
     on_ok _ _ c.wire.result
-    (λ k. transmit_goes g.S.Services.stands c.wire.new.self c.args.number c.args.seq b.0 c.in_ok-event-in-Ok.event (held_at c.args.seq s.sender) s c.args.text.now c.wire.new.text (ap (held_at c.args.seq) (sym h.sender) ∙ b.1) (omega (arith, paid, same)) made k)
+    (λ k. transmit_goes g.S.Services.stands c.wire.new.self c.args.number c.args.seq b.0 c.injection-event.result (held_at c.args.seq s.sender) s c.args.text.now c.wire.new.text (ap (held_at c.args.seq) (sym h.sender) ∙ b.1) (omega (arith, paid, same)) made k)
     (c.wire.ensures.goes (first_pays s) (first_paid g.S.Services.stands c.args.self.now _ s h refl refl refl refl paid))
 
 pub returns-in-Err-NotHeld-clause-goes : goal.returns-in-Err-NotHeld-clause-goes
