@@ -11,6 +11,8 @@ use Rattle.typing_rules.specs.Handlers.{MayHandle}
 use Rattle.link_window.specs.declared.window.Stamp.{Stamp}
 use Rattle.link_window.specs.declared.window.Version.{Version}
 use Rattle.link_window.specs.declared.window.Version.TheVariants.{One, Two}
+use Rattle.link_window.specs.declared.window.Window.{Window}
+use Rattle.link_window.specs.Seen.{Seen}
 use Rattle.link_window.specs.declared.window.Took.{Took}
 use Rattle.link_window.specs.declared.window.Took.TheVariants.{Fresh}
 use Rattle.packet_frame.specs.declared.frame.PlainFrame.{PlainFrame}
@@ -34,9 +36,9 @@ use Rattle.node_model.specs.Fits.{IsMarked}
 use Rattle.node_laws.proofs.Staying.{frame_stays}
 use Rattle.node_parts.proofs.ReadingLaws.{goes_on}
 use Rattle.node_core.specs.Stands.{NodeStands, IsStep, mark_on, own_family, own_packet, around_at}
-use Rattle.node_parts.specs.Carried.{MayGoOn}
+use Rattle.node_parts.specs.Carried.{MayBear, MayGoOn}
 use Rattle.node_parts.specs.Heard.{TellsAll}
-use Rattle.node_parts.specs.Windows.{AllSeen}
+use Rattle.node_parts.specs.Windows.{AllSeen, SeenUnder}
 use Rattle.settled_visit.specs.Settles.{visit_settled}
 use Rattle.node_core.specs.declared.node.Node.{Node}
 
@@ -50,6 +52,17 @@ on_ok {X = X} r a e h = subst (λ x. OnOk x X) e h
 
 pub on_err : {A E : Type 0} {X : Type 0} (r : Result A E) (x : E) → r ≡ Err x → OnErr r X → X
 on_err {X = X} r x e h = subst (λ y. OnErr y X) e h
+
+-- ---- stamps
+
+-- where a stamp comes, each device has its window
+pub stamp_seen : (v : Version) (o : Option Stamp) (t : Stamp) (seen : List Seen) (windows : List Window) → o ≡ Some t → MayBear v o → SeenUnder v seen windows → AllSeen seen windows
+stamp_seen One o t seen windows e m h = cc
+stamp_seen Two o t seen windows e m h = h
+
+pub stamp_noted : (v : Version) (o : Option Stamp) (t : Stamp) (seen : List Seen) (windows : List Window) → o ≡ Some t → MayBear v o → AllSeen seen windows → SeenUnder v seen windows
+stamp_noted One o t seen windows e m h = cc
+stamp_noted Two o t seen windows e m h = h
 
 -- ---- injections
 
@@ -66,6 +79,9 @@ module _ {S : Type 0} (stands : S → ServiceState) where
 
   -- ---- visits, for which a node's neighbours and routes are handed out and given back
 
+  same_windows : (old new : Node S) (s : NodeState) → new.version ≡ old.version → new.windows ≡ old.windows → SeenUnder old.version s.seen old.windows.items → SeenUnder new.version s.seen new.windows.items
+  same_windows old new s v w h = subst (λ x. SeenUnder new.version s.seen x.items) (sym w) (subst (λ x. SeenUnder x s.seen old.windows.items) (sym v) h)
+
   -- a node that is the same but for how its services and queues are kept
   pub same_stands : (old new : Node S) (s : NodeState) → NodeStands stands old s → new.here ≡ old.here → new.version ≡ old.version → new.boot ≡ old.boot → new.windows ≡ old.windows
       → new.serial ≡ old.serial → new.time ≡ old.time → new.routes ≡ old.routes → new.neighbours ≡ old.neighbours → stands new.services ≡ stands old.services → new.lanes.items ≡ old.lanes.items
@@ -78,7 +94,7 @@ module _ {S : Type 0} (stands : S → ServiceState) where
     version = v ∙ h.version;
     boot = b ∙ h.boot;
     queues = l ∙ h.queues;
-    windows = subst (λ x. AllSeen s.seen x.items) (sym w) h.windows;
+    windows = same_windows old new s v w h.windows;
     serial = n ∙ h.serial;
     time = t ∙ h.time;
   }
@@ -107,7 +123,7 @@ module _ {S : Type 0} (stands : S → ServiceState) where
       version = v ∙ h.version;
       boot = b ∙ h.boot;
       queues = x ∙ (λ i. sends_queues ((z ∙ h.queues) i) (visit_sends (f i) (visit_settled p (e i) (visit_of (e i) (begun_now (h.services i)) p)).visit));
-      windows = subst (λ x. AllSeen s.seen x.items) (sym w) h.windows;
+      windows = same_windows old new s v w h.windows;
       serial = n ∙ h.serial;
       time = t ∙ h.time;
     };
@@ -244,3 +260,12 @@ none_named Two c o e = none_handles c o e
 -- what stands beside the bytes of a frame may go on from a node that reads these
 pub beside_goes_on : (v : Version) (boot : ℕ) (bytes : List ℕ) (x : PlainStamped) (y : PlainFrame) → AcceptsBy (version_of x.stamp) bytes x → v ≡ version_of x.stamp → y ≡ x.frame → MayGoOn (mark_of v boot) y
 beside_goes_on v boot bytes x y h e f = subst (MayGoOn (mark_of v boot)) (sym f) (goes_on v boot bytes x.stamp x.frame (subst (λ u. AcceptsBy u bytes x) (sym e) h))
+
+-- a stamp is one that frames of its version may bear
+own_bears : (o : Option Stamp) → MayBear (version_of o) o
+own_bears None = refl
+own_bears (Some t) = tt
+
+-- and so it is for the stamp beside the bytes
+pub beside_bears : (v : Version) (x : PlainStamped) (o : Option Stamp) → v ≡ version_of x.stamp → o ≡ x.stamp → MayBear v o
+beside_bears v x o e f = subst (λ u. MayBear u o) (sym (e ∙ ap version_of (sym f))) (own_bears o)

@@ -18,7 +18,7 @@ use Rattle.dv_routing.specs.Stands.{Stands}
 use Rattle.node_model.specs.declared.acts.Acts.{Acts}
 use Rattle.node_model.specs.State.{NodeState, routing_of}
 use Rattle.node_model.specs.Node.{NodeStep, mark_of}
-use Rattle.node_parts.specs.Windows.{AllSeen}
+use Rattle.node_parts.specs.Windows.{SeenUnder}
 use Rattle.node_core.specs.declared.node.Node.{Node}
 
 -- the version of a node
@@ -39,7 +39,7 @@ pub record NodeStands {S : Type 0} (stands : S → ServiceState) (n : Node S) (s
   pub version : n.version ≡ s.version
   pub boot : n.boot ≡ s.boot
   pub queues : n.lanes.items ≡ s.queues
-  pub windows : AllSeen s.seen n.windows.items
+  pub windows : SeenUnder n.version s.seen n.windows.items
   pub serial : n.serial ≡ s.serial
   pub time : n.time ≡ s.now
 

@@ -16,7 +16,7 @@ ghost use Rattle.dv_routing.specs.Routing.{all_routes};
 ghost use Rattle.service_api.specs.Routes.{hop};
 ghost use Rattle.node_core.specs.Turns.{IsResting};
 ghost use Rattle.node_core.specs.Stands.{NodeStands, IsStep, version_of, mark_on, with_stamp, own_family, own_packet, around_at};
-ghost use Rattle.node_parts.specs.Carried.{MayGoOn, asks_within};
+ghost use Rattle.node_parts.specs.Carried.{MayBear, MayGoOn, asks_within};
 
 use crate::idle_services::IdleServices;
 use chunk_types::{CheckedChunk, CheckedPacket};
@@ -37,8 +37,8 @@ use spelled_frame::SpelledFrame;
 use std::alloc::Global;
 
 /// A node: its host, its version, the moment at which it began, its neighbours by device, its routes, its services, for each
-/// device from 0 to 8 its queue with the number of its next frame and its window, the serial number of its next injection, its
-/// time in ticks, and the program of the last chunk that arrived, so that the same program isn't checked again.
+/// device from 0 to 8 its queue with the number of its next frame and, under version 2, its window, the serial number of its next
+/// injection, its time in ticks, and the program of the last chunk that arrived, so that the same program isn't checked again.
 #[derive(Drop)]
 pub struct Node<S: Services> {
     here: Host,
@@ -172,7 +172,7 @@ impl<S: Services + Drop> Node<S> {
         } = config;
         let routes = Routes::open(alloc, here, hosts.as_slice(), &neighbours)?;
         let lanes = open_lanes(alloc, link)?;
-        let windows = open_windows(alloc)?;
+        let windows = open_windows(alloc, version)?;
         Ok(Node {
             here,
             version,
@@ -527,9 +527,10 @@ impl<S: Services> Node<S> {
         }
     }
 
-    /// What a device takes a frame with this stamp as. Takes no memory.
-    #[tactic(auto, unfolding(node_model::specs::Node::takes_as))]
+    /// What a device takes a frame with this stamp as. Condition: under version 1 it has none. Takes no memory.
+    #[tactic(auto, unfolding(node_model::specs::Node::takes_as), using(crate::proofs::StepLaws::stamp_seen))]
     fn judge(&self, dev: Dev, stamp: Option<Stamp>) -> Took
+        requires { MayBear (version_of self.now) stamp }
         ensures { (s : NodeState) → NodeStands S.stands self.now s → result ≡ spec.takes_as
             s.seen dev stamp }
     {
@@ -539,9 +540,10 @@ impl<S: Services> Node<S> {
         }
     }
 
-    /// Takes a fresh stamp on a device. Takes no memory.
-    #[tactic(auto, unfolding(node_model::specs::Node::takes_as, node_model::specs::Node::seen_then))]
+    /// Takes a fresh stamp on a device. Condition: under version 1 there is none. Takes no memory.
+    #[tactic(auto, unfolding(node_model::specs::Node::takes_as, node_model::specs::Node::seen_then), using(crate::proofs::StepLaws::stamp_seen, crate::proofs::StepLaws::stamp_noted))]
     fn note(&mut self, dev: Dev, stamp: Option<Stamp>)
+        requires { MayBear (version_of self.old) stamp }
         ensures stands { (s : NodeState) → NodeStands S.stands self.old s → spec.takes_as s.seen dev
             stamp ≡ FreshOne → NodeStands S.stands self.new
             (spec.with_seen (spec.seen_then s.seen dev stamp) s) }
@@ -553,7 +555,7 @@ impl<S: Services> Node<S> {
         note(&mut self.windows, dev, stamp);
     }
 
-    /// A fresh frame arrives, and its stamp is taken. Condition: under version 1 a packet has no handler.
+    /// A fresh frame arrives, and its stamp is taken. Conditions: under version 1 it has none, and a packet has no handler.
     fn arrive_fresh(
         &mut self,
         alloc: Global,
@@ -561,7 +563,8 @@ impl<S: Services> Node<S> {
         stamp: Option<Stamp>,
         frame: &Frame,
     ) -> Result<Acts, NoMemory>
-        requires { MayGoOn (mark_on self.old) (plain_of frame.now) }
+        requires borne { MayBear (version_of self.old) stamp }
+        requires carried { MayGoOn (mark_on self.old) (plain_of frame.now) }
         ensures ok { (s : NodeState) → NodeStands S.stands self.old s → spec.takes_as s.seen dev
             stamp ≡ FreshOne → IfOk result (λ acts. IsStep S.stands
             (spec.stamped_as s dev (with_stamp stamp (plain_of frame.now)) FreshOne)
@@ -591,8 +594,8 @@ impl<S: Services> Node<S> {
         self.only_acts(alloc, Act::Arrived(dev), stale)
     }
 
-    /// A frame with its stamp arrives: it is stale where its stamp isn't fresh on its device. Condition: under version 1 a packet
-    /// has no handler.
+    /// A frame with its stamp arrives: it is stale where its stamp isn't fresh on its device. Conditions: under version 1 it has
+    /// none, and a packet has no handler.
     #[tactic(auto, unfolding(node_model::specs::Node::stamped_step))]
     fn arrive_stamped(
         &mut self,
@@ -601,7 +604,8 @@ impl<S: Services> Node<S> {
         stamp: Option<Stamp>,
         frame: &Frame,
     ) -> Result<Acts, NoMemory>
-        requires { MayGoOn (mark_on self.old) (plain_of frame.now) }
+        requires borne { MayBear (version_of self.old) stamp }
+        requires carried { MayGoOn (mark_on self.old) (plain_of frame.now) }
         ensures ok { (s : NodeState) → NodeStands S.stands self.old s → IfOk result
             (λ acts. IsStep S.stands (spec.stamped_step s dev
             (with_stamp stamp (plain_of frame.now))) acts self.new) }

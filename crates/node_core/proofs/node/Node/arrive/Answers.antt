@@ -1,7 +1,10 @@
 use Rattle.std.proofs.Common.{sym, subst}
 use Rattle.packet_frame.specs.Typed.{plain_of}
-use Rattle.node_parts.specs.Carried.{MayGoOn}
+use Rattle.node_parts.specs.Carried.{MayBear, MayGoOn}
 use Rattle.node_core.proofs.node.Node.arrive.Goals as goal
 
-pub arrive_stamped-requires : goal.arrive_stamped-requires
-arrive_stamped-requires g c = subst (λ m. MayGoOn m (plain_of c.in-Ok.stamped.frame)) (sym c.remember.ensures.mark) (c.in-Ok.ensures.carried c.args.self.now.boot)
+pub arrive_stamped-requires-clause-borne : goal.arrive_stamped-requires-clause-borne
+arrive_stamped-requires-clause-borne g c = subst (λ v. MayBear v c.in-Ok.stamped.stamp) (sym c.remember.ensures.same) c.in-Ok.ensures.borne
+
+pub arrive_stamped-requires-clause-carried : goal.arrive_stamped-requires-clause-carried
+arrive_stamped-requires-clause-carried g c = subst (λ m. MayGoOn m (plain_of c.in-Ok.stamped.frame)) (sym c.remember.ensures.mark) (c.in-Ok.ensures.carried c.args.self.now.boot)

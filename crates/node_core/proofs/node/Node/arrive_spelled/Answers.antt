@@ -1,10 +1,13 @@
 use Rattle.packet_frame.specs.Typed.{plain_of}
 use Rattle.node_core.specs.Stands.{with_stamp}
-use Rattle.node_core.proofs.StepLaws.{beside_goes_on, frame_arrives, bytes_arrive}
+use Rattle.node_core.proofs.StepLaws.{beside_bears, beside_goes_on, frame_arrives, bytes_arrive}
 use Rattle.node_core.proofs.node.Node.arrive_spelled.Goals as goal
 
-pub arrive_stamped-requires : goal.arrive_stamped-requires
-arrive_stamped-requires g c =
+pub arrive_stamped-requires-clause-borne : goal.arrive_stamped-requires-clause-borne
+arrive_stamped-requires-clause-borne g c = beside_bears c.args.self.now.version c.args.frame.now c.stamp-stamp.result c.in-Some.ensures.version c.stamp-stamp.ensures
+
+pub arrive_stamped-requires-clause-carried : goal.arrive_stamped-requires-clause-carried
+arrive_stamped-requires-clause-carried g c =
     beside_goes_on c.args.self.now.version c.args.self.now.boot c.bytes-bytes.result.now c.args.frame.now (plain_of c.in-Some.own.now) c.bytes-bytes.ensures c.in-Some.ensures.version c.in-Some.ensures.frame
 
 pub returns-in-Some-clause-ok : goal.returns-in-Some-clause-ok
