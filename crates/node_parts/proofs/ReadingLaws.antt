@@ -8,6 +8,7 @@ use Rattle.link_window.specs.declared.window.Version.{Version}
 use Rattle.link_window.specs.declared.window.Version.TheVariants.{One, Two}
 use Rattle.packet_frame.specs.declared.checked.Stamped.{Stamped}
 use Rattle.packet_frame.specs.declared.frame.PlainFrame.{PlainFrame}
+use Rattle.packet_frame.specs.declared.frame.PlainStamped.{PlainStamped}
 use Rattle.packet_frame.specs.declared.fault.FrameFault.{FrameFault}
 use Rattle.packet_frame.specs.Forms.{FrameFits}
 use Rattle.packet_frame.specs.Typed.{plain_of, Accepts, FrameFirst}
@@ -19,7 +20,7 @@ use Rattle.spelled_frame.proofs.Reading.{one_accepted}
 use Rattle.service_api.specs.declared.advert.Advert.{Advert}
 use Rattle.plan_base.specs.declared.memory.NoMemory.{NoMemory}
 use Rattle.node_model.specs.Node.{mark_of}
-use Rattle.node_parts.specs.Carried.{MayGoOn, asks_within}
+use Rattle.node_parts.specs.Carried.{MayBear, MayGoOn, asks_within}
 
 -- what is read in a version is what the definition reads
 pub read_found : (v : Version) (bytes : List ℕ) (r : Result Stamped FrameFault) → IfOk r (λ x. AcceptsBy v bytes (stamped_plain x)) → IfOk r (λ x. read_by v bytes ≡ Ok (stamped_plain x))
@@ -62,3 +63,12 @@ goes_on v boot bytes o (PlainFrame.Ask bound chunk) h = tt
 pub read_carried : (v : Version) (bytes : List ℕ) (r : Result Stamped FrameFault) → IfOk r (λ x. AcceptsBy v bytes (stamped_plain x)) → (boot : ℕ) → IfOk r (λ x. MayGoOn (mark_of v boot) (plain_of x.frame))
 read_carried v bytes (Ok x) h boot = goes_on v boot bytes x.stamp (plain_of x.frame) h
 read_carried v bytes (Err e) h boot = h
+
+-- a frame that is accepted bears what it may
+pub is_borne : (v : Version) (bytes : List ℕ) (x : PlainStamped) → AcceptsBy v bytes x → MayBear v x.stamp
+is_borne One bytes x h = h.read.0
+is_borne Two bytes x h = tt
+
+pub read_borne : (v : Version) (bytes : List ℕ) (r : Result Stamped FrameFault) → IfOk r (λ x. AcceptsBy v bytes (stamped_plain x)) → IfOk r (λ x. MayBear v x.stamp)
+read_borne v bytes (Ok x) h = is_borne v bytes (stamped_plain x) h
+read_borne v bytes (Err e) h = h

@@ -1,6 +1,8 @@
 -- What the frames of a node may carry.
-use Rattle.std.specs.Prelude.{◌≤◌, Option}
+use Rattle.std.specs.Prelude.{◌≡◌, ◌≤◌, Option, None}
 use Rattle.link_window.specs.declared.window.Stamp.{Stamp}
+use Rattle.link_window.specs.declared.window.Version.{Version}
+use Rattle.link_window.specs.declared.window.Version.TheVariants.{One, Two}
 use Rattle.packet_frame.specs.declared.frame.PlainFrame.{PlainFrame}
 use Rattle.plan_meaning.specs.declared.sent.Sent.{Sent}
 use Rattle.spelled_frame.specs.Spelled.{MayCarry}
@@ -18,3 +20,8 @@ MayGoOn m _ = Unit {0}
 abbrev pub asks_within : PlainFrame → Type 0
 asks_within (PlainFrame.Ask bound chunk) = bound ≤ 65535
 asks_within _ = Unit {0}
+
+-- what a frame that comes to a node of a version may bear: no stamp under version 1
+abbrev pub MayBear : Version → Option Stamp → Type 0
+MayBear One stamp = stamp ≡ None
+MayBear Two stamp = Unit {0}

@@ -1,8 +1,11 @@
 -- Windows that stand for what was taken on each device.
-use Rattle.std.specs.Prelude.{List, [], ◌∷◌}
+use Rattle.std.specs.Prelude.{◌≡◌, List, [], ◌∷◌}
+use Rattle.link_window.specs.declared.window.Version.{Version}
+use Rattle.link_window.specs.declared.window.Version.TheVariants.{One, Two}
 use Rattle.link_window.specs.Seen.{Seen}
 use Rattle.link_window.specs.Stands.{WindowStands}
 use Rattle.link_window.specs.declared.window.Window.{Window}
+use Rattle.node_model.specs.State.{none_seen}
 
 -- each window stands for what its device took
 abbrev pub AllSeen : List Seen → List Window → Type 0
@@ -10,3 +13,8 @@ AllSeen [] [] = Unit {0}
 AllSeen [] (w ∷ ws) = ⊥
 AllSeen (t ∷ ts) [] = ⊥
 AllSeen (t ∷ ts) (w ∷ ws) = WindowStands t w × AllSeen ts ws
+
+-- the windows of a node of a version: under version 1 there are none, and nothing was taken
+abbrev pub SeenUnder : Version → List Seen → List Window → Type 0
+SeenUnder One seen windows = (seen ≡ none_seen) × (windows ≡ [])
+SeenUnder Two seen windows = AllSeen seen windows

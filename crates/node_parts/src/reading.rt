@@ -7,7 +7,7 @@ ghost use Rattle.packet_frame.specs.Stamped.{AcceptsBy, stamped_plain};
 ghost use Rattle.packet_frame.specs.Decoding.{read_by};
 ghost use Rattle.spelled_frame.specs.Spelled as spelled;
 ghost use Rattle.node_model.specs.Node.{mark_of};
-ghost use Rattle.node_parts.specs.Carried.{MayGoOn, asks_within};
+ghost use Rattle.node_parts.specs.Carried.{MayBear, MayGoOn, asks_within};
 
 use link_window::Version;
 use node_model::What;
@@ -44,8 +44,8 @@ fn read_second(alloc: Global, bytes: &[u8], known: Option<&Checked>) -> Result<S
 }
 
 /// Reads a frame as a node of a version does; the answer is that of the definition, where memory is there, whatever program is
-/// known. An ask has a bound of at most 65,535, and a packet may go on from such a node.
-#[tactic(auto, using(crate::proofs::ReadingLaws::read_found, crate::proofs::ReadingLaws::read_within, crate::proofs::ReadingLaws::read_carried))]
+/// known. An ask has a bound of at most 65,535, a packet may go on from such a node, and no frame bears a stamp under version 1.
+#[tactic(auto, using(crate::proofs::ReadingLaws::read_found, crate::proofs::ReadingLaws::read_within, crate::proofs::ReadingLaws::read_carried, crate::proofs::ReadingLaws::read_borne))]
 pub fn read_as(
     alloc: Global,
     bytes: &[u8],
@@ -58,6 +58,7 @@ pub fn read_as(
     ensures within { IfOk result (λ x. asks_within (plain_of x.frame)) }
     ensures carried { (boot : ℕ) → IfOk result (λ x. MayGoOn (mark_of version boot)
         (plain_of x.frame)) }
+    ensures borne { IfOk result (λ x. MayBear version x.stamp) }
 {
     match version {
         Version::One => read_first(alloc, bytes, known),

@@ -3,15 +3,15 @@ ghost use Rattle.link_window.specs.Seen.{Seen};
 ghost use Rattle.link_window.specs.declared.window.Took.TheVariants.{Fresh as FreshOne};
 ghost use Rattle.node_model.specs.State.{none_seen};
 ghost use Rattle.node_model.specs.Node.{took_by, seen_at};
-ghost use Rattle.node_parts.specs.Windows.{AllSeen};
+ghost use Rattle.node_parts.specs.Windows.{AllSeen, SeenUnder};
 
 use crate::lanes::DEVICES;
-use link_window::{Stamp, Took, Window};
+use link_window::{Stamp, Took, Version, Window};
 use plan_base::Dev;
 use std::alloc::{AllocError, Global};
 
 /// A window for each device, which has taken nothing.
-pub fn open_windows(alloc: Global) -> Result<Vec<Window>, AllocError>
+fn nine_windows(alloc: Global) -> Result<Vec<Window>, AllocError>
     ensures { IfOk result (λ windows. AllSeen none_seen windows.items) }
 {
     let mut windows = Vec::with_capacity(alloc, DEVICES)?;
@@ -19,6 +19,17 @@ pub fn open_windows(alloc: Global) -> Result<Vec<Window>, AllocError>
         windows.push(Window::new())?;
     }
     Ok(windows)
+}
+
+/// The windows of a node at its beginning: one for each device under version 2, and none under version 1, where no frame bears
+/// a stamp.
+pub fn open_windows(alloc: Global, version: Version) -> Result<Vec<Window>, AllocError>
+    ensures { IfOk result (λ windows. SeenUnder version none_seen windows.items) }
+{
+    match version {
+        Version::One => Ok(Vec::new(alloc)),
+        Version::Two => nine_windows(alloc),
+    }
 }
 
 /// What a stamp would be taken as on a device. Takes no memory.

@@ -13,7 +13,6 @@ use link_window::{Stamp, Version};
 use packet_frame::{Frame, put_advert, put_advert2, put_packet, put_packet2, with_link};
 use plan_base::{Bytes, Family, Name, NoMemory};
 use plan_copies::copy_handler;
-use plan_items::Boxed;
 use service_api::Advert;
 use std::alloc::Global;
 use std::marker::Model;
@@ -30,15 +29,22 @@ pub enum What {
     Advert,
 }
 
-/// A packet with a typed chunk or an advert, kept as the bytes of its frame, which contracts see as that frame with its
-/// stamp. What it holds stands beside the bytes, and where these are few, the packet itself, so that it need not be read again.
+/// What stands beside the bytes of a frame, so that they need not be read again: how they are read, what they hold, and
+/// where they are few, the frame itself.
 #[derive(Drop)]
-pub struct SpelledFrame {
+struct Beside {
     version: Version,
     stamp: Option<Stamp>,
-    bytes: Bytes,
     what: What,
-    frame: Option<Boxed<Frame>>,
+    frame: Option<Frame>,
+}
+
+/// A packet with a typed chunk or an advert, kept as the bytes of its frame, which contracts see as that frame with its
+/// stamp. What stands beside them is boxed, since a queue has room for many frames and holds few.
+#[derive(Drop)]
+pub struct SpelledFrame {
+    bytes: Bytes,
+    beside: Box<Beside>,
 }
 
 impl Model for SpelledFrame {
@@ -50,10 +56,11 @@ impl Model for SpelledFrame {
 
     ghost coded = { whole.the_row.coded };
 
-    ghost view = { λ s. frame_in s.version s.bytes };
+    ghost view = { λ s. frame_in s.beside.value.version s.bytes };
 
-    ghost invariant = { λ s. IsSpelled s.version s.bytes s.what
-        × IsBeside (frame_in s.version s.bytes) s.stamp s.frame };
+    ghost invariant = { λ s. IsSpelled s.beside.value.version s.bytes s.beside.value.what
+        × IsBeside (frame_in s.beside.value.version s.bytes) s.beside.value.stamp
+        s.beside.value.frame };
 }
 
 /// The version of the frames that bear this stamp, or none. Takes no memory.
@@ -125,22 +132,25 @@ pub fn copy_packet(alloc: Global, packet: &CheckedPacket) -> Result<CheckedPacke
     Ok(with_handler(bare, handler))
 }
 
-/// The packet with another bound, where its frame has few bytes.
-fn packet_beside(
-    alloc: Global,
-    packet: CheckedPacket,
-    bound: u32,
-    bytes: &Bytes,
-) -> Result<Option<Boxed<Frame>>, NoMemory>
+/// The packet with another bound, where its frame has few bytes. Takes no memory.
+fn packet_beside(packet: CheckedPacket, bound: u32, bytes: &Bytes) -> Option<Frame>
     requires { bound ≤ 65535 }
-    ensures { IfOk result
-        (λ frame. IsFrame (PlainFrame.Packet (record packet { bound = bound })) frame) }
+    ensures { IsFrame (PlainFrame.Packet (record packet { bound = bound })) result }
 {
     if bytes.len() > SHORT_FRAME {
-        return Ok(None);
+        return None;
     }
-    let own = packet.with_bound(bound);
-    Ok(Some(Boxed::new(alloc, Frame::Packet(own))?))
+    Some(Frame::Packet(packet.with_bound(bound)))
+}
+
+/// What stands beside bytes, in a box.
+fn boxed(alloc: Global, beside: Beside) -> Result<Box<Beside>, NoMemory>
+    ensures { IfOk result (λ b. b.value ≡ beside) }
+{
+    match Box::new(alloc, beside) {
+        Ok(b) => Ok(b),
+        Err(_) => Err(NoMemory),
+    }
 }
 
 /// Whether this is the same version.
@@ -184,13 +194,16 @@ impl SpelledFrame {
     {
         let bytes = packet_bytes(alloc, &packet, bound, mark)?;
         let what = What::Packet(packet.family(), bound);
-        let frame = packet_beside(alloc, packet, bound, &bytes)?;
-        Ok(SpelledFrame {
+        let frame = packet_beside(packet, bound, &bytes);
+        let beside = Beside {
             version: version_of(mark),
             stamp: mark,
-            bytes,
             what,
             frame,
+        };
+        Ok(SpelledFrame {
+            bytes,
+            beside: boxed(alloc, beside)?,
         })
     }
 
@@ -209,12 +222,15 @@ impl SpelledFrame {
         }) }
     {
         let bytes = advert_bytes(alloc, advert, mark)?;
-        Ok(SpelledFrame {
+        let beside = Beside {
             version: version_of(mark),
             stamp: mark,
-            bytes,
             what: What::Advert,
             frame: None,
+        };
+        Ok(SpelledFrame {
+            bytes,
+            beside: boxed(alloc, beside)?,
         })
     }
 
@@ -222,14 +238,14 @@ impl SpelledFrame {
     pub fn what(&self) -> What
         ensures { result ≡ spec.what_of self.now.frame }
     {
-        self.what
+        self.beside.what
     }
 
     /// Its stamp, where it bears one. Takes no memory.
     pub fn stamp(&self) -> Option<Stamp>
         ensures { result ≡ self.now.stamp }
     {
-        self.stamp
+        self.beside.stamp
     }
 
     /// The frame itself, where it stands beside its bytes and they are read by this version. Takes no memory.
@@ -238,12 +254,12 @@ impl SpelledFrame {
         ensures frame { IfSome result (λ x. plain_of x.now ≡ self.now.frame) }
         ensures version { IfSome result (λ x. version ≡ spec.version_of self.now.stamp) }
     {
-        if !is_same(version, self.version) {
+        if !is_same(version, self.beside.version) {
             return None;
         }
-        match &self.frame {
+        match &self.beside.frame {
             None => None,
-            Some(frame) => Some(frame.get()),
+            Some(frame) => Some(frame),
         }
     }
 
@@ -252,7 +268,7 @@ impl SpelledFrame {
     pub fn is_stamped(&self) -> bool
         ensures { result ≡ spec.is_stamped self.now.stamp }
     {
-        match self.version {
+        match self.beside.version {
             Version::One => false,
             Version::Two => true,
         }
@@ -263,7 +279,7 @@ impl SpelledFrame {
     pub fn version(&self) -> Version
         ensures { result ≡ spec.version_of self.now.stamp }
     {
-        self.version
+        self.beside.version
     }
 
     /// The bytes of the frame, at most 16,512. Takes no memory.
@@ -286,61 +302,47 @@ impl SpelledFrame {
     pub fn with_number(self, link: u64) -> SpelledFrame
         ensures { result ≡ spec.numbered_frame link self }
     {
-        let SpelledFrame {
-            version,
-            stamp,
-            bytes,
-            what,
-            frame,
-        } = self;
-        match version {
-            Version::One => same_number(stamp, bytes, what, frame, link),
-            Version::Two => other_number(stamp, bytes, what, frame, link),
+        let SpelledFrame { bytes, beside } = self;
+        match beside.version {
+            Version::One => same_number(bytes, beside, link),
+            Version::Two => other_number(bytes, beside, link),
         }
     }
 }
 
+/// What stands beside bytes, for those with this number.
+fn beside_numbered(beside: Box<Beside>, link: u64) -> Box<Beside>
+    ensures { result.value
+        ≡ record beside.value { stamp = spec.stamp_with link beside.value.stamp } }
+{
+    let mut numbered = beside;
+    let stamp = numbered.stamp;
+    numbered.stamp = stamp_with(link, stamp);
+    numbered
+}
+
 /// A frame of version 1, which has no number.
 #[tactic(auto, using(crate::proofs::Reading::one_numbered))]
-fn same_number(
-    stamp: Option<Stamp>,
-    bytes: Bytes,
-    what: What,
-    frame: Option<Boxed<Frame>>,
-    link: u64,
-) -> SpelledFrame
-    requires spelled { IsSpelled One bytes what }
-    requires beside { IsBeside (frame_in One bytes) stamp frame }
+fn same_number(bytes: Bytes, beside: Box<Beside>, link: u64) -> SpelledFrame
+    requires version { beside.value.version ≡ One }
+    requires spelled { IsSpelled One bytes beside.value.what }
+    requires beside { IsBeside (frame_in One bytes) beside.value.stamp beside.value.frame }
     ensures { result ≡ spec.numbered_frame link (frame_in One bytes) }
 {
     let _link = link;
-    SpelledFrame {
-        version: Version::One,
-        stamp,
-        bytes,
-        what,
-        frame,
-    }
+    SpelledFrame { bytes, beside }
 }
 
 /// A frame of version 2 with this number.
 #[tactic(auto, using(crate::proofs::Reading::has_stamp, crate::proofs::Reading::two_numbered, crate::proofs::Reading::two_spelled))]
-fn other_number(
-    stamp: Option<Stamp>,
-    bytes: Bytes,
-    what: What,
-    frame: Option<Boxed<Frame>>,
-    link: u64,
-) -> SpelledFrame
-    requires spelled { IsSpelled Two bytes what }
-    requires beside { IsBeside (frame_in Two bytes) stamp frame }
+fn other_number(bytes: Bytes, beside: Box<Beside>, link: u64) -> SpelledFrame
+    requires version { beside.value.version ≡ Two }
+    requires spelled { IsSpelled Two bytes beside.value.what }
+    requires beside { IsBeside (frame_in Two bytes) beside.value.stamp beside.value.frame }
     ensures { result ≡ spec.numbered_frame link (frame_in Two bytes) }
 {
     SpelledFrame {
-        version: Version::Two,
-        stamp: stamp_with(link, stamp),
         bytes: with_link(bytes, link),
-        what,
-        frame,
+        beside: beside_numbered(beside, link),
     }
 }

@@ -1,7 +1,7 @@
 use Rattle.std.proofs.Common.{◌≡◌, ◌-◌, ◌≤◌, length, replicate}
 use Rattle.link_window.specs.Seen.{nothing_seen}
 use Rattle.node_parts.specs.Windows.{AllSeen}
-use Rattle.node_parts.proofs.windows.open_windows.Given as goal
+use Rattle.node_parts.proofs.windows.nine_windows.Given as goal
 
 abbrev pub invariant-loop-windows : goal.invariant-loop-windows
 invariant-loop-windows l = record {

@@ -3,7 +3,7 @@ use Rattle.std.proofs.lemmas.List.{length_push}
 use Rattle.link_window.specs.Seen.{nothing_seen}
 use Rattle.node_parts.specs.Windows.{AllSeen}
 use Rattle.node_parts.proofs.WindowLaws.{opened_more}
-use Rattle.node_parts.proofs.windows.open_windows.Goals as goal
+use Rattle.node_parts.proofs.windows.nine_windows.Goals as goal
 
 pub loop-windows-preserved : goal.loop-windows-preserved
 loop-windows-preserved c =
