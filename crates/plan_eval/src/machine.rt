@@ -1,5 +1,5 @@
 //! The turns of a visit.
-ghost use Rattle.std.specs.Prelude.{◌≡◌, ◌≢◌, ◌+◌, ◌<◌, ◌≤◌, ◌∷◌, ◌++◌, [], ℕ, List, IfOk, IsSome, Some, slice_get};
+ghost use Rattle.std.specs.Prelude.{◌≡◌, ◌≢◌, ◌+◌, ◌<◌, ◌≤◌, ◌∷◌, ◌++◌, [], ℕ, List, IfOk, IsSome, Some, min, slice_get};
 ghost use Rattle.plan_meaning.specs.State.{joined_state};
 ghost use Rattle.plan_meaning.specs.Safe.{IsSafe};
 ghost use Rattle.visit_state.specs.Meets.{Meets};
@@ -12,12 +12,16 @@ ghost use Rattle.plan_meaning.specs.Run.{RunStep, stopped};
 ghost use Rattle.eval_flow.specs.Direct.{Flows, Grows, IsProgramSize, Lasts, Spends};
 ghost use Rattle.plan_eval.specs.Tasks.{Performs, task_step};
 ghost use Rattle.eval_steps.specs.Stack.{Spot, spot_in, ended_frame, all_ended, AreLinked, stands_for};
-ghost use Rattle.eval_flow.specs.Turns.{Stands, Turned, load};
+ghost use Rattle.eval_flow.specs.Turns.{Stands, Turned, entry, load};
+ghost use Rattle.plan_base.specs.Sizes.{code_size};
+ghost use Rattle.plan_meaning.specs.Meaning.{meaning};
 
-use crate::task::{Task, passes_on, perform};
+use crate::task::{DEPTH, Task, passes_on, perform};
+use eval_direct::evaluate;
 use eval_flow::{Flow, Here, ProgramSize, size_of, stack_rest};
 use eval_steps::{Activation, Activations, Codes, Mode, expr_from};
-use plan_base::{Exn, Value};
+use plan_base::{Chunk, Exn, Value};
+use plan_copies::copy_values;
 use plan_items::Items;
 use plan_meaning::EvalStop;
 use service_api::Services;
@@ -311,40 +315,96 @@ fn run<S: Services>(
     }
 }
 
-/// Runs an activation to its end. Its first turn needs no stack.
+/// The activation with which a visit starts: the function at that place.
+fn first_activation(alloc: Global, chunk: &Chunk, fun: usize) -> Result<Activation, EvalStop>
+    ensures { IfOk result (λ activation. activation ≡ entry 0 fun chunk.now.args) }
+{
+    Ok(Activation {
+        code: 0,
+        fun,
+        args: copy_values(alloc, chunk.args.as_slice())?,
+        frames: Items::new(alloc),
+    })
+}
+
+/// How far the function with which a visit starts comes on the native stack, over the arguments as
+/// they stand in the chunk.
+fn run_first<S: Services>(
+    alloc: Global,
+    codes: &mut Codes,
+    size: u64,
+    chunk: &Chunk,
+    fun: usize,
+    state: &mut State,
+    svc: &mut S,
+) -> Result<Flow, EvalStop>
+    requires open { IsSome (S.stands svc.old).begun }
+    requires program { slice_get codes.old 0 ≡ Some chunk.now.code }
+    requires size { size ≡ min (code_size chunk.now.code) 18446744073709551615 }
+    requires linked { IsSome (spot_in codes.old (entry 0 fun chunk.now.args)) }
+    requires safe { (code : Code) (at : Spot) → slice_get codes.old 0 ≡ Some code →
+        spot_in codes.old (entry 0 fun chunk.now.args) ≡ Some at
+        → IsSafe (meaning code fun at.env at.expr
+        (joined_state state.old (S.stands svc.old))).asks }
+    ensures flows { (code : Code) (at : Spot) → slice_get codes.old 0 ≡ Some code →
+        spot_in codes.old (entry 0 fun chunk.now.args) ≡ Some at
+        → Flows codes.new code fun at (meaning code fun at.env at.expr
+        (joined_state state.old (S.stands svc.old))) result
+        (joined_state state.new (S.stands svc.new)) }
+    ensures grown { Grows codes.old codes.new }
+    ensures offer { (S.stands svc.new).offer ≡ (S.stands svc.old).offer }
+    ensures begun { (S.stands svc.new).begun ≡ (S.stands svc.old).begun }
+{
+    let Some(function) = chunk.code.get().funs.get(fun) else {
+        return Err(EvalStop::Wrong);
+    };
+    let here = Here {
+        code: &chunk.code,
+        number: 0,
+        size,
+        fun,
+        function,
+        args: chunk.args.as_slice(),
+        frames: &[],
+        bindings: &[],
+    };
+    evaluate(alloc, codes, &here, &function.body, DEPTH, state, svc)
+}
+
+/// Runs a chunk from the function at that place to its end. The arguments are copied where the native
+/// stack is used up.
 pub fn run_from<S: Services>(
     alloc: Global,
     codes: Codes,
     first: ProgramSize,
-    top: Activation,
+    chunk: &Chunk,
+    fun: usize,
     state: &mut State,
     svc: &mut S,
 ) -> Result<Value, EvalStop>
     requires open { IsSome (S.stands svc.old).begun }
-    requires sized { IsProgramSize codes first }
-    requires linked { AreLinked codes (top ∷ []) }
-    requires safe { IsSafe (stands_for codes (top ∷ []) mode.Run
+    requires program { slice_get codes 0 ≡ Some chunk.now.code }
+    requires number { first.number ≡ 0 }
+    requires size { first.size ≡ min (code_size chunk.now.code) 18446744073709551615 }
+    requires linked { AreLinked codes (entry 0 fun chunk.now.args ∷ []) }
+    requires safe { IsSafe (stands_for codes (entry 0 fun chunk.now.args ∷ []) mode.Run
         (joined_state state.old (S.stands svc.old))).asks }
-    ensures meets { Meets (stands_for codes (top ∷ []) mode.Run
+    ensures meets { Meets (stands_for codes (entry 0 fun chunk.now.args ∷ []) mode.Run
         (joined_state state.old (S.stands svc.old))) result
         (joined_state state.new (S.stands svc.new)) }
     ensures offer { (S.stands svc.new).offer ≡ (S.stands svc.old).offer }
     ensures begun { (S.stands svc.new).begun ≡ (S.stands svc.old).begun }
 {
     let mut programs = codes;
-    let mut last = first;
-    let mut stack = Items::new(alloc);
-    match turn(
-        alloc,
-        &mut programs,
-        &mut last,
-        &mut stack,
-        top,
-        Mode::Run,
-        state,
-        svc,
-    ) {
-        Ok(how) => run(alloc, programs, last, stack, how, state, svc),
-        Err(stop) => Err(stop),
+    match run_first(alloc, &mut programs, first.size, chunk, fun, state, svc) {
+        Ok(Flow::Done(v)) => Ok(v),
+        flow => {
+            let top = first_activation(alloc, chunk, fun)?;
+            let mut stack = Items::new(alloc);
+            match land_flow(&mut stack, top, flow) {
+                Ok(how) => run(alloc, programs, first, stack, how, state, svc),
+                Err(stop) => Err(stop),
+            }
+        }
     }
 }

@@ -11,14 +11,12 @@ ghost use Rattle.plan_meaning.specs.Meaning.{meaning, visited_chunk};
 ghost use Rattle.plan_meaning.specs.Safe.{IsSafe, AreGoodNotes, AreGoodPackets};
 ghost use Rattle.meaning_laws.specs.Laws.{VisitEnds, VisitsAlike, NoneSuffices};
 ghost use Rattle.visit_state.specs.Meets.{Meets};
-ghost use Rattle.eval_flow.specs.Turns.{entry};
 
 use crate::machine::run_from;
 use chunk_types::CheckedPacket;
 use eval_flow::{ProgramSize, enters};
-use eval_steps::{Activation, Codes};
+use eval_steps::Codes;
 use plan_base::{Chunk, Family, NoMemory, Value};
-use plan_copies::copy_values;
 use plan_items::Items;
 use plan_meaning::{EvalStop, Outcome, Visit};
 use service_api::{Ctx, Services};
@@ -49,18 +47,6 @@ fn first_codes(alloc: Global, chunk: &Chunk) -> Result<Codes, NoMemory>
     Ok(Items::from_vec(codes))
 }
 
-/// The activation with which a visit starts: the function at that place.
-fn first_activation(alloc: Global, chunk: &Chunk, fun: usize) -> Result<Activation, NoMemory>
-    ensures { IfOk result (λ activation. activation ≡ entry 0 fun chunk.now.args) }
-{
-    Ok(Activation {
-        code: 0,
-        fun,
-        args: copy_values(alloc, chunk.args.as_slice())?,
-        frames: Items::new(alloc),
-    })
-}
-
 /// Runs a chunk from its entry to its end.
 fn run_chunk<S: Services>(
     alloc: Global,
@@ -86,9 +72,8 @@ fn run_chunk<S: Services>(
         return Err(EvalStop::Wrong);
     }
     let codes = first_codes(alloc, chunk)?;
-    let top = first_activation(alloc, chunk, fun)?;
     let first = ProgramSize { number: 0, size };
-    run_from(alloc, codes, first, top, state, svc)
+    run_from(alloc, codes, first, chunk, fun, state, svc)
 }
 
 /// What the visit of a chunk ends with.

@@ -16,22 +16,21 @@ returns-then-not-enters-clause-meets g c = λ other.
     let place : place_of c.args.chunk.now.entry c.args.chunk.now.code.funs ≡ Some c.in-Some.fun = cc in
     (visited_on c.args.chunk.now c.in-Some.fun _ place).same ∙ c.if-not-enters.ensures.no refl _
 
-pub run_from-requires-clause-sized : goal.run_from-requires-clause-sized
-run_from-requires-clause-sized g c =
-    record { program = c.args.chunk.now.code; there = rw c.in_ok-codes.ensures refl; is = c.requires.size }
+pub run_from-requires-clause-program : goal.run_from-requires-clause-program
+run_from-requires-clause-program g c = rw c.in_ok-codes.ensures refl
 
 pub run_from-requires-clause-linked : goal.run_from-requires-clause-linked
 run_from-requires-clause-linked g c =
-    rw (c.in_ok-codes.ensures, c.in_ok-top.ensures) (starts_linked c.args.chunk.now c.in-Some.fun (c.if-not-enters.ensures.yes refl))
+    rw c.in_ok-codes.ensures (starts_linked c.args.chunk.now c.in-Some.fun (c.if-not-enters.ensures.yes refl))
 
 pub run_from-requires-clause-safe : goal.run_from-requires-clause-safe
 run_from-requires-clause-safe g c =
     let place : place_of c.args.chunk.now.entry c.args.chunk.now.code.funs ≡ Some c.in-Some.fun = cc in
-    rw (c.in_ok-codes.ensures, c.in_ok-top.ensures)
+    rw c.in_ok-codes.ensures
     ((starts c.args.chunk.now c.in-Some.fun (joined_state c.args.state.now (g.S.Services.stands c.args.svc.now)) place (c.if-not-enters.ensures.yes refl)).safe c.requires.safe)
 
 pub returns-clause-meets : goal.returns-clause-meets
 returns-clause-meets g c =
     let place : place_of c.args.chunk.now.entry c.args.chunk.now.code.funs ≡ Some c.in-Some.fun = cc in
     meets_from _ _ c.run_from.result _ (starts c.args.chunk.now c.in-Some.fun (joined_state c.args.state.now (g.S.Services.stands c.args.svc.now)) place (c.if-not-enters.ensures.yes refl))
-    (rw (c.in_ok-codes.ensures, c.in_ok-top.ensures) at c.run_from.ensures.meets)
+    (rw c.in_ok-codes.ensures at c.run_from.ensures.meets)
