@@ -141,18 +141,6 @@ impl Ledger {
         self.put(place, row.with_hop());
     }
 
-    /// Moves `n` of what a family still has to its evals. Takes no memory. Condition: it still has `n`, where
-    /// a family without a row has 0.
-    pub fn eval(&mut self, f: Family, n: u32)
-        requires live { n ≤ (counts_of f self.old).live }
-        ensures { self.new ≡ changed_rows (paid n) f self.old }
-    {
-        let Some((place, row)) = self.find(f) else {
-            return;
-        };
-        self.put(place, row.with_evals(n));
-    }
-
     /// Moves `n` of what a family still has to what it left. Takes no memory. Condition: it still has `n`,
     /// where a family without a row has 0.
     pub fn leave(&mut self, f: Family, n: u32)
