@@ -53,11 +53,11 @@ impl<S: Services + Drop> Growth<S> {
 
 impl<S: Services> Growth<S> {
     /// Makes an event and counts its lines.
-    fn make(&mut self, alloc: Global, event: &WorldEvent) -> Result<(), NoMemory>
-        requires { CanMake S.stands self.old event.now }
-        ensures { MakesEvent S.stands event.now self.old self.new result }
+    fn make(&mut self, alloc: Global, event: WorldEvent) -> Result<(), NoMemory>
+        requires { CanMake S.stands self.old event }
+        ensures { MakesEvent S.stands event self.old self.new result }
     {
-        let late = self.world.is_late(event);
+        let late = self.world.is_late(&event);
         let lines = self.world.step(alloc, event)?;
         count_lines(&mut self.ledger, lines.as_slice(), late)?;
         self.summary.count(lines.as_slice());
@@ -72,7 +72,7 @@ impl<S: Services> Growth<S> {
     {
         for _made in 0..events {
             let event = next_event(alloc, code, &self.world, &mut self.words)?;
-            self.make(alloc, &event)?;
+            self.make(alloc, event)?;
         }
         Ok(())
     }

@@ -104,20 +104,20 @@ module _ (w : WorldState) (es : List WorldEvent) (i : ℕ) (e : WorldEvent) (wit
   history_next : history_of (take i es) w ++ entries (world_after (take i es) w) e ≡ history_of (take (i + 1) es) w
   history_next = sym (history_of-push (take i es) e w) ∙ ap (λ x. history_of x w) (sym next_events)
 
-  pub stands_next : {S : Type 0} (stands : S → ServiceState) (n : Network S) → WorldStands stands n (happens (world_after (take i es) w) e).world → WorldStands stands n (world_after (take (i + 1) es) w)
-  stands_next stands n h = subst (WorldStands stands n) world_next h
+  pub stands_next : {S : Type 0} (stands : S → ServiceState) (n : Network S) (k : ℕ) → k ≡ i + 1 → WorldStands stands n (happens (world_after (take i es) w) e).world → WorldStands stands n (world_after (take k es) w)
+  stands_next stands n k c h = subst (WorldStands stands n) (world_next ∙ ap (λ m. world_after (take m es) w) (sym c)) h
 
-  pub counts_next : (rows : List FamilyRow) → Stands (history_of (take i es) w ++ entries (world_after (take i es) w) e) rows → Stands (history_of (take (i + 1) es) w) rows
-  counts_next rows h = subst (λ x. Stands x rows) history_next h
+  pub counts_next : (rows : List FamilyRow) (k : ℕ) → k ≡ i + 1 → Stands (history_of (take i es) w ++ entries (world_after (take i es) w) e) rows → Stands (history_of (take k es) w) rows
+  counts_next rows k c h = subst (λ x. Stands x rows) (history_next ∙ ap (λ m. history_of (take m es) w) (sym c)) h
 
   module _ (frames : Bool) where
     -- the text of one more of some events
     text_more : entries_text frames (history_of (take (i + 1) es) w) ≡ entries_text frames (history_of (take i es) w) ++ entries_text frames (entries (world_after (take i es) w) e)
     text_more = ap (entries_text frames) (sym history_next) ∙ entries_text-append frames (history_of (take i es) w) (entries (world_after (take i es) w) e)
 
-    pub waits_next : (old mid new : SinkState) (text left : List ℕ) → IsWaiting old mid text (entries_text frames (history_of (take i es) w)) → IsWaiting mid new left (text ++ entries_text frames (entries (world_after (take i es) w) e))
-        → IsWaiting old new left (entries_text frames (history_of (take (i + 1) es) w))
-    waits_next old mid new text left a b = subst (IsWaiting old new left) (sym text_more)
+    pub waits_next : (old mid new : SinkState) (text left : List ℕ) (k : ℕ) → k ≡ i + 1 → IsWaiting old mid text (entries_text frames (history_of (take i es) w)) → IsWaiting mid new left (text ++ entries_text frames (entries (world_after (take i es) w) e))
+        → IsWaiting old new left (entries_text frames (history_of (take k es) w))
+    waits_next old mid new text left k c a b = subst (IsWaiting old new left) (sym text_more ∙ ap (λ m. entries_text frames (history_of (take m es) w)) (sym c))
         (waits_more old mid new text left (entries_text frames (history_of (take i es) w)) (entries_text frames (entries (world_after (take i es) w) e)) a b)
 
     -- the text of some events, of one more, and of the rest

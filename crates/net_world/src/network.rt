@@ -78,14 +78,14 @@ impl<S: Services> Network<S> {
         &mut self,
         alloc: Global,
         host: Host,
-        chunk: &CheckedChunk,
+        chunk: CheckedChunk,
         bound: u32,
-        handler: &Option<Name>,
+        handler: Option<Name>,
     ) -> Result<Lines, NoMemory>
         requires small { bound ≤ 65535 }
-        requires handler { MayName self.old.version chunk.now handler.now }
+        requires handler { MayName self.old.version chunk handler }
         ensures ok { (w : WorldState) → WorldStands S.stands self.old w → IfOk result (λ lines.
-            IsActed S.stands (spec.injects w host chunk.now bound handler.now) lines self.new) }
+            IsActed S.stands (spec.injects w host chunk bound handler) lines self.new) }
         ensures next { self.new.next ≡ self.old.next }
         ensures made { self.new.made ≡ self.old.made }
     {
@@ -198,11 +198,11 @@ impl<S: Services> Network<S> {
     }
 
     /// An event, which isn't counted yet, and its lines.
-    pub fn act(&mut self, alloc: Global, event: &WorldEvent) -> Result<Lines, NoMemory>
-        requires fits { event_fits self.old.version event.now }
+    pub fn act(&mut self, alloc: Global, event: WorldEvent) -> Result<Lines, NoMemory>
+        requires fits { event_fits self.old.version event }
         requires few { self.old.next < 2 ^ 32 - 1 }
         ensures ok { (w : WorldState) → WorldStands S.stands self.old w
-            → IfOk result (λ lines. IsActed S.stands (spec.acted_event w event.now) lines
+            → IfOk result (λ lines. IsActed S.stands (spec.acted_event w event) lines
             self.new) }
         ensures next { self.new.next ≤ self.old.next + 1 }
         ensures still { OnErr result (self.new.next ≡ self.old.next) }
@@ -210,14 +210,14 @@ impl<S: Services> Network<S> {
     {
         match event {
             WorldEvent::Inject(host, chunk, bound, handler) => {
-                self.inject(alloc, *host, chunk, *bound, handler)
+                self.inject(alloc, host, chunk, bound, handler)
             }
-            WorldEvent::Send(host, dev) => self.send(alloc, *host, *dev),
-            WorldEvent::Deliver(number) => self.hand(alloc, Handing::Taking, *number),
-            WorldEvent::Repeat(number) => self.hand(alloc, Handing::Leaving, *number),
-            WorldEvent::Lose(number) => self.lose(alloc, *number),
-            WorldEvent::Tick(host) => self.tick(alloc, *host),
-            WorldEvent::Raw(host, dev, bytes) => self.raw(alloc, *host, *dev, bytes.as_slice()),
+            WorldEvent::Send(host, dev) => self.send(alloc, host, dev),
+            WorldEvent::Deliver(number) => self.hand(alloc, Handing::Taking, number),
+            WorldEvent::Repeat(number) => self.hand(alloc, Handing::Leaving, number),
+            WorldEvent::Lose(number) => self.lose(alloc, number),
+            WorldEvent::Tick(host) => self.tick(alloc, host),
+            WorldEvent::Raw(host, dev, bytes) => self.raw(alloc, host, dev, bytes.as_slice()),
         }
     }
 

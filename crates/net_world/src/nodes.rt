@@ -56,18 +56,18 @@ pub fn version_at<S: Services>(nodes: &[Node<S>], at: usize) -> Version
 fn inject_one<S: Services>(
     alloc: Global,
     node: &mut Node<S>,
-    chunk: &CheckedChunk,
+    chunk: CheckedChunk,
     bound: u32,
-    handler: &Option<Name>,
+    handler: Option<Name>,
 ) -> Result<Acts, NoMemory>
     requires small { bound ≤ 65535 }
-    requires handler { MayHandle chunk.now handler.now }
+    requires handler { MayHandle chunk handler }
     ensures { (s : NodeState) → NodeStands S.stands node.old s
-        → MayName s.version chunk.now handler.now → IfOk result
-        (λ acts. IsStep S.stands (inject_step [] s chunk.now bound handler.now) acts node.new) }
+        → MayName s.version chunk handler → IfOk result
+        (λ acts. IsStep S.stands (inject_step [] s chunk bound handler) acts node.new) }
 {
     match node.version() {
-        Version::One => node.inject(alloc, chunk, bound, &None),
+        Version::One => node.inject(alloc, chunk, bound, None),
         Version::Two => node.inject(alloc, chunk, bound, handler),
     }
 }
@@ -77,16 +77,16 @@ pub fn inject_at<S: Services>(
     alloc: Global,
     nodes: &mut [Node<S>],
     at: usize,
-    chunk: &CheckedChunk,
+    chunk: CheckedChunk,
     bound: u32,
-    handler: &Option<Name>,
+    handler: Option<Name>,
 ) -> Result<Acts, NoMemory>
     requires within { at < length nodes.old }
     requires small { bound ≤ 65535 }
-    requires handler { MayHandle chunk.now handler.now }
+    requires handler { MayHandle chunk handler }
     ensures { (states : List NodeState) → AllStand S.stands nodes.old states
-        → MayNameAt states at chunk.now handler.now → IfOk result (λ acts. StepsAt S.stands
-        (λ node. inject_step [] node chunk.now bound handler.now) states at acts nodes.new) }
+        → MayNameAt states at chunk handler → IfOk result (λ acts. StepsAt S.stands
+        (λ node. inject_step [] node chunk bound handler) states at acts nodes.new) }
 {
     inject_one(alloc, &mut nodes[at], chunk, bound, handler)
 }

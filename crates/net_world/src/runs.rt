@@ -44,23 +44,23 @@ fn make_event<S: Services>(
     world: &mut World<S>,
     ledger: &mut Ledger,
     frames: bool,
-    event: &WorldEvent,
+    event: WorldEvent,
     text: &mut Bytes,
 ) -> Result<(), NoMemory>
-    requires fits { event_fits world.old.version event.now }
+    requires fits { event_fits world.old.version event }
     requires few { world.old.made < 2 ^ 32 - 2 }
-    requires counts { IsCountable S.stands world.old event.now ledger.old }
+    requires counts { IsCountable S.stands world.old event ledger.old }
     ensures text { (w : WorldState) → WorldStands S.stands world.old w
-        → OnOk result (text.new ≡ text.old ++ entries_text frames (spec.entries w event.now)) }
+        → OnOk result (text.new ≡ text.old ++ entries_text frames (spec.entries w event)) }
     ensures world { (w : WorldState) → WorldStands S.stands world.old w
-        → OnOk result (WorldStands S.stands world.new (spec.happens w event.now).world) }
+        → OnOk result (WorldStands S.stands world.new (spec.happens w event).world) }
     ensures ledger { (w : WorldState) (h : List EntryOf) → WorldStands S.stands world.old w
-        → AllLeave h w event.now → Stands h ledger.old
-        → OnOk result (Stands (h ++ spec.entries w event.now) ledger.new) }
+        → AllLeave h w event → Stands h ledger.old
+        → OnOk result (Stands (h ++ spec.entries w event) ledger.new) }
     ensures made { OnOk result (world.new.made ≡ world.old.made + 1) }
 {
     let number = world.event_count() + 1;
-    let late = world.is_late(event);
+    let late = world.is_late(&event);
     let lines = world.step(alloc, event)?;
     count_lines(ledger, lines.as_slice(), late)?;
     put_all_lines(alloc, text, frames, number, lines.as_slice())?;
@@ -88,21 +88,21 @@ fn run_event<S: Services, K: Sink>(
     world: &mut World<S>,
     ledger: &mut Ledger,
     frames: bool,
-    event: &WorldEvent,
+    event: WorldEvent,
     text: Bytes,
     out: &mut K,
 ) -> Result<Bytes, RunFault>
-    requires fits { event_fits world.old.version event.now }
+    requires fits { event_fits world.old.version event }
     requires few { world.old.made < 2 ^ 32 - 2 }
-    requires counts { IsCountable S.stands world.old event.now ledger.old }
+    requires counts { IsCountable S.stands world.old event ledger.old }
     ensures waits { (w : WorldState) → WorldStands S.stands world.old w
-        → WaitsFor (text ++ entries_text frames (spec.entries w event.now))
+        → WaitsFor (text ++ entries_text frames (spec.entries w event))
         (K.state out.old) (K.state out.new) result }
     ensures world { (w : WorldState) → WorldStands S.stands world.old w
-        → OnOk result (WorldStands S.stands world.new (spec.happens w event.now).world) }
+        → OnOk result (WorldStands S.stands world.new (spec.happens w event).world) }
     ensures ledger { (w : WorldState) (h : List EntryOf) → WorldStands S.stands world.old w
-        → AllLeave h w event.now → Stands h ledger.old
-        → OnOk result (Stands (h ++ spec.entries w event.now) ledger.new) }
+        → AllLeave h w event → Stands h ledger.old
+        → OnOk result (Stands (h ++ spec.entries w event) ledger.new) }
     ensures made { OnOk result (world.new.made ≡ world.old.made + 1) }
 {
     let mut waiting = text;
@@ -119,25 +119,25 @@ fn run_event<S: Services, K: Sink>(
 /// the network, and nothing was counted.
 fn run_events<S: Services, K: Sink>(
     alloc: Global,
-    schedule: &Schedule,
+    schedule: Schedule,
     world: &mut World<S>,
     ledger: &mut Ledger,
     out: &mut K,
 ) -> Result<(), RunFault>
-    requires rules { KeepsRules schedule.now }
-    requires opening { WorldStands S.stands world.old (opening schedule.now.topology) }
+    requires rules { KeepsRules schedule }
+    requires opening { WorldStands S.stands world.old (opening schedule.topology) }
     requires empty { Stands [] ledger.old }
     ensures lines { Prints
-        (entries_text schedule.now.frames
-        (spec.history_of schedule.now.events (opening schedule.now.topology)))
+        (entries_text schedule.frames
+        (spec.history_of schedule.events (opening schedule.topology)))
         (K.state out.old) (K.state out.new) result }
     ensures ledger { OnOk result
-        (Stands (spec.history_of schedule.now.events (opening schedule.now.topology)) ledger.new) }
+        (Stands (spec.history_of schedule.events (opening schedule.topology)) ledger.new) }
 {
-    let events = schedule.events.as_slice();
+    let Schedule { frames, events, .. } = schedule;
     let mut text = Bytes::new(alloc);
-    for event in events {
-        match run_event(alloc, world, ledger, schedule.frames, event, text, out) {
+    for event in events.into_vec() {
+        match run_event(alloc, world, ledger, frames, event, text, out) {
             Ok(left) => text = left,
             Err(fault) => return Err(fault),
         }
@@ -230,14 +230,14 @@ fn write_ledger<K: Sink>(alloc: Global, ledger: &Ledger, out: &mut K) -> Result<
 /// Writes the trace and the ledger of a schedule's events. Condition: nothing has happened in the network.
 fn write_run<S: Services, K: Sink>(
     alloc: Global,
-    schedule: &Schedule,
+    schedule: Schedule,
     world: &mut World<S>,
     out: &mut K,
 ) -> Result<(), RunFault>
-    requires rules { KeepsRules schedule.now }
-    requires opening { WorldStands S.stands world.old (opening schedule.now.topology) }
+    requires rules { KeepsRules schedule }
+    requires opening { WorldStands S.stands world.old (opening schedule.topology) }
     ensures { Prints
-        (run_text schedule.now.frames schedule.now.events (opening schedule.now.topology))
+        (run_text schedule.frames schedule.events (opening schedule.topology))
         (K.state out.old) (K.state out.new) result }
 {
     let Ok(mut ledger) = Ledger::new(alloc) else {
@@ -259,15 +259,15 @@ fn write_run<S: Services, K: Sink>(
 /// Runs a schedule and writes its trace and its ledger.
 fn run_schedule<S: Services + Drop, K: Sink>(
     alloc: Global,
-    schedule: &Schedule,
+    schedule: Schedule,
     services: Items<S>,
     out: &mut K,
 ) -> Result<(), RunFault>
-    requires rules { KeepsRules schedule.now }
+    requires rules { KeepsRules schedule }
     requires services { map S.stands services
-        ≡ map spec.opening_services schedule.now.topology.hosts }
+        ≡ map spec.opening_services schedule.topology.hosts }
     ensures { Prints
-        (run_text schedule.now.frames schedule.now.events (opening schedule.now.topology))
+        (run_text schedule.frames schedule.events (opening schedule.topology))
         (K.state out.old) (K.state out.new) result }
 {
     let Ok(mut world) = World::new(alloc, &schedule.topology, services) else {
@@ -284,15 +284,15 @@ fn run_schedule<S: Services + Drop, K: Sink>(
 /// `services`: one for each host, in the order of hosts. Condition: the schedule keeps its rules.
 pub fn run<S: Services + Drop, K: Sink>(
     alloc: Global,
-    schedule: &Schedule,
+    schedule: Schedule,
     services: Items<S>,
     out: &mut K,
 ) -> Result<(), RunFault>
-    requires { CanRun S.stands schedule.now services }
+    requires { CanRun S.stands schedule services }
     ensures prints { Prints
-        (run_text schedule.now.frames schedule.now.events (opening schedule.now.topology))
+        (run_text schedule.frames schedule.events (opening schedule.topology))
         (K.state out.old) (K.state out.new) result }
-    ensures keeps { KeepsRun schedule.now }
+    ensures keeps { KeepsRun schedule }
 {
     run_schedule(alloc, schedule, services, out)
 }

@@ -106,22 +106,22 @@ impl<S: Services> World<S> {
     /// isn't used again. Conditions: an injected bound is at most 65,535, and an injection has a handler under
     /// version 2 alone, one that may handle; a device is at most 8; a frame is repeated under version 2 alone; and
     /// fewer than 2^32 - 2 events were made.
-    pub fn step(&mut self, alloc: Global, event: &WorldEvent) -> Result<Lines, NoMemory>
-        requires fits { event_within self.old.version event.now }
+    pub fn step(&mut self, alloc: Global, event: WorldEvent) -> Result<Lines, NoMemory>
+        requires fits { event_within self.old.version event }
         requires few { self.old.made < 2 ^ 32 - 2 }
         ensures ok { (w : WorldState) → WorldStands S.stands self.old w
-            → IfOk result (λ lines. IsHappened S.stands (spec.happens w event.now) lines self.new) }
+            → IfOk result (λ lines. IsHappened S.stands (spec.happens w event) lines self.new) }
         ensures made { OnOk result (self.new.made ≡ self.old.made + 1) }
         ensures balance { (f : Family) (w : WorldState) → IsSound w
-            → EventInBalance f (late_in w.wire event.now) w (spec.happens w event.now) }
+            → EventInBalance f (late_in w.wire event) w (spec.happens w event) }
         ensures sound { (w : WorldState) → w.version ≡ self.old.version → IsSound w
-            → IsSound (spec.happens w event.now).world }
+            → IsSound (spec.happens w event).world }
         ensures visits { (w : WorldState) → w.version ≡ self.old.version → IsSound w
-            → All EndsWell (event_visits w event.now) }
-        ensures routes { (w : WorldState) → Reached w → BringsNone w.version event.now
-            → KeepsRoutes w (spec.happens w event.now) }
+            → All EndsWell (event_visits w event) }
+        ensures routes { (w : WorldState) → Reached w → BringsNone w.version event
+            → KeepsRoutes w (spec.happens w event) }
     {
-        keep_types(event);
+        keep_types(&event);
         let lines = self.network.act(alloc, event)?;
         self.network.count();
         Ok(lines)

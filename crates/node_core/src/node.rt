@@ -29,6 +29,7 @@ use node_parts::{
 };
 use packet_frame::{Frame, FrameFault};
 use plan_base::{Dev, Family, Host, Name, NoMemory};
+use plan_copies::copy_handler;
 use plan_items::Items;
 use plan_types::Checked;
 use remote_calls::default_route;
@@ -277,22 +278,21 @@ impl<S: Services> Node<S> {
     fn next_packet(
         &self,
         alloc: Global,
-        chunk: &CheckedChunk,
+        chunk: CheckedChunk,
         bound: u32,
-        handler: &Option<Name>,
+        handler: Option<Name>,
     ) -> Result<CheckedPacket, NoMemory>
         requires bound { bound ≤ 65535 }
-        requires handler { MayHandle chunk.now handler.now }
-        ensures { IfOk result (λ p. p ≡ own_packet self.now.here self.now.serial chunk.now bound
-            handler.now) }
+        requires handler { MayHandle chunk handler }
+        ensures { IfOk result (λ p. p ≡ own_packet self.now.here self.now.serial chunk bound
+            handler) }
     {
         let route = default_route(alloc)?;
-        let chunk = chunk.copy(alloc)?;
         let packet = CheckedPacket::of(self.next_family(), self.here, bound, route, chunk);
         let Some(name) = handler else {
             return Ok(packet);
         };
-        Ok(packet.handled_by(name.copy(alloc)?))
+        Ok(packet.handled_by(name))
     }
 
     /// The visit of an injected packet, after some acts; the next injection gets the next serial number. Conditions: a serial
@@ -324,14 +324,14 @@ impl<S: Services> Node<S> {
         &mut self,
         alloc: Global,
         before: ActList,
-        chunk: &CheckedChunk,
+        chunk: CheckedChunk,
         bound: u32,
-        handler: &Option<Name>,
+        handler: Option<Name>,
     ) -> Result<Acts, NoMemory>
         requires small { bound ≤ 65535 }
-        requires handler { MayName (version_of self.old) chunk.now handler.now }
+        requires handler { MayName (version_of self.old) chunk handler }
         ensures ok { (s : NodeState) → NodeStands S.stands self.old s → IfOk result
-            (λ acts. IsStep S.stands (spec.inject_step before s chunk.now bound handler.now)
+            (λ acts. IsStep S.stands (spec.inject_step before s chunk bound handler)
             acts self.new) }
         ensures err { (s : NodeState) → NodeStands S.stands self.old s → OnErr result
             (NodeStands S.stands self.new s) }
@@ -352,14 +352,14 @@ impl<S: Services> Node<S> {
     pub fn inject(
         &mut self,
         alloc: Global,
-        chunk: &CheckedChunk,
+        chunk: CheckedChunk,
         bound: u32,
-        handler: &Option<Name>,
+        handler: Option<Name>,
     ) -> Result<Acts, NoMemory>
         requires small { bound ≤ 65535 }
-        requires handler { MayName (version_of self.old) chunk.now handler.now }
+        requires handler { MayName (version_of self.old) chunk handler }
         ensures ok { (s : NodeState) → NodeStands S.stands self.old s → IfOk result
-            (λ acts. IsStep S.stands (spec.inject_step [] s chunk.now bound handler.now)
+            (λ acts. IsStep S.stands (spec.inject_step [] s chunk bound handler)
             acts self.new) }
         ensures err { (s : NodeState) → NodeStands S.stands self.old s → OnErr result
             (NodeStands S.stands self.new s) }
@@ -676,10 +676,10 @@ impl<S: Services> Node<S> {
 
     /// What the owner asked.
     #[tactic(auto, using(crate::proofs::StepLaws::none_named))]
-    fn ask_frame(&mut self, alloc: Global, frame: &Frame) -> Result<Acts, NoMemory>
-        requires { asks_within (plain_of frame.now) }
+    fn ask_frame(&mut self, alloc: Global, frame: Frame) -> Result<Acts, NoMemory>
+        requires { asks_within (plain_of frame) }
         ensures ok { (s : NodeState) → NodeStands S.stands self.old s → IfOk result
-            (λ acts. IsStep S.stands (spec.asked_plain s (plain_of frame.now)) acts self.new) }
+            (λ acts. IsStep S.stands (spec.asked_plain s (plain_of frame)) acts self.new) }
         ensures err { (s : NodeState) → NodeStands S.stands self.old s → OnErr result
             (NodeStands S.stands self.new s) }
         ensures same { version_of self.new ≡ version_of self.old }
@@ -687,7 +687,7 @@ impl<S: Services> Node<S> {
         match frame {
             Frame::Ask(bound, chunk) => {
                 let before = one_act(alloc, Act::Asked)?;
-                self.admit(alloc, before, chunk, *bound, &None)
+                self.admit(alloc, before, chunk, bound, None)
             }
             _ => self.only_acts(alloc, Act::Asked, Act::Misplaced),
         }
@@ -705,7 +705,7 @@ impl<S: Services> Node<S> {
         match read_as(alloc, bytes, self.version, self.known.as_ref()) {
             Ok(stamped) => {
                 self.remember(&stamped.frame);
-                self.ask_frame(alloc, &stamped.frame)
+                self.ask_frame(alloc, stamped.frame)
             }
             Err(FrameFault::NoMemory) => Err(NoMemory),
             Err(refusal) => self.only_acts(alloc, Act::Asked, Act::Bad(refusal)),
@@ -770,7 +770,11 @@ impl<S: Services> Node<S> {
         ensures same { version_of self.new ≡ version_of self.old }
     {
         match event {
-            Event::Inject(chunk, bound, handler) => self.inject(alloc, chunk, *bound, handler),
+            Event::Inject(chunk, bound, handler) => {
+                let chunk = chunk.copy(alloc)?;
+                let handler = copy_handler(alloc, handler)?;
+                self.inject(alloc, chunk, *bound, handler)
+            }
             Event::Frame(dev, bytes) => self.arrive(alloc, *dev, bytes.as_slice()),
             Event::Control(bytes) => self.control(alloc, bytes.as_slice()),
             Event::Tick => self.tick(alloc),

@@ -99,12 +99,12 @@ impl<S: Services + Drop> Ports<S> {
 
 impl<S: Services> Ports<S> {
     /// Makes an event of the network, and gives its lines. Conditions: the event fits, and there is room to count it.
-    fn make(&mut self, alloc: Global, event: &WorldEvent) -> Result<Lines, NoMemory>
+    fn make(&mut self, alloc: Global, event: WorldEvent) -> Result<Lines, NoMemory>
         requires ready { IsStanding S.stands self.old }
-        requires fits { event_fits Two event.now }
+        requires fits { event_fits Two event }
         requires room { budget self.old + 4 ≤ 2 ^ 32 }
         ensures made { (s : PortState) → PortStands S.stands self.old s
-            → IfOk result (λ lines. IsMade S.stands event.now s lines self.new) }
+            → IfOk result (λ lines. IsMade S.stands event s lines self.new) }
         ensures cost { OnOk result (budget self.new ≡ budget self.old + 4) }
     {
         self.world.step(alloc, event)
@@ -123,7 +123,7 @@ impl<S: Services> Ports<S> {
         match self.receiver.ack(alloc, &mut self.second, FIRST) {
             Ok(chunk) => {
                 let event = injection(SECOND, chunk);
-                self.make(alloc, &event)?;
+                self.make(alloc, event)?;
                 Ok(())
             }
             Err(AckFault::NoBound) => put_told(alloc, text, number, PortLine::NoBound),
@@ -243,15 +243,15 @@ impl<S: Services> Ports<S> {
         &mut self,
         alloc: Global,
         number: u64,
-        event: &WorldEvent,
+        event: WorldEvent,
         text: &mut Bytes,
     ) -> Result<(), NoMemory>
-        requires ready { IsReady S.stands self.old (WireFew event.now) }
-        requires fits { event_fits Two event.now }
+        requires ready { IsReady S.stands self.old (WireFew event) }
+        requires fits { event_fits Two event }
         requires room { budget self.old + 4 ≤ 2 ^ 32 }
         ensures goes { (s : PortState) → PortStands S.stands self.old s
-            → OnOk result (Goes S.stands self.new (spec.after event.now s)
-            (told.wire_told number event.now s) text.old text.new) }
+            → OnOk result (Goes S.stands self.new (spec.after event s)
+            (told.wire_told number event s) text.old text.new) }
         ensures cost { OnOk result (budget self.new ≡ budget self.old + 4) }
     {
         let lines = self.make(alloc, event)?;
@@ -299,7 +299,7 @@ impl<S: Services> Ports<S> {
         match self.sender.transmit(alloc, &mut self.first, seq, SECOND) {
             Ok(chunk) => {
                 let event = injection(FIRST, chunk);
-                self.wire(alloc, number, &event, text)
+                self.wire(alloc, number, event, text)
             }
             Err(TransmitFault::NotHeld) => put_told(alloc, text, number, PortLine::Nothing),
             Err(TransmitFault::NoBound) => put_told(alloc, text, number, PortLine::NoBound),
@@ -328,11 +328,11 @@ impl<S: Services> Ports<S> {
             PortEvent::Offer(body) => self.offer(alloc, number, body, text),
             PortEvent::Transmit(seq) => self.transmit(alloc, number, *seq, text),
             PortEvent::Send(host, dev) => {
-                self.wire(alloc, number, &WorldEvent::Send(*host, *dev), text)
+                self.wire(alloc, number, WorldEvent::Send(*host, *dev), text)
             }
-            PortEvent::Deliver(k) => self.wire(alloc, number, &WorldEvent::Deliver(*k), text),
-            PortEvent::Lose(k) => self.wire(alloc, number, &WorldEvent::Lose(*k), text),
-            PortEvent::Repeat(k) => self.wire(alloc, number, &WorldEvent::Repeat(*k), text),
+            PortEvent::Deliver(k) => self.wire(alloc, number, WorldEvent::Deliver(*k), text),
+            PortEvent::Lose(k) => self.wire(alloc, number, WorldEvent::Lose(*k), text),
+            PortEvent::Repeat(k) => self.wire(alloc, number, WorldEvent::Repeat(*k), text),
         }
     }
 }

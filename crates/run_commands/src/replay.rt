@@ -38,9 +38,9 @@ pub fn services_of(alloc: Global, hosts: &[HostSpec]) -> Result<Items<Registry>,
 
 // Writes the trace and the ledger of a schedule that was read.
 #[tactic(auto, using(node_io::proofs::SinkLaws::prefix_none))]
-fn run_read<K: Sink>(alloc: Global, schedule: &Schedule, out: &mut K) -> Cause
-    requires { KeepsRules schedule.now }
-    ensures { Prints (replay_text schedule.now) result (K.state out.old) (K.state out.new) }
+fn run_read<K: Sink>(alloc: Global, schedule: Schedule, out: &mut K) -> Cause
+    requires { KeepsRules schedule }
+    ensures { Prints (replay_text schedule) result (K.state out.old) (K.state out.new) }
 {
     let Ok(services) = services_of(alloc, schedule.topology.hosts.as_slice()) else {
         return Cause::NoMemory;
@@ -115,7 +115,7 @@ impl FileCommand for Replay {
     #[tactic(auto, using(crate::proofs::Replaying::schedule_printed))]
     fn write<K: Sink>(alloc: Global, bytes: &[u8], out: &mut K) -> Cause {
         match read_schedule(alloc, bytes) {
-            Ok(schedule) => run_read(alloc, &schedule, out),
+            Ok(schedule) => run_read(alloc, schedule, out),
             Err(fault) => replay_other(alloc, bytes, fault, out),
         }
     }

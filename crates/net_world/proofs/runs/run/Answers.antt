@@ -6,7 +6,7 @@ use Rattle.net_world.proofs.runs.run.Goals as goal
 
 pub returns-clause-keeps : goal.returns-clause-keeps
 returns-clause-keeps g c =
-    let s = c.args.schedule.now in
+    let s = c.args.schedule in
     record {
       balance = prefix_balances s c.requires.rules;
       bounded = prefix_bounded s c.requires.rules;

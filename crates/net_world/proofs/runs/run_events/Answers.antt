@@ -1,4 +1,7 @@
-use Rattle.std.proofs.Common.{◌+◌, ◌<◌, ◌≤◌, [], get_or, length, sym, ap, ◌∙◌, subst, arith}
+use Rattle.std.proofs.Common.{◌+◌, [], get_or, length, sym, ap, ◌∙◌, subst, arith, rules}
+use Rattle.std.proofs.lemmas.Iterator.Adapters.{YieldsList-from_vec}
+use Rattle.std.proofs.lemmas.Iterator.Consumers.{YieldsList-turn, YieldsList-end}
+use Rattle.std.proofs.lemmas.List.{length_push}
 use Rattle.std.proofs.lemmas.List.Elements.{All-get_or}
 use Rattle.world_model.specs.World.{opening}
 use Rattle.world_model.specs.Sound.{event_fits}
@@ -10,7 +13,7 @@ use Rattle.net_world.proofs.runs.run_events.Goals as goal
 
 pub loop-event-init : goal.loop-event-init
 loop-event-init g c =
-    let s = c.args.schedule.now in
+    let s = c.args.schedule in
     record {
       world = stands_none g.S.Services.stands c.args.world.now (opening s.topology) s.events c.requires.opening;
       ledger = counts_none c.args.ledger.now (opening s.topology) s.events c.requires.empty;
@@ -20,72 +23,72 @@ loop-event-init g c =
 
 pub run_event-requires-clause-fits : goal.run_event-requires-clause-fits
 run_event-requires-clause-fits g c =
-    let s = c.args.schedule.now in
-    let within = subst (λ es. c.loop-event.event-index < length es) c.as_slice-events.ensures c.loop-event-test.true in
-    let is = c.event-item.is ∙ ap (λ es. get_or es c.loop-event.event-index c.event-item.result) c.as_slice-events.ensures in
+    let s = c.args.schedule in
+    let turn = YieldsList-turn (YieldsList-from_vec s.events (search rules) (search rules)) c.loop-event.yielded _ c.loop-event.yielded_by _ _ c.in-Some.event c.in-Some.is c.next.ensures.steps in
     let v = s.topology.version in
-    let own = subst (event_fits v) (sym is) (All-get_or (event_fits v) s.events c.loop-event.event-index c.event-item.result within (events_fit s c.requires.rules)) in
-    let same = c.loop-event.invariant.world.is.version ∙ version_at s c.requires.rules c.loop-event.event-index in
-    subst (λ u. event_fits u c.event-item.result) (sym same) own
+    let own = subst (event_fits v) (sym turn.1) (All-get_or (event_fits v) s.events (length c.loop-event.yielded) c.in-Some.event turn.0 (events_fit s c.requires.rules)) in
+    let same = c.loop-event.invariant.world.is.version ∙ version_at s c.requires.rules (length c.loop-event.yielded) in
+    subst (λ u. event_fits u c.in-Some.event) (sym same) own
 
 pub run_event-requires-clause-few : goal.run_event-requires-clause-few
 run_event-requires-clause-few g c =
-    let within = subst (λ es. c.loop-event.event-index < length es) c.as_slice-events.ensures c.loop-event-test.true in
-    omega (arith, within, c.loop-event.invariant.made, c.requires.rules.few)
+    let s = c.args.schedule in
+    let turn = YieldsList-turn (YieldsList-from_vec s.events (search rules) (search rules)) c.loop-event.yielded _ c.loop-event.yielded_by _ _ c.in-Some.event c.in-Some.is c.next.ensures.steps in
+    omega (arith, turn.0, c.loop-event.invariant.made, c.requires.rules.few)
 
 pub run_event-requires-clause-counts : goal.run_event-requires-clause-counts
 run_event-requires-clause-counts g c =
-    let s = c.args.schedule.now in
-    let within = subst (λ es. c.loop-event.event-index < length es) c.as_slice-events.ensures c.loop-event-test.true in
-    let is = c.event-item.is ∙ ap (λ es. get_or es c.loop-event.event-index c.event-item.result) c.as_slice-events.ensures in
-    countable g.S.Services.stands c.loop-event.world s c.loop-event.event-index c.event-item.result c.loop-event.ledger within is c.requires.rules c.loop-event.invariant.world c.loop-event.invariant.ledger
+    let s = c.args.schedule in
+    let turn = YieldsList-turn (YieldsList-from_vec s.events (search rules) (search rules)) c.loop-event.yielded _ c.loop-event.yielded_by _ _ c.in-Some.event c.in-Some.is c.next.ensures.steps in
+    countable g.S.Services.stands c.loop-event.world s (length c.loop-event.yielded) c.in-Some.event c.loop-event.ledger turn.0 turn.1 c.requires.rules c.loop-event.invariant.world c.loop-event.invariant.ledger
 
 pub loop-event-preserved : goal.loop-event-preserved
 loop-event-preserved g c =
-    let s = c.args.schedule.now in
+    let s = c.args.schedule in
     let w = opening s.topology in
     let i = c.loop-event.invariant in
-    let within = subst (λ es. c.loop-event.event-index < length es) c.as_slice-events.ensures c.loop-event-test.true in
-    let is = c.event-item.is ∙ ap (λ es. get_or es c.loop-event.event-index c.event-item.result) c.as_slice-events.ensures in
+    let n = length c.loop-event.yielded in
+    let e = c.in-Some.event in
+    let turn = YieldsList-turn (YieldsList-from_vec s.events (search rules) (search rules)) c.loop-event.yielded _ c.loop-event.yielded_by _ _ e c.in-Some.is c.next.ensures.steps in
     let done = c.in-Ok.ensures in
     let out = g.K.Sink.state in
+    let count = length_push c.loop-event.yielded e in
     record {
-      world = stands_next w s.events c.loop-event.event-index c.event-item.result within is g.S.Services.stands c.run_event.new.world (done.world _ i.world);
-      ledger = counts_next w s.events c.loop-event.event-index c.event-item.result within is c.run_event.new.ledger (done.ledger _ _ i.world (all_leave s c.loop-event.event-index c.event-item.result c.requires.rules) i.ledger);
-      made = done.made ∙ ap (λ n. n + 1) i.made;
-      waits = waits_next w s.events c.loop-event.event-index c.event-item.result within is s.frames (out c.args.out.now) (out c.loop-event.out) (out c.run_event.new.out) c.loop-event.text _ i.waits (done.waits _ i.world);
+      world = stands_next w s.events n e turn.0 turn.1 g.S.Services.stands c.run_event.new.world _ count (done.world _ i.world);
+      ledger = counts_next w s.events n e turn.0 turn.1 c.run_event.new.ledger _ count (done.ledger _ _ i.world (all_leave s n e c.requires.rules) i.ledger);
+      made = done.made ∙ ap (λ n. n + 1) i.made ∙ sym count;
+      waits = waits_next w s.events n e turn.0 turn.1 s.frames (out c.args.out.now) (out c.loop-event.out) (out c.run_event.new.out) c.loop-event.text _ _ count i.waits (done.waits _ i.world);
     }
 
 pub returns-in-Err-clause-lines : goal.returns-in-Err-clause-lines
 returns-in-Err-clause-lines g c =
-    let s = c.args.schedule.now in
+    let s = c.args.schedule in
     let i = c.loop-event.invariant in
     let out = g.K.Sink.state in
-    let within = subst (λ es. c.loop-event.event-index < length es) c.as_slice-events.ensures c.loop-event-test.true in
-    let is = c.event-item.is ∙ ap (λ es. get_or es c.loop-event.event-index c.event-item.result) c.as_slice-events.ensures in
-    stopped_event (opening s.topology) s.events c.loop-event.event-index c.event-item.result within is s.frames c.in-Err.fault (out c.args.out.now) (out c.loop-event.out) (out c.run_event.new.out) c.loop-event.text i.waits
+    let turn = YieldsList-turn (YieldsList-from_vec s.events (search rules) (search rules)) c.loop-event.yielded _ c.loop-event.yielded_by _ _ c.in-Some.event c.in-Some.is c.next.ensures.steps in
+    stopped_event (opening s.topology) s.events (length c.loop-event.yielded) c.in-Some.event turn.0 turn.1 s.frames c.in-Err.fault (out c.args.out.now) (out c.loop-event.out) (out c.run_event.new.out) c.loop-event.text i.waits
     (c.in-Err.ensures.waits _ i.world)
 
 pub returns-in-Ok-put_all-clause-lines : goal.returns-in-Ok-put_all-clause-lines
 returns-in-Ok-put_all-clause-lines g c =
-    let s = c.args.schedule.now in
+    let s = c.args.schedule in
     let out = g.K.Sink.state in
-    let all = subst (λ es. length es ≤ c.loop-event.event-index) c.as_slice-events.ensures c.loop-event-test.false in
+    let end = YieldsList-end (YieldsList-from_vec s.events (search rules) (search rules)) c.loop-event.yielded _ c.loop-event.yielded_by _ _ c.in-None.is c.next.ensures.steps in
     waited_written (out c.args.out.now) (out c.loop-event.out) (out c.put_all.new.sink) c.loop-event.text _
-    (waits_all s.frames (opening s.topology) s.events c.loop-event.event-index (out c.args.out.now) (out c.loop-event.out) c.loop-event.text all c.loop-event.invariant.waits)
+    (waits_all s.frames (opening s.topology) s.events (length c.loop-event.yielded) (out c.args.out.now) (out c.loop-event.out) c.loop-event.text (omega (arith, end.1)) c.loop-event.invariant.waits)
     (subst (Writes (out c.loop-event.out) (out c.put_all.new.sink)) c.as_slice.ensures c.in-Ok-put_all.ensures)
 
 pub returns-clause-lines : goal.returns-clause-lines
 returns-clause-lines g c =
-    let s = c.args.schedule.now in
+    let s = c.args.schedule in
     let out = g.K.Sink.state in
-    let all = subst (λ es. length es ≤ c.loop-event.event-index) c.as_slice-events.ensures c.loop-event-test.false in
+    let end = YieldsList-end (YieldsList-from_vec s.events (search rules) (search rules)) c.loop-event.yielded _ c.loop-event.yielded_by _ _ c.in-None.is c.next.ensures.steps in
     waited_stopped WriteFault (out c.args.out.now) (out c.loop-event.out) (out c.put_all.new.sink) c.loop-event.text _
-    (waits_all s.frames (opening s.topology) s.events c.loop-event.event-index (out c.args.out.now) (out c.loop-event.out) c.loop-event.text all c.loop-event.invariant.waits)
+    (waits_all s.frames (opening s.topology) s.events (length c.loop-event.yielded) (out c.args.out.now) (out c.loop-event.out) c.loop-event.text (omega (arith, end.1)) c.loop-event.invariant.waits)
     (subst (FailsIn (out c.loop-event.out) (out c.put_all.new.sink)) c.as_slice.ensures c.in-Err-put_all.ensures)
 
 pub returns-in-Ok-put_all-clause-ledger : goal.returns-in-Ok-put_all-clause-ledger
 returns-in-Ok-put_all-clause-ledger g c =
-    let s = c.args.schedule.now in
-    let all = subst (λ es. length es ≤ c.loop-event.event-index) c.as_slice-events.ensures c.loop-event-test.false in
-    counts_all c.loop-event.ledger (opening s.topology) s.events c.loop-event.event-index all c.loop-event.invariant.ledger
+    let s = c.args.schedule in
+    let end = YieldsList-end (YieldsList-from_vec s.events (search rules) (search rules)) c.loop-event.yielded _ c.loop-event.yielded_by _ _ c.in-None.is c.next.ensures.steps in
+    counts_all c.loop-event.ledger (opening s.topology) s.events (length c.loop-event.yielded) (omega (arith, end.1)) c.loop-event.invariant.ledger

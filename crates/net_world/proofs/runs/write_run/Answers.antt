@@ -10,21 +10,21 @@ run_events-requires-clause-empty g c = subst (Stands []) (sym c.in-Ok.ensures) n
 
 pub returns-in_default-put_all : goal.returns-in_default-put_all
 returns-in_default-put_all g c =
-    let s = c.args.schedule.now in
+    let s = c.args.schedule in
     let w = opening s.topology in
     let out = g.K.Sink.state in
     stopped_header s.frames s.events w (out c.args.out.now) (out c.put_all.new.sink) (out c.put_all.new.sink) (out c.put_all.new.sink) c.in_default-put_all.ensures
 
 pub returns-in-Err : goal.returns-in-Err
 returns-in-Err g c =
-    let s = c.args.schedule.now in
+    let s = c.args.schedule in
     let w = opening s.topology in
     let out = g.K.Sink.state in
     stopped_lines s.frames s.events w (out c.args.out.now) (out c.put_all.new.sink) (out c.run_events.new.out) (out c.run_events.new.out) c.in-Err.fault c.in-Ok-put_all.ensures c.in-Err.ensures.lines
 
 pub returns-in-Ok-write_ledger : goal.returns-in-Ok-write_ledger
 returns-in-Ok-write_ledger g c =
-    let s = c.args.schedule.now in
+    let s = c.args.schedule in
     let w = opening s.topology in
     let out = g.K.Sink.state in
     whole_run s.frames s.events w (out c.args.out.now) (out c.put_all.new.sink) (out c.run_events.new.out) (out c.write_ledger.new.out) c.in-Ok-put_all.ensures c.in_default-run_events.ensures.lines
@@ -32,7 +32,7 @@ returns-in-Ok-write_ledger g c =
 
 pub returns : goal.returns
 returns g c =
-    let s = c.args.schedule.now in
+    let s = c.args.schedule in
     let w = opening s.topology in
     let out = g.K.Sink.state in
     stopped_ledger s.frames s.events w (out c.args.out.now) (out c.put_all.new.sink) (out c.run_events.new.out) (out c.write_ledger.new.out) c.in-Err-write_ledger.fault c.in-Ok-put_all.ensures c.in_default-run_events.ensures.lines

@@ -8,13 +8,13 @@ use Rattle.net_world.proofs.RunLaws.{fits_as, leaves_as, entries_are}
 use Rattle.grow_run.proofs.growth.Growth.make.Goals as goal
 
 pub step-requires-clause-fits : goal.step-requires-clause-fits
-step-requires-clause-fits g c = fits_within c.args.self.now.world.version c.args.event.now c.requires.fits
+step-requires-clause-fits g c = fits_within c.args.self.now.world.version c.args.event c.requires.fits
 
 pub count_lines-requires : goal.count_lines-requires
 count_lines-requires g c =
     let counts = c.requires.counts in
     let lines = (c.in_ok-lines.ensures.ok counts.state counts.is).list in
-    let late = c.is_late-late.ensures ∙ ap (λ wire. late_in wire c.args.event.now) counts.is.is.wire in
+    let late = c.is_late-late.ensures ∙ ap (λ wire. late_in wire c.args.event) counts.is.is.wire in
     let rows = c.args.self.now.ledger in
     record { fits = fits_as rows _ _ _ _ late (c.as_slice.ensures ∙ lines) counts.fits }
 
@@ -26,10 +26,10 @@ returns g c = record {
   world = λ w h. (c.in_ok-lines.ensures.ok w h).world;
   counts = λ w old h l s t.
       let lines = (c.in_ok-lines.ensures.ok w h).list in
-      let late = c.is_late-late.ensures ∙ ap (λ wire. late_in wire c.args.event.now) h.is.wire in
-      let counted = entries_are w c.args.event.now _ (c.args.self.now.world.made + 1) c.args.self.now.world.made refl h.is.made (c.as_slice.ensures ∙ lines) in
-      let summed = entries_are w c.args.event.now _ (c.args.self.now.world.made + 1) c.args.self.now.world.made refl h.is.made (c.as_slice-2.ensures ∙ lines) in (
-        subst (λ x. Stands (old ++ x) c.count_lines.new.ledger) counted (c.in_ok-count_lines.ensures old (c.args.self.now.world.made + 1) (leaves_as old w c.args.event.now _ _ _ late counted (c.as_slice.ensures ∙ lines) l) s),
+      let late = c.is_late-late.ensures ∙ ap (λ wire. late_in wire c.args.event) h.is.wire in
+      let counted = entries_are w c.args.event _ (c.args.self.now.world.made + 1) c.args.self.now.world.made refl h.is.made (c.as_slice.ensures ∙ lines) in
+      let summed = entries_are w c.args.event _ (c.args.self.now.world.made + 1) c.args.self.now.world.made refl h.is.made (c.as_slice-2.ensures ∙ lines) in (
+        subst (λ x. Stands (old ++ x) c.count_lines.new.ledger) counted (c.in_ok-count_lines.ensures old (c.args.self.now.world.made + 1) (leaves_as old w c.args.event _ _ _ late counted (c.as_slice.ensures ∙ lines) l) s),
         c.count.ensures.counted old (c.args.self.now.world.made + 1) t ∙ ap (λ x. summary_of (old ++ x)) summed,
       );
   room = λ n r. c.count.ensures.room n (room_less c.args.self.now.summary (n + 2 ^ 64) (n + length c.as_slice-2.result.now) (omega arith) r);

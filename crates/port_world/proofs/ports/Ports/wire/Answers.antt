@@ -13,13 +13,13 @@ pub hear-requires-clause-ready : goal.hear-requires-clause-ready
 hear-requires-clause-ready g c =
     let r = c.requires.ready in
     let made = c.in_ok-lines.ensures.made r.state r.is in
-    record { state = makes c.args.event.now r.state; is = made.is; few = subst (λ ls. HearsFew ls (makes c.args.event.now r.state)) (sym (c.as_slice.ensures ∙ made.list)) r.few }
+    record { state = makes c.args.event r.state; is = made.is; few = subst (λ ls. HearsFew ls (makes c.args.event r.state)) (sym (c.as_slice.ensures ∙ made.list)) r.few }
 
 pub returns-clause-goes : goal.returns-clause-goes
 returns-clause-goes g c = λ s h.
     let made = c.in_ok-lines.ensures.made s h in
     let is = c.as_slice.ensures ∙ made.list in
-    let t = makes c.args.event.now s in
+    let t = makes c.args.event s in
     on_ok _ _ c.hear.result
     (λ k. subst (λ ls. Goes g.S.Services.stands c.hear.new.self (hears ls t) (lines_told c.args.number ls t) c.args.text.now c.hear.new.text) is k)
     (c.hear.ensures.goes t made.is)
