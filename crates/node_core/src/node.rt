@@ -34,7 +34,7 @@ use plan_items::Items;
 use plan_types::Checked;
 use remote_calls::default_route;
 use service_api::{Advert, Ctx, Hop, Neighbours, Router, Services};
-use spelled_frame::SpelledFrame;
+use spelled_frame::{SpelledFrame, with_handler};
 use std::alloc::Global;
 
 /// A node: its host, its version, the moment at which it began, its neighbours by device, its routes, its services, for each
@@ -289,10 +289,7 @@ impl<S: Services> Node<S> {
     {
         let route = default_route(alloc)?;
         let packet = CheckedPacket::of(self.next_family(), self.here, bound, route, chunk);
-        let Some(name) = handler else {
-            return Ok(packet);
-        };
-        Ok(packet.handled_by(name))
+        Ok(with_handler(packet, handler))
     }
 
     /// The visit of an injected packet, after some acts; the next injection gets the next serial number. Conditions: a serial
@@ -771,9 +768,8 @@ impl<S: Services> Node<S> {
     {
         match event {
             Event::Inject(chunk, bound, handler) => {
-                let chunk = chunk.copy(alloc)?;
                 let handler = copy_handler(alloc, handler)?;
-                self.inject(alloc, chunk, *bound, handler)
+                self.inject(alloc, chunk.copy(alloc)?, *bound, handler)
             }
             Event::Frame(dev, bytes) => self.arrive(alloc, *dev, bytes.as_slice()),
             Event::Control(bytes) => self.control(alloc, bytes.as_slice()),
