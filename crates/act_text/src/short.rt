@@ -1,5 +1,6 @@
 ghost use Rattle.std.specs.Prelude.{◌≡◌, ◌+◌, ◌≤◌, ◌<◌, [], ◌∷◌, ◌++◌, length, drop, OnOk, OnErr};
 ghost use Rattle.std.specs.Fmt.{decimal};
+ghost use Rattle.printed_forms.specs.Literals.{int_text};
 ghost use Rattle.node_model.specs.Texts.{family_text, bound_text, device_text};
 ghost use Rattle.act_text.specs.Lines.{head_of};
 
@@ -73,6 +74,22 @@ impl ShortText {
             return;
         }
         self.start = write_digits(n, &mut self.all, self.start);
+    }
+
+    /// Writes a number with its sign before the text, `~` before a negative one. Condition: there is room for 21 bytes.
+    #[inline(always)]
+    #[tactic(auto, unfolding(printed_forms::specs::Literals::int_text))]
+    pub fn integer(&mut self, n: i64)
+        requires { 21 + length self.old ≤ 192 }
+        ensures text { self.new ≡ int_text n ++ self.old }
+        ensures room { length self.new ≤ 21 + length self.old }
+    {
+        if n >= 0 {
+            self.number(n as u64);
+            return;
+        }
+        self.number(n.unsigned_abs());
+        self.byte(b'~');
     }
 
     /// Writes a family before the text. Condition: there is room for 41 bytes.

@@ -1,5 +1,6 @@
 ghost use Rattle.std.specs.Prelude.{◌≡◌, ◌+◌, ◌≤◌, [], ◌++◌, codes, length, OnOk, OnErr};
 ghost use Rattle.std.specs.Fmt.{decimal};
+ghost use Rattle.printed_forms.specs.Literals.{int_text};
 ghost use Rattle.printed_forms.specs.Printed.{value_text};
 ghost use Rattle.packet_frame.specs.Reasons.{reason_text};
 ghost use Rattle.node_model.specs.Texts as spec;
@@ -198,6 +199,7 @@ fn put_ended(
 {
     match value {
         Value::Unit => put_done(out, event, host, f, evals, left)?,
+        Value::Int(n) => put_integer(out, event, host, f, *n, evals, left)?,
         _ => put_given(alloc, out, event, host, f, value, evals, left)?,
     }
     Ok(())
@@ -219,6 +221,31 @@ fn put_done(
     let mut text = ShortText::new();
     write_rest(&mut text, evals, left);
     text.word(b" ()");
+    text.family(f);
+    text.byte(b' ');
+    text.head(event, b"value", host);
+    text.put(out)?;
+    Ok(())
+}
+
+/// The line of a visit that ended with a number, which is written in one piece too.
+fn put_integer(
+    out: &mut Bytes,
+    event: u64,
+    host: Host,
+    f: Family,
+    n: i64,
+    evals: u32,
+    left: u32,
+) -> Result<(), NoMemory>
+    ensures { OnOk result (out.new ≡ out.old ++ line_of event
+        (spec.head_text (codes "value") host ++ (codes " " ++
+        (spec.family_text f ++ (codes " " ++ (int_text n ++ spec.rest_text evals left)))))) }
+{
+    let mut text = ShortText::new();
+    write_rest(&mut text, evals, left);
+    text.integer(n);
+    text.byte(b' ');
     text.family(f);
     text.byte(b' ');
     text.head(event, b"value", host);
