@@ -316,7 +316,11 @@ fn run<S: Services>(
 }
 
 /// The activation with which a visit starts: the function at that place.
-fn first_activation(alloc: Global, chunk: &Chunk, fun: usize) -> Result<Activation, EvalStop>
+fn first_activation(
+    alloc: Global,
+    chunk: &Chunk,
+    fun: usize,
+) -> Result<Activation, plan_base::NoMemory>
     ensures { IfOk result (λ activation. activation ≡ entry 0 fun chunk.now.args) }
 {
     Ok(Activation {
@@ -329,6 +333,7 @@ fn first_activation(alloc: Global, chunk: &Chunk, fun: usize) -> Result<Activati
 
 /// How far the function with which a visit starts comes on the native stack, over the arguments as
 /// they stand in the chunk.
+#[tactic(auto, using(eval_flow::proofs::Naming::no_function))]
 fn run_first<S: Services>(
     alloc: Global,
     codes: &mut Codes,

@@ -6,7 +6,7 @@ ghost use Rattle.plan_parser.specs.Programs as spec;
 
 use crate::program::Gathered;
 use crate::signature::{Head, MOST_OPEN, head_at, service_at};
-use plan_base::{Draft, Fun, Limit, Places, Program};
+use plan_base::{Draft, Expr, Fun, Limit, Places, Program};
 use plan_grammar::{Ahead, Level, MOST_DEPTH, Node, ParseFault, Wanted, expr_to, name_at};
 use plan_items::Items;
 use plan_lexer::{Key, Token};
@@ -86,6 +86,41 @@ fn add_places(places: &mut Places, at: u32, below: Places) -> Result<(), ParseFa
     Ok(())
 }
 
+/// The function of a head and a body.
+fn function_of(head: Head, tree: Expr) -> Fun
+    ensures { result ≡ record {
+      name = head.name;
+      params = head.params;
+      result = head.result;
+      body = tree;
+    } }
+{
+    let Head {
+        name,
+        params,
+        result,
+    } = head;
+    Fun {
+        name,
+        params,
+        result,
+        body: tree,
+    }
+}
+
+/// Adds a function that was read, whose word stands at `start`.
+fn add_function(gathered: &mut Gathered, start: u32, fun: Fun) -> Result<(), ParseFault>
+    ensures whole { OnOk result (gathered.new ≡ record gathered.old {
+      funs = gathered.old.funs ++ fun ∷ [];
+      fun_at = gathered.old.fun_at ++ start ∷ [];
+    }) }
+    ensures fault { IfErr result (λ e. e ≡ ParseFault.NoMemory) }
+{
+    gathered.funs.add(fun)?;
+    gathered.fun_at.add(start)?;
+    Ok(())
+}
+
 /// Adds a function that was read, whose word stands at `start`, where it isn't too large.
 #[tactic(auto, unfolding(crate::specs::Programs::with_body))]
 fn with_body(
@@ -97,11 +132,6 @@ fn with_body(
 ) -> Result<Gathered, ParseFault>
     ensures { Gives (spec.with_body start gathered head body ahead.now) result ahead.now }
 {
-    let Head {
-        name,
-        params,
-        result,
-    } = head;
     let Node {
         tree,
         at,
@@ -111,13 +141,7 @@ fn with_body(
     let mut gathered = gathered;
     add_places(&mut gathered.node_at, at, below)?;
     judge_function(start, depth, gathered.node_at.len(), ahead)?;
-    gathered.funs.add(Fun {
-        name,
-        params,
-        result,
-        body: tree,
-    })?;
-    gathered.fun_at.add(start)?;
+    add_function(&mut gathered, start, function_of(head, tree))?;
     Ok(gathered)
 }
 

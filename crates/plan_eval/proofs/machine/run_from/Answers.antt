@@ -1,17 +1,49 @@
+use Rattle.std.proofs.Common.{◌≡◌, [], Ok, Err, refl}
+use Rattle.plan_meaning.specs.State.{joined_state}
+use Rattle.eval_flow.specs.declared.rest.Flow.TheVariants as flow
+use Rattle.eval_flow.specs.Turns.{entry}
+use Rattle.eval_flow.proofs.Diving.{size_grown}
 use Rattle.eval_flow.proofs.Starting.{meets_from}
+use Rattle.eval_flow.proofs.Taking.{safe_run}
+use Rattle.plan_eval.proofs.First.{first_lands, first_gave}
 use Rattle.plan_eval.proofs.machine.run_from.Goals as goal
 
-pub turn-requires-clause-linked : goal.turn-requires-clause-linked
-turn-requires-clause-linked g c = rw c.new-stack.ensures c.requires.linked
+pub run_first-requires-clause-safe : goal.run_first-requires-clause-safe
+run_first-requires-clause-safe g c =
+    safe_run c.args.codes [] (entry 0 c.args.fun c.args.chunk.now.args) (joined_state c.args.state.now (g.S.Services.stands c.args.svc.now)) c.requires.linked c.requires.safe
 
-pub turn-requires-clause-safe : goal.turn-requires-clause-safe
-turn-requires-clause-safe g c = rw c.new-stack.ensures c.requires.safe
+pub run-requires-clause-sized : goal.run-requires-clause-sized
+run-requires-clause-sized g c =
+    size_grown c.args.codes c.run_first.new.codes c.args.chunk.now.code c.args.first 0 c.run_first.ensures.grown c.requires.program c.requires.number c.requires.size
+
+pub run-requires-clause-linked : goal.run-requires-clause-linked
+run-requires-clause-linked g c =
+    let same : c.in_default-1.flow ≡ c.run_first.result = cc in
+    (first_lands c.args.codes c.run_first.new.codes (entry 0 c.args.fun c.args.chunk.now.args) c.run_first.ensures.grown c.run_first.result (joined_state c.args.state.now (g.S.Services.stands c.args.svc.now)) (joined_state c.run_first.new.state (g.S.Services.stands c.run_first.new.svc)) c.requires.linked c.run_first.ensures.flows
+    c.in_ok-top-in_default.top c.new-stack.result c.land_flow.new.outer c.in_default-1.flow (Ok c.in-Ok.how) c.new-stack.ensures c.in_ok-top-in_default.ensures same c.in-Ok.ensures.turned).1
 
 pub run-requires-clause-safe : goal.run-requires-clause-safe
-run-requires-clause-safe g c = (rw c.new-stack.ensures at c.in-Ok.ensures.turned.0).safe c.requires.safe
+run-requires-clause-safe g c =
+    let same : c.in_default-1.flow ≡ c.run_first.result = cc in
+    (first_lands c.args.codes c.run_first.new.codes (entry 0 c.args.fun c.args.chunk.now.args) c.run_first.ensures.grown c.run_first.result (joined_state c.args.state.now (g.S.Services.stands c.args.svc.now)) (joined_state c.run_first.new.state (g.S.Services.stands c.run_first.new.svc)) c.requires.linked c.run_first.ensures.flows
+    c.in_ok-top-in_default.top c.new-stack.result c.land_flow.new.outer c.in_default-1.flow (Ok c.in-Ok.how) c.new-stack.ensures c.in_ok-top-in_default.ensures same c.in-Ok.ensures.turned).0.safe c.requires.safe
+
+pub returns-in-Ok-Done-clause-meets : goal.returns-in-Ok-Done-clause-meets
+returns-in-Ok-Done-clause-meets g c =
+    let is : c.run_first.result ≡ Ok (flow.Done c.in-Ok-Done.v) = cc in
+    first_gave c.args.codes c.run_first.new.codes (entry 0 c.args.fun c.args.chunk.now.args) c.run_first.ensures.grown c.run_first.result (joined_state c.args.state.now (g.S.Services.stands c.args.svc.now)) (joined_state c.run_first.new.state (g.S.Services.stands c.run_first.new.svc)) c.requires.linked c.run_first.ensures.flows
+    c.in-Ok-Done.v refl is
 
 pub returns-in-Ok-clause-meets : goal.returns-in-Ok-clause-meets
-returns-in-Ok-clause-meets g c = meets_from _ _ c.run.result _ (rw c.new-stack.ensures at c.in-Ok.ensures.turned.0) c.run.ensures.meets
+returns-in-Ok-clause-meets g c =
+    let same : c.in_default-1.flow ≡ c.run_first.result = cc in
+    meets_from _ _ c.run.result _
+    (first_lands c.args.codes c.run_first.new.codes (entry 0 c.args.fun c.args.chunk.now.args) c.run_first.ensures.grown c.run_first.result (joined_state c.args.state.now (g.S.Services.stands c.args.svc.now)) (joined_state c.run_first.new.state (g.S.Services.stands c.run_first.new.svc)) c.requires.linked c.run_first.ensures.flows
+    c.in_ok-top-in_default.top c.new-stack.result c.land_flow.new.outer c.in_default-1.flow (Ok c.in-Ok.how) c.new-stack.ensures c.in_ok-top-in_default.ensures same c.in-Ok.ensures.turned).0
+    c.run.ensures.meets
 
 pub returns-in-Err-clause-meets : goal.returns-in-Err-clause-meets
-returns-in-Err-clause-meets g c = λ other. (rw c.new-stack.ensures at c.in-Err.ensures.turned) other
+returns-in-Err-clause-meets g c = λ other.
+    let same : c.in_default-1.flow ≡ c.run_first.result = cc in
+    first_lands c.args.codes c.run_first.new.codes (entry 0 c.args.fun c.args.chunk.now.args) c.run_first.ensures.grown c.run_first.result (joined_state c.args.state.now (g.S.Services.stands c.args.svc.now)) (joined_state c.run_first.new.state (g.S.Services.stands c.run_first.new.svc)) c.requires.linked c.run_first.ensures.flows
+    c.in_ok-top-in_default.top c.new-stack.result c.land_flow.new.outer c.in_default-1.flow (Err c.in-Err.stop) c.new-stack.ensures c.in_ok-top-in_default.ensures same c.in-Err.ensures.turned other
