@@ -333,7 +333,6 @@ fn first_activation(
 
 /// How far the function with which a visit starts comes on the native stack, over the arguments as
 /// they stand in the chunk.
-#[tactic(auto, using(eval_flow::proofs::Naming::no_function))]
 fn run_first<S: Services>(
     alloc: Global,
     codes: &mut Codes,
@@ -403,13 +402,12 @@ pub fn run_from<S: Services>(
     let mut programs = codes;
     match run_first(alloc, &mut programs, first.size, chunk, fun, state, svc) {
         Ok(Flow::Done(v)) => Ok(v),
-        flow => {
+        Ok(Flow::Wait(rest)) => {
             let top = first_activation(alloc, chunk, fun)?;
             let mut stack = Items::new(alloc);
-            match land_flow(&mut stack, top, flow) {
-                Ok(how) => run(alloc, programs, first, stack, how, state, svc),
-                Err(stop) => Err(stop),
-            }
+            stack_rest(&mut stack, top, rest)?;
+            run(alloc, programs, first, stack, Mode::Run, state, svc)
         }
+        Err(stop) => Err(stop),
     }
 }

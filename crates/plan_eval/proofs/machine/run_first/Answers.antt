@@ -1,12 +1,19 @@
-use Rattle.std.proofs.Common.{◌≡◌, Some, [], slice_get, sym, refl}
+use Rattle.std.proofs.Common.{◌≡◌, None, Some, [], slice_get, sym, refl}
 use Rattle.plan_base.specs.declared.tree.Program.{Program}
 use Rattle.plan_meaning.specs.State.{joined_state}
 use Rattle.plan_meaning.specs.Meaning.{meaning}
-use Rattle.eval_steps.specs.Stack.{Spot}
+use Rattle.eval_steps.specs.Stack.{Spot, spot_in}
 use Rattle.eval_flow.specs.Direct.{Flows}
 use Rattle.eval_flow.specs.Turns.{IsAt, entry}
 use Rattle.eval_flow.proofs.Diving.{here_binds, here_spot, here_only}
+use Rattle.eval_flow.proofs.Naming.{no_function}
+use Rattle.plan_eval.proofs.First.{never_found}
 use Rattle.plan_eval.proofs.machine.run_first.Goals as goal
+
+pub returns-in_default-clause-flows : goal.returns-in_default-clause-flows
+returns-in_default-clause-flows g c = λ code at there place other.
+    let missing : slice_get c.args.chunk.now.code.funs c.args.fun ≡ None = rw c.get.ensures at (sym c.in_default.ensures.value) in
+    never_found _ (spot_in c.args.codes.now (entry 0 c.args.fun c.args.chunk.now.args)) (no_function c.args.codes.now (entry 0 c.args.fun c.args.chunk.now.args) c.args.chunk.now.code c.requires.program missing) place
 
 pub evaluate-requires-clause-here : goal.evaluate-requires-clause-here
 evaluate-requires-clause-here g c =

@@ -5,7 +5,7 @@ use Rattle.eval_flow.specs.Turns.{entry}
 use Rattle.eval_flow.proofs.Diving.{size_grown}
 use Rattle.eval_flow.proofs.Starting.{meets_from}
 use Rattle.eval_flow.proofs.Taking.{safe_run}
-use Rattle.plan_eval.proofs.First.{first_lands, first_gave}
+use Rattle.plan_eval.proofs.First.{first_gave, first_stopped, first_waits}
 use Rattle.plan_eval.proofs.machine.run_from.Goals as goal
 
 pub run_first-requires-clause-safe : goal.run_first-requires-clause-safe
@@ -18,15 +18,23 @@ run-requires-clause-sized g c =
 
 pub run-requires-clause-linked : goal.run-requires-clause-linked
 run-requires-clause-linked g c =
-    let same : c.in_default-1.flow ≡ c.run_first.result = cc in
-    (first_lands c.args.codes c.run_first.new.codes (entry 0 c.args.fun c.args.chunk.now.args) c.run_first.ensures.grown c.run_first.result (joined_state c.args.state.now (g.S.Services.stands c.args.svc.now)) (joined_state c.run_first.new.state (g.S.Services.stands c.run_first.new.svc)) c.requires.linked c.run_first.ensures.flows
-    c.in_ok-top-in_default.top c.new-stack.result c.land_flow.new.outer c.in_default-1.flow (Ok c.in-Ok.how) c.new-stack.ensures c.in_ok-top-in_default.ensures same c.in-Ok.ensures.turned).1
+    let is : c.run_first.result ≡ Ok (flow.Wait c.in-Ok-Wait.rest) = cc in
+    (first_waits c.args.codes c.run_first.new.codes (entry 0 c.args.fun c.args.chunk.now.args) c.run_first.ensures.grown c.run_first.result (joined_state c.args.state.now (g.S.Services.stands c.args.svc.now)) (joined_state c.run_first.new.state (g.S.Services.stands c.run_first.new.svc)) c.requires.linked c.run_first.ensures.flows
+    c.in_ok-top-in-Ok-Wait.top c.new-stack.result c.stack_rest.new.outer c.in-Ok-Wait.rest c.new-stack.ensures c.in_ok-top-in-Ok-Wait.ensures is c.in_ok-stack_rest-in-Ok-Wait.ensures).1
 
 pub run-requires-clause-safe : goal.run-requires-clause-safe
 run-requires-clause-safe g c =
-    let same : c.in_default-1.flow ≡ c.run_first.result = cc in
-    (first_lands c.args.codes c.run_first.new.codes (entry 0 c.args.fun c.args.chunk.now.args) c.run_first.ensures.grown c.run_first.result (joined_state c.args.state.now (g.S.Services.stands c.args.svc.now)) (joined_state c.run_first.new.state (g.S.Services.stands c.run_first.new.svc)) c.requires.linked c.run_first.ensures.flows
-    c.in_ok-top-in_default.top c.new-stack.result c.land_flow.new.outer c.in_default-1.flow (Ok c.in-Ok.how) c.new-stack.ensures c.in_ok-top-in_default.ensures same c.in-Ok.ensures.turned).0.safe c.requires.safe
+    let is : c.run_first.result ≡ Ok (flow.Wait c.in-Ok-Wait.rest) = cc in
+    (first_waits c.args.codes c.run_first.new.codes (entry 0 c.args.fun c.args.chunk.now.args) c.run_first.ensures.grown c.run_first.result (joined_state c.args.state.now (g.S.Services.stands c.args.svc.now)) (joined_state c.run_first.new.state (g.S.Services.stands c.run_first.new.svc)) c.requires.linked c.run_first.ensures.flows
+    c.in_ok-top-in-Ok-Wait.top c.new-stack.result c.stack_rest.new.outer c.in-Ok-Wait.rest c.new-stack.ensures c.in_ok-top-in-Ok-Wait.ensures is c.in_ok-stack_rest-in-Ok-Wait.ensures).0.safe c.requires.safe
+
+pub returns-in_ok-stack_rest-in-Ok-Wait-clause-meets : goal.returns-in_ok-stack_rest-in-Ok-Wait-clause-meets
+returns-in_ok-stack_rest-in-Ok-Wait-clause-meets g c =
+    let is : c.run_first.result ≡ Ok (flow.Wait c.in-Ok-Wait.rest) = cc in
+    meets_from _ _ c.run.result _
+    (first_waits c.args.codes c.run_first.new.codes (entry 0 c.args.fun c.args.chunk.now.args) c.run_first.ensures.grown c.run_first.result (joined_state c.args.state.now (g.S.Services.stands c.args.svc.now)) (joined_state c.run_first.new.state (g.S.Services.stands c.run_first.new.svc)) c.requires.linked c.run_first.ensures.flows
+    c.in_ok-top-in-Ok-Wait.top c.new-stack.result c.stack_rest.new.outer c.in-Ok-Wait.rest c.new-stack.ensures c.in_ok-top-in-Ok-Wait.ensures is c.in_ok-stack_rest-in-Ok-Wait.ensures).0
+    c.run.ensures.meets
 
 pub returns-in-Ok-Done-clause-meets : goal.returns-in-Ok-Done-clause-meets
 returns-in-Ok-Done-clause-meets g c =
@@ -34,16 +42,8 @@ returns-in-Ok-Done-clause-meets g c =
     first_gave c.args.codes c.run_first.new.codes (entry 0 c.args.fun c.args.chunk.now.args) c.run_first.ensures.grown c.run_first.result (joined_state c.args.state.now (g.S.Services.stands c.args.svc.now)) (joined_state c.run_first.new.state (g.S.Services.stands c.run_first.new.svc)) c.requires.linked c.run_first.ensures.flows
     c.in-Ok-Done.v refl is
 
-pub returns-in-Ok-clause-meets : goal.returns-in-Ok-clause-meets
-returns-in-Ok-clause-meets g c =
-    let same : c.in_default-1.flow ≡ c.run_first.result = cc in
-    meets_from _ _ c.run.result _
-    (first_lands c.args.codes c.run_first.new.codes (entry 0 c.args.fun c.args.chunk.now.args) c.run_first.ensures.grown c.run_first.result (joined_state c.args.state.now (g.S.Services.stands c.args.svc.now)) (joined_state c.run_first.new.state (g.S.Services.stands c.run_first.new.svc)) c.requires.linked c.run_first.ensures.flows
-    c.in_ok-top-in_default.top c.new-stack.result c.land_flow.new.outer c.in_default-1.flow (Ok c.in-Ok.how) c.new-stack.ensures c.in_ok-top-in_default.ensures same c.in-Ok.ensures.turned).0
-    c.run.ensures.meets
-
 pub returns-in-Err-clause-meets : goal.returns-in-Err-clause-meets
 returns-in-Err-clause-meets g c = λ other.
-    let same : c.in_default-1.flow ≡ c.run_first.result = cc in
-    first_lands c.args.codes c.run_first.new.codes (entry 0 c.args.fun c.args.chunk.now.args) c.run_first.ensures.grown c.run_first.result (joined_state c.args.state.now (g.S.Services.stands c.args.svc.now)) (joined_state c.run_first.new.state (g.S.Services.stands c.run_first.new.svc)) c.requires.linked c.run_first.ensures.flows
-    c.in_ok-top-in_default.top c.new-stack.result c.land_flow.new.outer c.in_default-1.flow (Err c.in-Err.stop) c.new-stack.ensures c.in_ok-top-in_default.ensures same c.in-Err.ensures.turned other
+    let is : c.run_first.result ≡ Err c.in-Err.stop = cc in
+    first_stopped c.args.codes c.run_first.new.codes (entry 0 c.args.fun c.args.chunk.now.args) c.run_first.ensures.grown c.run_first.result (joined_state c.args.state.now (g.S.Services.stands c.args.svc.now)) (joined_state c.run_first.new.state (g.S.Services.stands c.run_first.new.svc)) c.requires.linked c.run_first.ensures.flows
+    c.in-Err.stop refl is other
