@@ -35,14 +35,14 @@ module _ (codes new : List Program) (a : Activation) (grows : Grows codes new) (
   pub first_gave : (v : Value) → a.frames ≡ [] → ran ≡ Ok (flow.Done v) → (stands_for codes (a ∷ []) mode.Run s).after ≡ gave v t
   first_gave v bare is =
       let turned = turn_begins codes new [] a grows (Ok (mode.Give v)) [] t s linked
-          (λ code at there place stands. turn_left new [] code a at (meaning code a.fun at.env at.expr s) stands bare v t (rw is at (flows code at there place))) in
+      (λ code at there place stands. turn_left new [] code a at (meaning code a.fun at.env at.expr s) stands bare v t (rw is at (flows code at there place))) in
       ended_give (stands_for codes (a ∷ []) mode.Run s) new [] (mode.Give v) t turned.0 v refl refl
 
   -- what stopped it ends the visit
   pub first_stopped : (e : EvalStop) → a.frames ≡ [] → ran ≡ Err e → e ≢ NoMemory → (stands_for codes (a ∷ []) mode.Run s).after ≡ stopped e t
   first_stopped (Raised x) bare is other =
       let turned = turn_begins codes new [] a grows (Ok (mode.Raise x)) [] t s linked
-          (λ code at there place stands. left_raised new [] code a at (meaning code a.fun at.env at.expr s) stands bare x t (rw is at (flows code at there place))) in
+      (λ code at there place stands. left_raised new [] code a at (meaning code a.fun at.env at.expr s) stands bare x t (rw is at (flows code at there place))) in
       ended_raise (stands_for codes (a ∷ []) mode.Run s) new [] (mode.Raise x) t turned.0 x refl refl
   first_stopped WorkSpent bare is other =
       turn_begins codes new [] a grows (Err WorkSpent) [] t s linked
