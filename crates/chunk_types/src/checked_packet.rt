@@ -10,7 +10,6 @@ use std::marker::Model;
 
 /// A packet whose chunk is typed and whose handler, if it has one, is a function of its code that may handle, which contracts
 /// see as that packet.
-#[derive(Drop)]
 pub struct CheckedPacket {
     family: Family,
     dest: Host,
@@ -18,6 +17,19 @@ pub struct CheckedPacket {
     route: Name,
     chunk: CheckedChunk,
     handler: Option<Name>,
+}
+
+impl Drop for CheckedPacket {
+    fn drop(self) {
+        let CheckedPacket {
+            family: _family,
+            dest: _dest,
+            bound: _bound,
+            route: _route,
+            chunk: _chunk,
+            handler: _handler,
+        } = self;
+    }
 }
 
 impl Model for CheckedPacket {
