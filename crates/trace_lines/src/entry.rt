@@ -39,19 +39,28 @@ pub(crate) fn cut_last(text: &[u8]) -> (&[u8], &[u8]) {
     }
 }
 
+/// What stands behind so many words.
+pub(crate) fn behind(text: &[u8], words: u32) -> &[u8] {
+    let mut rest = text;
+    for _ in 0..words {
+        let (_, more) = cut(rest);
+        rest = more;
+    }
+    rest
+}
+
+/// The word at a place, from 0.
+pub(crate) fn word_at(text: &[u8], place: u32) -> &[u8] {
+    let (word, _) = cut(behind(text, place));
+    word
+}
+
 /// The entry that a line may be.
-fn guess_entry(alloc: Global, line: &[u8]) -> Result<Option<Entry>, NoMemory> {
-    if str::from_utf8(line).is_err() {
-        return Ok(None);
-    }
+fn guess_entry(alloc: Global, line: &[u8]) -> Result<Entry, NoMemory> {
     let (number, rest) = cut(line);
-    let Some(event) = long(number) else {
-        return Ok(None);
-    };
-    match line_of(alloc, rest)? {
-        Some(line) => Ok(Some(Entry { event, line })),
-        None => Ok(None),
-    }
+    let event = long(number);
+    let line = line_of(alloc, rest)?;
+    Ok(Entry { event, line })
 }
 
 /// Whether a line is the text of an entry.
@@ -63,55 +72,38 @@ fn is_entry(alloc: Global, entry: &Entry, line: &[u8]) -> Result<bool, NoMemory>
     Ok(text.as_slice() == line)
 }
 
+/// This entry if the line is its text.
+fn if_entry(alloc: Global, entry: Entry, line: &[u8]) -> Result<Option<Entry>, NoMemory>
+    ensures { IfOk result (λ r. IfSome r (λ e. spec.entry_text e ≡ line.now)) }
+{
+    match is_entry(alloc, &entry, line) {
+        Ok(true) => Ok(Some(entry)),
+        Ok(false) => Ok(None),
+        Err(fault) => Err(fault),
+    }
+}
+
 /// The entry whose text a line is. It is guessed, printed and compared.
 pub(crate) fn read_entry(alloc: Global, line: &[u8]) -> Result<Option<Entry>, NoMemory>
     ensures { IfOk result (λ r. IfSome r (λ e. spec.entry_text e ≡ line.now)) }
 {
-    let Some(entry) = guess_entry(alloc, line)? else {
+    if str::from_utf8(line).is_err() {
         return Ok(None);
-    };
-    if is_entry(alloc, &entry, line)? {
-        Ok(Some(entry))
-    } else {
-        Ok(None)
     }
-}
-
-/// A number behind its name, and what stands behind the blank after it.
-fn number_behind(text: &[u8]) -> Option<(u64, &[u8])> {
-    let (_, rest) = cut(text);
-    let (number, rest) = cut(rest);
-    Some((long(number)?, rest))
-}
-
-/// The row with what the rest of its line may say: evals, what is under way and what is left.
-fn with_rest(row: Row, rest: &[u8]) -> Option<Row> {
-    let (evals, rest) = number_behind(rest)?;
-    let (live, rest) = number_behind(rest)?;
-    let (left, _) = number_behind(rest)?;
-    Some(Row {
-        evals,
-        live,
-        left,
-        ..row
-    })
+    let entry = guess_entry(alloc, line)?;
+    if_entry(alloc, entry, line)
 }
 
 /// The row that a line may be.
-fn guess_row(line: &[u8]) -> Option<Row> {
-    let (family, rest) = cut(line);
-    let family = family_of(family)?;
-    let (granted, rest) = number_behind(rest)?;
-    let (hops, rest) = number_behind(rest)?;
-    let row = Row {
-        family,
-        granted,
-        hops,
-        evals: 0,
-        live: 0,
-        left: 0,
-    };
-    with_rest(row, rest)
+fn guess_row(line: &[u8]) -> Row {
+    Row {
+        family: family_of(word_at(line, 0)),
+        granted: long(word_at(line, 2)),
+        hops: long(word_at(line, 4)),
+        evals: long(word_at(line, 6)),
+        live: long(word_at(line, 8)),
+        left: long(word_at(line, 10)),
+    }
 }
 
 /// Whether a line is the text of a row.
@@ -127,9 +119,7 @@ fn is_row(alloc: Global, row: Row, line: &[u8]) -> Result<bool, NoMemory>
 pub(crate) fn read_row(alloc: Global, line: &[u8]) -> Result<Option<Row>, NoMemory>
     ensures { IfOk result (λ r. IfSome r (λ row. whole.row_text row ≡ line.now)) }
 {
-    let Some(row) = guess_row(line) else {
-        return Ok(None);
-    };
+    let row = guess_row(line);
     if is_row(alloc, row, line)? {
         Ok(Some(row))
     } else {

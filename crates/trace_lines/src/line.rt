@@ -149,12 +149,21 @@ impl Line {
 }
 
 /// A line with the number of its event.
-#[derive(Drop)]
 pub struct Entry {
     /// The number of the event, from 1.
     pub event: u64,
     /// What happened.
     pub line: Line,
+}
+
+// (with a drop of its own, so that what lets an entry go need not work out how each line is dropped)
+impl Drop for Entry {
+    fn drop(self) {
+        let Entry {
+            event: _event,
+            line: _line,
+        } = self;
+    }
 }
 
 /// A row of a ledger.
@@ -175,10 +184,19 @@ pub struct Row {
 }
 
 /// A trace: its lines, and the rows of its ledger. The trace of a log has no ledger.
-#[derive(Drop)]
 pub struct Trace {
     /// The lines in order.
     pub entries: Items<Entry>,
     /// The ledger's rows in order.
     pub ledger: Option<Items<Row>>,
+}
+
+// (with a drop of its own, as an entry)
+impl Drop for Trace {
+    fn drop(self) {
+        let Trace {
+            entries: _entries,
+            ledger: _ledger,
+        } = self;
+    }
 }

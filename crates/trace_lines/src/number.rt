@@ -14,13 +14,16 @@ pub fn put_number(alloc: Global, out: &mut Bytes, n: u64) -> Result<(), NoMemory
     Ok(())
 }
 
-/// The number that a word may stand for. The caller prints it again and compares, so a word with a
-/// sign or zeros in front does no harm.
-pub(crate) fn long(word: &[u8]) -> Option<u64> {
-    str::from_utf8(word).ok()?.parse::<u64>().ok()
+/// The number that a word may stand for, or 0. The caller prints it again and compares, so a word with a
+/// sign or zeros in front, or one that is no number, does no harm.
+pub(crate) fn long(word: &[u8]) -> u64 {
+    match str::from_utf8(word) {
+        Ok(text) => text.parse::<u64>().unwrap_or(0),
+        Err(_) => 0,
+    }
 }
 
 /// The same below 2^32.
-pub(crate) fn short(word: &[u8]) -> Option<u32> {
-    u32::try_from(long(word)?).ok()
+pub(crate) fn short(word: &[u8]) -> u32 {
+    u32::try_from(long(word)).unwrap_or(0)
 }

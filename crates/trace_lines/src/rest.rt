@@ -1,38 +1,66 @@
-use crate::entry::{cut, cut_at, cut_last};
+use crate::entry::{behind, cut, cut_at, cut_last, word_at};
 use crate::line::{Line, Reason, What};
 use crate::number::{long, short};
 use crate::write::reason_word;
 use plan_base::{Bytes, Dev, Family, Host, NoMemory};
 use std::alloc::Global;
 
+// Each text is taken apart as if it were right. The caller prints what comes out and compares, so what stands for a text that
+// is no line does no harm.
+
 /// The family that a word may be, as `1.1`.
-pub(crate) fn family_of(word: &[u8]) -> Option<Family> {
+pub(crate) fn family_of(word: &[u8]) -> Family {
     let (source, serial) = cut_at(word, b'.');
-    Some(Family {
-        source: Host(short(source)?),
-        serial: long(serial)?,
-    })
+    Family {
+        source: Host(short(source)),
+        serial: long(serial),
+    }
 }
 
+/// Whether two texts are the same.
 fn is(text: &[u8], word: &[u8]) -> bool {
     text == word
 }
 
+/// The number at a place among the words.
+fn number_at(text: &[u8], place: u32) -> u32 {
+    short(word_at(text, place))
+}
+
+/// The family at a place among the words.
+fn family_at(text: &[u8], place: u32) -> Family {
+    family_of(word_at(text, place))
+}
+
 /// The number behind a sign, as in `@1` and `%1`.
-fn signed_number(word: &[u8]) -> Option<u32> {
-    short(word.get(1..)?)
+fn signed_number(word: &[u8]) -> u32 {
+    short(word.get(1..).unwrap_or(word))
 }
 
-/// A family and its bound, as `1.1 bound 5`.
-fn bound_of(text: &[u8]) -> Option<(Family, u32)> {
-    let (family, rest) = cut(text);
-    let (_, bound) = cut(rest);
-    Some((family_of(family)?, short(bound)?))
+/// The device that the first word names.
+fn device_of(text: &[u8]) -> Dev {
+    Dev(signed_number(word_at(text, 0)))
 }
 
-fn reason_of(word: &[u8]) -> Option<Reason> {
+/// What stands in front of so many last words.
+fn front_of(text: &[u8], words: u32) -> &[u8] {
+    let mut front = text;
+    for _ in 0..words {
+        let (shorter, _) = cut_last(front);
+        front = shorter;
+    }
+    front
+}
+
+/// The number behind which so many words stand.
+fn number_from_end(text: &[u8], words: u32) -> u32 {
+    let (_, word) = cut_last(front_of(text, words));
+    short(word)
+}
+
+/// The reason that a word names.
+fn reason_of(word: &[u8]) -> Reason {
     let reasons = [
-        Reason::NoBound,
         Reason::NoService,
         Reason::NoRoute,
         Reason::QueueFull,
@@ -42,10 +70,10 @@ fn reason_of(word: &[u8]) -> Option<Reason> {
     ];
     for reason in &reasons {
         if is(word, reason_word(*reason)) {
-            return Some(*reason);
+            return *reason;
         }
     }
-    None
+    Reason::NoBound
 }
 
 /// Whether these words say what else may be dropped or refused.
@@ -59,270 +87,131 @@ fn is_refusal(text: &[u8]) -> bool {
         || (text.starts_with(b"BadFrame ") && text.len() > 9)
 }
 
-fn copy_bytes(alloc: Global, text: &[u8]) -> Result<Bytes, NoMemory> {
-    Ok(Bytes::of(Vec::from_slice(alloc, text)?))
-}
-
-fn dropped_for(h: Host, reason: Reason, text: &[u8]) -> Option<Line> {
-    let (f, bound) = bound_of(text)?;
-    Some(Line::Dropped(h, reason, f, bound))
-}
-
-/// What was dropped or refused at a host.
-fn drop_line(alloc: Global, h: Host, text: &[u8]) -> Result<Option<Line>, NoMemory> {
-    if is_refusal(text) {
-        return Ok(Some(Line::Refused(h, copy_bytes(alloc, text)?)));
-    }
-    let (word, rest) = cut(text);
-    let Some(reason) = reason_of(word) else {
-        return Ok(None);
-    };
-    Ok(dropped_for(h, reason, rest))
-}
-
-/// The parts of the end of a visit: the family, the value or the exception, evals and what is left.
-#[derive(Clone, Copy)]
-struct End<'a> {
-    family: Family,
-    how: &'a [u8],
-    evals: u32,
-    left: u32,
-}
-
-/// What a visit paid and left, as `() evals 0 left 6`, behind what stands in front of it.
-fn paid_of(text: &[u8]) -> Option<(&[u8], u32, u32)> {
-    let (front, left) = cut_last(text);
-    let (front, _) = cut_last(front);
-    let (front, evals) = cut_last(front);
-    let (how, _) = cut_last(front);
-    Some((how, short(evals)?, short(left)?))
-}
-
-/// The end of a visit, as `1.1 () evals 0 left 6`.
-fn end_of(text: &[u8]) -> Option<End<'_>> {
-    let (family, rest) = cut(text);
-    let family = family_of(family)?;
-    let (how, evals, left) = paid_of(rest)?;
-    if how.is_empty() {
-        return None;
-    }
-    Some(End {
-        family,
-        how,
-        evals,
-        left,
-    })
-}
-
-fn value_line(alloc: Global, h: Host, text: &[u8]) -> Result<Option<Line>, NoMemory> {
-    match end_of(text) {
-        Some(end) => Ok(Some(Line::Gave(
-            h,
-            end.family,
-            copy_bytes(alloc, end.how)?,
-            end.evals,
-            end.left,
-        ))),
-        None => Ok(None),
+/// The text that a line at a host keeps as it is printed, of what stands behind the host: nothing where it keeps none.
+fn kept_part<'a>(word: &[u8], text: &'a [u8]) -> &'a [u8] {
+    if is(word, b"print") || (is(word, b"drop") && is_refusal(text)) {
+        text
+    } else if is(word, b"port") && number_at(text, 0) <= 65_535 {
+        behind(text, 1)
+    } else if is(word, b"value") || is(word, b"raised") {
+        front_of(behind(text, 1), 4)
+    } else if is(word, b"handler") {
+        word_at(text, 1)
+    } else {
+        b""
     }
 }
 
-fn raised_line(alloc: Global, h: Host, text: &[u8]) -> Result<Option<Line>, NoMemory> {
-    match end_of(text) {
-        Some(end) => Ok(Some(Line::Raised(
-            h,
-            end.family,
-            copy_bytes(alloc, end.how)?,
-            end.evals,
-            end.left,
-        ))),
-        None => Ok(None),
+/// The line at a host that keeps a text.
+fn keeping_line(word: &[u8], h: Host, text: &[u8], kept: Bytes) -> Line {
+    if is(word, b"print") {
+        Line::Printed(h, kept)
+    } else if is(word, b"port") {
+        Line::Delivered(h, number_at(text, 0), kept)
+    } else if is(word, b"value") {
+        let (evals, left) = (number_from_end(text, 2), number_from_end(text, 0));
+        Line::Gave(h, family_at(text, 0), kept, evals, left)
+    } else if is(word, b"raised") {
+        let (evals, left) = (number_from_end(text, 2), number_from_end(text, 0));
+        Line::Raised(h, family_at(text, 0), kept, evals, left)
+    } else if is(word, b"handler") {
+        Line::Handled(h, family_at(text, 0), kept, number_at(text, 3))
+    } else {
+        Line::Refused(h, kept)
     }
 }
 
-fn print_line(alloc: Global, h: Host, text: &[u8]) -> Result<Option<Line>, NoMemory> {
-    if text.is_empty() {
-        return Ok(None);
-    }
-    Ok(Some(Line::Printed(h, copy_bytes(alloc, text)?)))
-}
-
-fn port_line(alloc: Global, h: Host, text: &[u8]) -> Result<Option<Line>, NoMemory> {
-    let (port, text) = cut(text);
-    match short(port) {
-        Some(n) if n <= 65_535 && !text.is_empty() => {
-            Ok(Some(Line::Delivered(h, n, copy_bytes(alloc, text)?)))
-        }
-        _ => Ok(None),
-    }
-}
-
-fn spent_line(h: Host, text: &[u8]) -> Option<Line> {
-    let (family, rest) = cut(text);
-    let (_, left) = cut(rest);
-    Some(Line::Spent(h, family_of(family)?, short(left)?))
-}
-
-/// A handler that is called, as `1.1 oops bound 3`.
-fn handler_line(alloc: Global, h: Host, text: &[u8]) -> Result<Option<Line>, NoMemory> {
-    let (family, rest) = cut(text);
-    let (name, rest) = cut(rest);
-    let (_, bound) = cut(rest);
-    match (family_of(family), short(bound)) {
-        (Some(f), Some(bound)) if !name.is_empty() => {
-            Ok(Some(Line::Handled(h, f, copy_bytes(alloc, name)?, bound)))
-        }
-        _ => Ok(None),
-    }
-}
-
-fn queue_line(h: Host, text: &[u8]) -> Option<Line> {
-    let (dev, rest) = cut(text);
-    let (f, bound) = bound_of(rest)?;
-    Some(Line::Queued(h, Dev(signed_number(dev)?), f, bound))
-}
-
-fn send_line(h: Host, text: &[u8]) -> Option<Line> {
-    let (dev, what) = cut(text);
-    let what = if is(what, b"advert") {
+/// What left a queue.
+fn what_of(text: &[u8]) -> What {
+    if is(text, b"advert") {
         What::Advert
     } else {
-        What::Packet(family_of(what)?)
-    };
-    Some(Line::Sent(h, Dev(signed_number(dev)?), what))
-}
-
-fn arrive_line(h: Host, text: &[u8]) -> Option<Line> {
-    if is(text, b"control") {
-        Some(Line::Asked(h))
-    } else {
-        Some(Line::Arrived(h, Dev(signed_number(text)?)))
+        What::Packet(family_of(text))
     }
 }
 
-fn inject_line(h: Host, text: &[u8]) -> Option<Line> {
-    let (f, bound) = bound_of(text)?;
-    Some(Line::Injected(h, f, bound))
-}
-
-fn forged_line(h: Host, text: &[u8]) -> Option<Line> {
-    let (f, bound) = bound_of(text)?;
-    Some(Line::Forged(h, f, bound))
-}
-
-fn advert_line(h: Host, text: &[u8]) -> Option<Line> {
-    Some(Line::Advert(h, Dev(signed_number(text)?)))
-}
-
-fn heard_line(h: Host, text: &[u8]) -> Option<Line> {
-    Some(Line::Heard(h, Dev(signed_number(text)?)))
-}
-
-fn tick_line(h: Host, text: &[u8]) -> Option<Line> {
-    let (_, now) = cut(text);
-    Some(Line::Ticked(h, long(now)?))
-}
-
-/// The line without a text of its own that a word makes at a host with what stands behind.
-fn plain_at_host(word: &[u8], h: Host, text: &[u8]) -> Option<Line> {
+/// The line of a packet at a host.
+fn packet_line(word: &[u8], h: Host, text: &[u8]) -> Line {
     if is(word, b"inject") {
-        inject_line(h, text)
+        Line::Injected(h, family_at(text, 0), number_at(text, 2))
     } else if is(word, b"forged") {
-        forged_line(h, text)
-    } else if is(word, b"arrive") {
-        arrive_line(h, text)
+        Line::Forged(h, family_at(text, 0), number_at(text, 2))
     } else if is(word, b"spent") {
-        spent_line(h, text)
+        Line::Spent(h, family_at(text, 0), number_at(text, 2))
     } else if is(word, b"queue") {
-        queue_line(h, text)
-    } else if is(word, b"send") {
-        send_line(h, text)
-    } else if is(word, b"advert") {
-        advert_line(h, text)
-    } else if is(word, b"heard") {
-        heard_line(h, text)
-    } else if is(word, b"tick") {
-        tick_line(h, text)
+        Line::Queued(h, device_of(text), family_at(text, 1), number_at(text, 3))
+    } else if is(word, b"drop") {
+        let reason = reason_of(word_at(text, 0));
+        Line::Dropped(h, reason, family_at(text, 1), number_at(text, 3))
     } else {
-        None
+        Line::Nothing
+    }
+}
+
+/// The line at a host that keeps no text.
+fn plain_line(word: &[u8], h: Host, text: &[u8]) -> Line {
+    if is(word, b"arrive") && is(text, b"control") {
+        Line::Asked(h)
+    } else if is(word, b"arrive") {
+        Line::Arrived(h, device_of(text))
+    } else if is(word, b"send") {
+        Line::Sent(h, device_of(text), what_of(behind(text, 1)))
+    } else if is(word, b"advert") {
+        Line::Advert(h, device_of(text))
+    } else if is(word, b"heard") {
+        Line::Heard(h, device_of(text))
+    } else if is(word, b"tick") {
+        Line::Ticked(h, long(word_at(text, 1)))
+    } else {
+        packet_line(word, h, text)
     }
 }
 
 /// The line that a word makes at a host with what stands behind.
-fn at_host(alloc: Global, word: &[u8], h: Host, text: &[u8]) -> Result<Option<Line>, NoMemory> {
-    if is(word, b"print") {
-        print_line(alloc, h, text)
-    } else if is(word, b"port") {
-        port_line(alloc, h, text)
-    } else if is(word, b"value") {
-        value_line(alloc, h, text)
-    } else if is(word, b"raised") {
-        raised_line(alloc, h, text)
-    } else if is(word, b"drop") {
-        drop_line(alloc, h, text)
-    } else if is(word, b"handler") {
-        handler_line(alloc, h, text)
-    } else {
-        Ok(plain_at_host(word, h, text))
+fn at_host(alloc: Global, word: &[u8], h: Host, text: &[u8]) -> Result<Line, NoMemory> {
+    let kept = kept_part(word, text);
+    if kept.is_empty() {
+        return Ok(plain_line(word, h, text));
     }
+    let kept = Bytes::of(Vec::from_slice(alloc, kept)?);
+    Ok(keeping_line(word, h, text, kept))
 }
 
-fn wire_line(alloc: Global, text: &[u8]) -> Result<Option<Line>, NoMemory> {
-    let (number, hex) = cut(text);
-    let Some(n) = short(number) else {
-        return Ok(None);
-    };
-    if hex.is_empty() {
-        return Ok(Some(Line::Wire(n)));
-    }
+/// The line of a frame on the wire, with its bytes in hex.
+fn shown_line(alloc: Global, number: u32, hex: &[u8]) -> Result<Line, NoMemory> {
     if !hex.iter().all(|b| b.is_ascii_hexdigit()) {
-        return Ok(None);
+        return Ok(Line::Nothing);
     }
-    Ok(Some(Line::WireShown(n, copy_bytes(alloc, hex)?)))
-}
-
-fn off_line(text: &[u8]) -> Option<Line> {
-    Some(Line::Off(short(text)?))
-}
-
-fn again_line(text: &[u8]) -> Option<Line> {
-    Some(Line::Again(short(text)?))
-}
-
-fn lost_line(text: &[u8]) -> Option<Line> {
-    if is(text, b"advert") {
-        return Some(Line::LostAdvert);
-    }
-    let (f, bound) = bound_of(text)?;
-    Some(Line::Lost(f, bound))
+    let hex = Bytes::of(Vec::from_slice(alloc, hex)?);
+    Ok(Line::WireShown(number, hex))
 }
 
 /// The line that a word makes without a host.
-fn without_host(alloc: Global, word: &[u8], text: &[u8]) -> Result<Option<Line>, NoMemory> {
+fn without_host(word: &[u8], text: &[u8]) -> Line {
     if is(word, b"wire") {
-        wire_line(alloc, text)
+        Line::Wire(number_at(text, 0))
     } else if is(word, b"off") {
-        Ok(off_line(text))
+        Line::Off(short(text))
     } else if is(word, b"again") {
-        Ok(again_line(text))
+        Line::Again(short(text))
+    } else if is(word, b"lost") && is(text, b"advert") {
+        Line::LostAdvert
     } else if is(word, b"lost") {
-        Ok(lost_line(text))
-    } else if is(word, b"nothing") {
-        Ok(Some(Line::Nothing))
+        Line::Lost(family_at(text, 0), number_at(text, 2))
     } else {
-        Ok(None)
+        Line::Nothing
     }
 }
 
 /// The line that a text may be, behind the number of its event.
-pub(crate) fn line_of(alloc: Global, text: &[u8]) -> Result<Option<Line>, NoMemory> {
+pub(crate) fn line_of(alloc: Global, text: &[u8]) -> Result<Line, NoMemory> {
     let (word, rest) = cut(text);
-    let (second, behind) = cut(rest);
+    let (second, more) = cut(rest);
     if second.first() == Some(&b'@') {
-        return match signed_number(second) {
-            Some(h) => at_host(alloc, word, Host(h), behind),
-            None => Ok(None),
-        };
+        return at_host(alloc, word, Host(signed_number(second)), more);
     }
-    without_host(alloc, word, rest)
+    if is(word, b"wire") && !more.is_empty() {
+        return shown_line(alloc, short(second), more);
+    }
+    Ok(without_host(word, rest))
 }

@@ -130,6 +130,20 @@ fn read_ledger(alloc: Global, bytes: &[u8], first: u64) -> Result<Option<Items<R
     }
 }
 
+/// Adds the entries that the bytes begin with, from the second line on, and answers the ledger behind
+/// them. Behind it the trace ends.
+fn read_body(
+    alloc: Global,
+    entries: &mut Items<Entry>,
+    bytes: &[u8],
+) -> Result<Option<Items<Row>>, TraceFault>
+    ensures { IfOk result (λ rows. whole.entries_text entries.new ++ (whole.ledger_text rows
+        ++ whole.as_line (codes "end")) ≡ whole.entries_text entries.old ++ bytes.now) }
+{
+    let (rest, number) = add_entries(alloc, entries, bytes, 2)?;
+    read_ledger(alloc, rest, number)
+}
+
 /// The trace that these bytes are, of a schedule or of a log. What is read prints as exactly these
 /// bytes; else the first line that goes wrong is told, the line behind the last one where the trace
 /// ends too early.
@@ -141,7 +155,6 @@ pub fn read_trace(alloc: Global, bytes: &[u8]) -> Result<Trace, TraceFault>
         return Err(TraceFault::BadLine(1));
     };
     let mut entries = Items::new(alloc);
-    let (rest, number) = add_entries(alloc, &mut entries, rest, 2)?;
-    let ledger = read_ledger(alloc, rest, number)?;
+    let ledger = read_body(alloc, &mut entries, rest)?;
     Ok(Trace { entries, ledger })
 }

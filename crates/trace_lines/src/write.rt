@@ -80,20 +80,13 @@ fn put_end(
     put_paid(alloc, out, evals, left)
 }
 
+/// A visit that passed its allowance, with what is left.
 fn put_spent(alloc: Global, out: &mut Bytes, f: Family, left: u32) -> Result<(), NoMemory>
     ensures { OnOk result (out.new ≡ out.old ++ (codes " " ++
         (spec.family_text f ++ (codes " left " ++ decimal left)))) }
 {
     put_of(alloc, out, f)?;
     put_named(alloc, out, b" left ", u64::from(left))
-}
-
-/// A name with the bound that is told to it.
-fn put_told(alloc: Global, out: &mut Bytes, name: &[u8], bound: u32) -> Result<(), NoMemory>
-    ensures { OnOk result (out.new ≡ out.old ++ spec.told_text name.now bound) }
-{
-    out.add_all(name)?;
-    put_named(alloc, out, b" bound ", u64::from(bound))
 }
 
 /// A handler that is called, with the bound that it has.
@@ -107,8 +100,8 @@ fn put_called(
     ensures { OnOk result (out.new ≡ out.old ++ spec.called_text f name.now bound) }
 {
     put_of(alloc, out, f)?;
-    out.add_all(b" ")?;
-    put_told(alloc, out, name, bound)
+    put_word(out, name)?;
+    put_named(alloc, out, b" bound ", u64::from(bound))
 }
 
 /// The word of a reason.
@@ -126,6 +119,7 @@ pub(crate) fn reason_word(reason: Reason) -> &'static [u8]
     }
 }
 
+/// Why a packet was dropped, with its family and bound.
 fn put_dropped(
     alloc: Global,
     out: &mut Bytes,
@@ -140,6 +134,7 @@ fn put_dropped(
     put_bound(alloc, out, f, bound)
 }
 
+/// The device and the packet that is queued there.
 fn put_queued(
     alloc: Global,
     out: &mut Bytes,
@@ -153,6 +148,7 @@ fn put_queued(
     put_bound(alloc, out, f, bound)
 }
 
+/// What a device gave.
 fn put_what(alloc: Global, out: &mut Bytes, what: What) -> Result<(), NoMemory>
     ensures { OnOk result (out.new ≡ out.old ++ spec.what_text what) }
 {
@@ -165,6 +161,7 @@ fn put_what(alloc: Global, out: &mut Bytes, what: What) -> Result<(), NoMemory>
     }
 }
 
+/// The device and what it gave.
 fn put_sent(alloc: Global, out: &mut Bytes, dev: Dev, what: What) -> Result<(), NoMemory>
     ensures { OnOk result (out.new ≡ out.old ++ (spec.device_text dev ++
         (codes " " ++ spec.what_text what))) }
@@ -174,26 +171,13 @@ fn put_sent(alloc: Global, out: &mut Bytes, dev: Dev, what: What) -> Result<(), 
     put_what(alloc, out, what)
 }
 
-/// A number, a blank in front of it.
-fn put_count(alloc: Global, out: &mut Bytes, n: u64) -> Result<(), NoMemory>
-    ensures { OnOk result (out.new ≡ out.old ++ (codes " " ++ decimal n)) }
-{
-    put_named(alloc, out, b" ", n)
-}
-
 /// A number and a text, a blank in front of each.
 fn put_pair(alloc: Global, out: &mut Bytes, n: u64, text: &[u8]) -> Result<(), NoMemory>
     ensures { OnOk result (out.new ≡ out.old ++ (codes " " ++
         (decimal n ++ (codes " " ++ text.now)))) }
 {
-    put_count(alloc, out, n)?;
+    put_named(alloc, out, b" ", n)?;
     put_word(out, text)
-}
-
-fn put_now(alloc: Global, out: &mut Bytes, now: u64) -> Result<(), NoMemory>
-    ensures { OnOk result (out.new ≡ out.old ++ (codes " now " ++ decimal now)) }
-{
-    put_named(alloc, out, b" now ", now)
 }
 
 /// Appends what stands behind the word and the host of a line.
@@ -218,10 +202,10 @@ pub fn put_rest(alloc: Global, out: &mut Bytes, line: &Line) -> Result<(), NoMem
         Line::Handled(_, f, name, bound) => put_called(alloc, out, *f, name.as_slice(), *bound),
         Line::Queued(_, d, f, bound) => put_queued(alloc, out, *d, *f, *bound),
         Line::Dropped(_, reason, f, bound) => put_dropped(alloc, out, *reason, *f, *bound),
-        Line::Ticked(_, now) => put_now(alloc, out, *now),
+        Line::Ticked(_, now) => put_named(alloc, out, b" now ", *now),
         Line::Sent(_, d, what) => put_sent(alloc, out, *d, *what),
         Line::Wire(number) | Line::Off(number) | Line::Again(number) => {
-            put_count(alloc, out, u64::from(*number))
+            put_named(alloc, out, b" ", u64::from(*number))
         }
         Line::WireShown(number, hex) => { put_pair(alloc, out, u64::from(*number), hex.as_slice()) }
         Line::LostAdvert => put_word(out, b"advert"),
@@ -229,6 +213,7 @@ pub fn put_rest(alloc: Global, out: &mut Bytes, line: &Line) -> Result<(), NoMem
     }
 }
 
+/// The host of a line, where it names one.
 fn put_host(alloc: Global, out: &mut Bytes, host: Option<Host>) -> Result<(), NoMemory>
     ensures { OnOk result (out.new ≡ out.old ++ spec.host_text host) }
 {
@@ -238,6 +223,7 @@ fn put_host(alloc: Global, out: &mut Bytes, host: Option<Host>) -> Result<(), No
     }
 }
 
+/// A line without the number of its event.
 #[tactic(auto, unfolding(crate::specs::Lines::line_text))]
 fn put_line(alloc: Global, out: &mut Bytes, line: &Line) -> Result<(), NoMemory>
     ensures { OnOk result (out.new ≡ out.old ++ spec.line_text line.now) }
