@@ -62,7 +62,6 @@ pub enum Stroke {
 }
 
 /// A line of a trace as it is drawn.
-#[derive(Drop)]
 pub struct Mark {
     /// What it is drawn as.
     pub kind: Kind,
@@ -82,6 +81,22 @@ pub struct Mark {
     pub is_outside: bool,
 }
 
+// (with a drop of its own, so that what lets a mark go need not work out how its label is dropped)
+impl Drop for Mark {
+    fn drop(self) {
+        let Mark {
+            kind: _kind,
+            label: _label,
+            event: _event,
+            begins: _begins,
+            at: _at,
+            to: _to,
+            stroke: _stroke,
+            is_outside: _is_outside,
+        } = self;
+    }
+}
+
 /// The column of a host.
 #[derive(Clone, Copy)]
 pub struct Lane {
@@ -92,7 +107,6 @@ pub struct Lane {
 }
 
 /// A whole chart before it is written.
-#[derive(Drop)]
 pub struct Drawing {
     /// The columns, by host.
     pub lanes: Items<Lane>,
@@ -106,4 +120,18 @@ pub struct Drawing {
     pub width: u64,
     /// The height in pixels.
     pub height: u64,
+}
+
+// (with a drop of its own, as a mark)
+impl Drop for Drawing {
+    fn drop(self) {
+        let Drawing {
+            lanes: _lanes,
+            marks: _marks,
+            bottom: _bottom,
+            ledger: _ledger,
+            width: _width,
+            height: _height,
+        } = self;
+    }
 }

@@ -1,5 +1,4 @@
 use crate::drawing::{Spot, Stroke};
-use crate::lanes::add_hosts;
 use crate::marks::DrawFault;
 use crate::walk::{Journey, LinePlace, TraceWalk, far_end};
 use std::alloc::Global;
@@ -27,7 +26,6 @@ impl Sights {
     /// Goes through all lines.
     pub fn over(alloc: Global, entries: &[Entry], is_log: bool) -> Result<Sights, DrawFault> {
         let mut walk = TraceWalk::new(alloc);
-        add_hosts(&mut walk.hosts, entries)?;
         walk.go(entries)?;
         Ok(Sights { walk, is_log })
     }

@@ -1,5 +1,6 @@
 use crate::drawing::{Spot, Stroke};
-use crate::lanes::column;
+use crate::lanes::{add_hosts, column};
+use crate::marks::DrawFault;
 use plan_base::{Dev, Host};
 use std::alloc::{AllocError, Global};
 use trace_lines::{Entry, Line, What};
@@ -253,8 +254,9 @@ impl TraceWalk {
         Ok(())
     }
 
-    /// Goes through all lines.
-    pub fn go(&mut self, entries: &[Entry]) -> Result<(), AllocError> {
+    /// Goes through all lines, behind the hosts that they name.
+    pub fn go(&mut self, entries: &[Entry]) -> Result<(), DrawFault> {
+        add_hosts(&mut self.hosts, entries)?;
         for entry in entries {
             self.step(entry)?;
         }
