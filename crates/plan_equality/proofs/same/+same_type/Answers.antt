@@ -1,3 +1,5 @@
+use Rattle.std.proofs.Common.{arith}
+use Rattle.plan_base.specs.Trees.{trees}
 use Rattle.plan_equality.proofs.Alike.{alike, unlike}
 use Rattle.plan_equality.proofs.same.+same_type.Goals as goal
 
@@ -55,8 +57,14 @@ same_type-returns-in-Chunk-matches t c = alike c.in-Chunk.is c.in-Chunk-matches.
 pub same_type-returns-in_default-matches-8 : goal.same_type-returns-in_default-matches-8
 same_type-returns-in_default-matches-8 t c = unlike c.in-Chunk.is c.in_default-matches-8.not-Chunk
 
+pub same_type-returns-in-List-b : goal.same_type-returns-in-List-b
+same_type-returns-in-List-b t c = grind (arith, trees)
+
 pub same_type-returns-in_default-b : goal.same_type-returns-in_default-b
 same_type-returns-in_default-b t c = unlike c.in-List.is (c.in_default-b.not-List c.in-List.item)
+
+pub same_type-returns-in-Tuple-b : goal.same_type-returns-in-Tuple-b
+same_type-returns-in-Tuple-b t c = grind (arith, trees)
 
 pub same_type-returns-in_default-b-2 : goal.same_type-returns-in_default-b-2
 same_type-returns-in_default-b-2 t c = unlike c.in-Tuple.is (c.in_default-b-2.not-Tuple c.in-Tuple.parts)
