@@ -103,8 +103,14 @@ fn visit_chunk<S: Services>(
     match run_chunk(alloc, chunk, size, &mut state, svc) {
         Ok(v) => Ok(state.into_visit(Outcome::Value(v))),
         Err(EvalStop::Raised(x)) => Ok(state.into_visit(Outcome::Raised(x))),
-        Err(EvalStop::WorkSpent) => Ok(visit_without_effect(alloc, bound)),
-        Err(EvalStop::NoMemory) => Err(NoMemory),
+        Err(EvalStop::WorkSpent) => {
+            drop(state);
+            Ok(visit_without_effect(alloc, bound))
+        }
+        Err(EvalStop::NoMemory) => {
+            drop(state);
+            Err(NoMemory)
+        }
         Err(EvalStop::Wrong) => unreachable!(),
     }
 }
