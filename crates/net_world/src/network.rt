@@ -175,10 +175,10 @@ impl<S: Services> Network<S> {
         let Some(at) = node_place(self.nodes.as_slice(), to.host) else {
             return nothing(alloc);
         };
-        let line = hand_line(how, x.number);
+        let number = x.number;
         let acts = hand_to(alloc, &mut self.nodes, at, to.dev, &x.frame)?;
         hand_off(alloc, &mut self.wire, how, place);
-        let before = one_line(alloc, line)?;
+        let before = one_line(alloc, hand_line(how, number))?;
         with_acts(before, to.host, acts.list)
     }
 
