@@ -90,7 +90,7 @@ fn bytes_of(alloc: Global, frame: &SpelledFrame) -> Result<Bytes, NoMemory>
 }
 
 /// Lines, and then that of a frame that goes onto the wire.
-pub fn with_wire(
+fn with_wire(
     alloc: Global,
     before: Lines,
     number: u32,
@@ -103,6 +103,21 @@ pub fn with_wire(
     let bytes = bytes_of(alloc, frame)?;
     lines.add(Line::Wire(number, bytes))?;
     Ok(lines)
+}
+
+/// The lines of a frame that a node took and that goes onto the wire: those of the node's acts, and then its own.
+pub fn sent_lines(
+    alloc: Global,
+    host: Host,
+    acts: ActList,
+    number: u32,
+    frame: &SpelledFrame,
+) -> Result<Lines, NoMemory>
+    ensures { IfOk result (λ lines. lines
+        ≡ spec.lines_at host acts ++ line.Wire number (stamped_bytes frame.now) ∷ []) }
+{
+    let before = with_acts(no_lines(alloc), host, acts)?;
+    with_wire(alloc, before, number, frame)
 }
 
 /// The line of a frame that is handed to its receiving end.
