@@ -1,5 +1,5 @@
 ghost use Rattle.std.specs.Prelude.{◌≡◌, ◌-◌, ◌<◌};
-ghost use Rattle.read_laws.specs.Reading.{many};
+ghost use Rattle.plan_items.specs.Reading.{many};
 ghost use Rattle.chunk_spelling.specs.Exprs.{clauses_at, clauses_from};
 ghost use Rattle.chunk_codec.specs.Shapes as shape;
 ghost use Rattle.chunk_codec.specs.Reading.{Gives, expr_at, expr_behind, clause_at};

@@ -37,7 +37,7 @@ use Rattle.node_model.specs.State.{NodeState, Queues, routing_of}
 use Rattle.node_model.specs.Visits.{around, visit_of, services_after}
 use Rattle.node_model.specs.Node.{NodeStep, next_serial, injected_packet, visit_acts, visit_sends, sends_queues, visit_step, inject_step, stepped_node, mark_of, mark, takes_as, seen_then, with_seen, frame_step, only_acts, stamped_as, stamped_step, arrived_read, arrive_step, asked_read, control_step}
 use Rattle.node_model.specs.Fits.{IsMarked}
-use Rattle.node_laws.proofs.Staying.{frame_stays}
+use Rattle.node_model.proofs.Staying.{frame_stays}
 use Rattle.node_parts.proofs.ReadingLaws.{goes_on}
 use Rattle.node_core.specs.Stands.{NodeStands, IsStep, mark_on, own_family, own_packet, around_at}
 use Rattle.node_parts.specs.Carried.{MayBear, MayGoOn}

@@ -83,7 +83,7 @@ impl<S: Services + Drop> Drop for Node<S> {
 impl<S: Services + Drop> Node<S> {
     /// A node at its beginning: it has heard nothing, nothing is queued, nothing was taken, and its time is 0. Conditions: at
     /// most 32 hosts, none twice; neighbours on devices from 1 to 8, each once, in order; no `begin` of the services is open.
-    #[tactic(auto, unfolding(node_model::specs::State::new_node), using(node_laws::proofs::Contexts::near_by_devices))]
+    #[tactic(auto, unfolding(node_model::specs::State::new_node), using(node_model::proofs::Contexts::near_by_devices))]
     pub fn new(alloc: Global, config: NodeConfig, services: S) -> Result<Node<S>, NoMemory>
         requires config { ConfigFits config }
         requires services { IsResting (S.stands services) }
