@@ -634,18 +634,18 @@ direct::sequence-evaluate-requires g t c =
 
 pub direct::sequence-last_part-requires : goal.direct::sequence-last_part-requires
 direct::sequence-last_part-requires g t c =
-    let is : c.evaluate.result ≡ Ok (flow.Done c.in-Ok-Done._v) = cc in
+    let is : c.evaluate.result ≡ Ok (flow.Done c.in-Ok-Done.v) = cc in
     let here = here_grown _ _ _ c.evaluate.ensures.grown c.requires.here in
     let part : part_or_self c.args.e.now (Some 1) ≡ Some c.args.b.now = then_last c.args.here.now.code.now c.args.here.now.fun c.args.e.now c.args.a.now c.args.b.now (spot c.args.here.now c.args.e.now).env c.requires.form in
-    let leads = then_leads c.args.here.now.code.now c.args.here.now.fun c.args.e.now c.args.a.now c.args.b.now (spot c.args.here.now c.args.e.now).env c.requires.form (joined_state c.args.state.now (g.S.Services.stands c.args.svc.now)) (joined_state c.evaluate.new.state (g.S.Services.stands c.evaluate.new.svc)) c.in-Ok-Done._v (rw is at c.evaluate.ensures.flows) in
+    let leads = then_leads c.args.here.now.code.now c.args.here.now.fun c.args.e.now c.args.a.now c.args.b.now (spot c.args.here.now c.args.e.now).env c.requires.form (joined_state c.args.state.now (g.S.Services.stands c.args.svc.now)) (joined_state c.evaluate.new.state (g.S.Services.stands c.evaluate.new.svc)) c.in-Ok-Done.v (rw is at c.evaluate.ensures.flows) in
     let safe : IsSafe (next_step c.args.here.now.code.now c.args.here.now.fun (spot c.args.here.now c.args.e.now) (next.Open (frame.Last 1)) (joined_state c.evaluate.new.state (g.S.Services.stands c.evaluate.new.svc))).asks = leads.safe c.requires.safe in
     search rules
 
 pub direct::sequence-returns-in-Ok-Done-clause-flows : goal.direct::sequence-returns-in-Ok-Done-clause-flows
 direct::sequence-returns-in-Ok-Done-clause-flows g t c =
-    let is : c.evaluate.result ≡ Ok (flow.Done c.in-Ok-Done._v) = cc in
+    let is : c.evaluate.result ≡ Ok (flow.Done c.in-Ok-Done.v) = cc in
     flows_from c.last_part.new.codes c.args.here.now.code.now c.args.here.now.fun (spot c.args.here.now c.args.e.now) _ _ c.last_part.result (joined_state c.last_part.new.state (g.S.Services.stands c.last_part.new.svc))
-    (then_leads c.args.here.now.code.now c.args.here.now.fun c.args.e.now c.args.a.now c.args.b.now (spot c.args.here.now c.args.e.now).env c.requires.form (joined_state c.args.state.now (g.S.Services.stands c.args.svc.now)) (joined_state c.evaluate.new.state (g.S.Services.stands c.evaluate.new.svc)) c.in-Ok-Done._v (rw is at c.evaluate.ensures.flows)) c.last_part.ensures.flows
+    (then_leads c.args.here.now.code.now c.args.here.now.fun c.args.e.now c.args.a.now c.args.b.now (spot c.args.here.now c.args.e.now).env c.requires.form (joined_state c.args.state.now (g.S.Services.stands c.args.svc.now)) (joined_state c.evaluate.new.state (g.S.Services.stands c.evaluate.new.svc)) c.in-Ok-Done.v (rw is at c.evaluate.ensures.flows)) c.last_part.ensures.flows
 
 pub direct::sequence-returns-in_ok-inside-in-Ok-Wait-clause-flows : goal.direct::sequence-returns-in_ok-inside-in-Ok-Wait-clause-flows
 direct::sequence-returns-in_ok-inside-in-Ok-Wait-clause-flows g t c =
@@ -756,17 +756,17 @@ sends::near_dev-evaluate-requires g t c =
     let safe : IsSafe (meaning c.args.here.now.code.now c.args.here.now.fun (spot c.args.here.now c.args.e.now).env c.args.d.now (joined_state c.args.state.now (g.S.Services.stands c.args.svc.now))).asks = resume_asks c.args.here.now.code.now c.args.here.now.fun (spot c.args.here.now c.args.e.now) (frame.Part 3 (c.args.c ∷ c.args.w ∷ c.args.u ∷ [])) _ c.requires.safe in
     search rules
 
-pub sends::near_dev-send_values-requires : goal.sends::near_dev-send_values-requires
-sends::near_dev-send_values-requires g t c =
+pub sends::near_dev-send_values-sent-requires : goal.sends::near_dev-send_values-sent-requires
+sends::near_dev-send_values-sent-requires g t c =
     let is : c.evaluate.result ≡ Ok (flow.Done c.in-Ok-Done.v) = cc in
     record { safe = near_is_safe c.args.here.now.code.now c.args.here.now.fun c.args.e.now c.requires.form.0 c.requires.form.1 c.requires.form.2 c.args.d.now (spot c.args.here.now c.args.e.now).env c.requires.form.3 (meaning c.args.here.now.code.now c.args.here.now.fun (spot c.args.here.now c.args.e.now).env c.args.d.now (joined_state c.args.state.now (g.S.Services.stands c.args.svc.now))) c.evaluate.new.state (g.S.Services.stands c.evaluate.new.svc) c.args.c c.args.w c.args.u c.in-Ok-Done.v (rw is at c.evaluate.ensures.flows) c.requires.safe }
 
 pub sends::near_dev-returns-in-Ok-Done-clause-flows : goal.sends::near_dev-returns-in-Ok-Done-clause-flows
 sends::near_dev-returns-in-Ok-Done-clause-flows g t c =
     let is : c.evaluate.result ≡ Ok (flow.Done c.in-Ok-Done.v) = cc in
-    flows_from c.evaluate.new.codes c.args.here.now.code.now c.args.here.now.fun (spot c.args.here.now c.args.e.now) _ _ c.send_values.result (joined_state c.send_values.new.state (g.S.Services.stands c.evaluate.new.svc))
+    flows_from c.evaluate.new.codes c.args.here.now.code.now c.args.here.now.fun (spot c.args.here.now c.args.e.now) _ _ c.send_values-sent.result (joined_state c.send_values-sent.new.state (g.S.Services.stands c.evaluate.new.svc))
     (part_came c.args.here.now.code.now c.args.here.now.fun (spot c.args.here.now c.args.e.now) 3 (c.args.c ∷ c.args.w ∷ c.args.u ∷ []) (meaning c.args.here.now.code.now c.args.here.now.fun (spot c.args.here.now c.args.e.now).env c.args.d.now (joined_state c.args.state.now (g.S.Services.stands c.args.svc.now))) c.in-Ok-Done.v (joined_state c.evaluate.new.state (g.S.Services.stands c.evaluate.new.svc)) (rw is at c.evaluate.ensures.flows))
-    (c.send_values.ensures.flows c.evaluate.new.codes c.args.here.now.code.now c.args.here.now.fun c.args.e.now c.requires.form.0 c.requires.form.1 c.requires.form.2 c.args.d.now (spot c.args.here.now c.args.e.now).env (g.S.Services.stands c.evaluate.new.svc) c.requires.form.3)
+    (c.send_values-sent.ensures.flows c.evaluate.new.codes c.args.here.now.code.now c.args.here.now.fun c.args.e.now c.requires.form.0 c.requires.form.1 c.requires.form.2 c.args.d.now (spot c.args.here.now c.args.e.now).env (g.S.Services.stands c.evaluate.new.svc) c.requires.form.3)
 
 pub sends::near_dev-returns-in_ok-inside-in-Ok-Wait-clause-flows : goal.sends::near_dev-returns-in_ok-inside-in-Ok-Wait-clause-flows
 sends::near_dev-returns-in_ok-inside-in-Ok-Wait-clause-flows g t c =
