@@ -131,22 +131,22 @@ direct::choice-returns-in-Some-false-clause-flows g t c =
     flows_from c.last_part-in-Some-false.new.codes c.args.here.now.code.now c.args.here.now.fun (spot c.args.here.now c.args.e.now) _ _ c.last_part-in-Some-false.result (joined_state c.last_part-in-Some-false.new.state (g.S.Services.stands c.last_part-in-Some-false.new.svc))
     (if_false c.args.here.now.code.now c.args.here.now.fun c.args.e.now c.args.t.now c.args.a.now c.args.b.now (spot c.args.here.now c.args.e.now).env c.requires.form (joined_state c.args.state.now (g.S.Services.stands c.args.svc.now)) (joined_state c.evaluate.new.state (g.S.Services.stands c.evaluate.new.svc)) c.in-Ok-Done.v came test) c.last_part-in-Some-false.ensures.flows
 
-pub direct::choice-returns-in-Ok-Done-clause-flows : goal.direct::choice-returns-in-Ok-Done-clause-flows
-direct::choice-returns-in-Ok-Done-clause-flows g t c = λ other.
+pub direct::choice-returns-in-None-clause-flows : goal.direct::choice-returns-in-None-clause-flows
+direct::choice-returns-in-None-clause-flows g t c = λ other.
     let is : c.evaluate.result ≡ Ok (flow.Done c.in-Ok-Done.v) = ok_is _ _ _ c.in-Ok-Done.is c.in-Ok-Done.field-0-is in
     let came : (meaning c.args.here.now.code.now c.args.here.now.fun (spot c.args.here.now c.args.e.now).env c.args.t.now (joined_state c.args.state.now (g.S.Services.stands c.args.svc.now))).after ≡ gave c.in-Ok-Done.v (joined_state c.evaluate.new.state (g.S.Services.stands c.evaluate.new.svc)) = rw is at c.evaluate.ensures.flows in
     let test : as_bool c.in-Ok-Done.v ≡ None = cc in
     if_wrong c.args.here.now.code.now c.args.here.now.fun c.args.e.now c.args.t.now c.args.a.now c.args.b.now (spot c.args.here.now c.args.e.now).env c.requires.form (joined_state c.args.state.now (g.S.Services.stands c.args.svc.now)) (joined_state c.evaluate.new.state (g.S.Services.stands c.evaluate.new.svc)) c.in-Ok-Done.v came test
 
-pub direct::choice-returns-in-Ok-Wait-clause-flows : goal.direct::choice-returns-in-Ok-Wait-clause-flows
-direct::choice-returns-in-Ok-Wait-clause-flows g t c =
+pub direct::choice-returns-in_ok-inside-in-Ok-Wait-clause-flows : goal.direct::choice-returns-in_ok-inside-in-Ok-Wait-clause-flows
+direct::choice-returns-in_ok-inside-in-Ok-Wait-clause-flows g t c =
     let is : c.evaluate.result ≡ Ok (flow.Wait c.in-Ok-Wait.rest) = ok_is _ _ _ c.in-Ok-Wait.is c.in-Ok-Wait.field-0-is in
     let none = c.new.ensures in
     rw (c.in_ok-inside-in-Ok-Wait.ensures, none)
     (waits_inside c.evaluate.new.codes c.args.here.now.code.now c.args.here.now.fun (spot c.args.here.now c.args.e.now) (frame.Part 0 []) _ (if_test c.args.here.now.code.now c.args.here.now.fun c.args.e.now c.args.t.now c.args.a.now c.args.b.now (spot c.args.here.now c.args.e.now).env c.requires.form) c.in-Ok-Wait.rest (joined_state c.evaluate.new.state (g.S.Services.stands c.evaluate.new.svc)) _ _ (first_leads c.args.here.now.code.now c.args.here.now.fun (spot c.args.here.now c.args.e.now) c.args.t.now (joined_state c.args.state.now (g.S.Services.stands c.args.svc.now)) (if_parts c.args.here.now.code.now c.args.here.now.fun c.args.e.now c.args.t.now c.args.a.now c.args.b.now (spot c.args.here.now c.args.e.now).env c.requires.form) (if_test c.args.here.now.code.now c.args.here.now.fun c.args.e.now c.args.t.now c.args.a.now c.args.b.now (spot c.args.here.now c.args.e.now).env c.requires.form)) (rw is at c.evaluate.ensures.flows))
 
-pub direct::choice-returns-clause-flows : goal.direct::choice-returns-clause-flows
-direct::choice-returns-clause-flows g t c = λ other.
+pub direct::choice-returns-in-Err-clause-flows : goal.direct::choice-returns-in-Err-clause-flows
+direct::choice-returns-in-Err-clause-flows g t c = λ other.
     let is : c.evaluate.result ≡ Err c.in-Err.stop = c.in-Err.is in
     (first_leads c.args.here.now.code.now c.args.here.now.fun (spot c.args.here.now c.args.e.now) c.args.t.now (joined_state c.args.state.now (g.S.Services.stands c.args.svc.now)) (if_parts c.args.here.now.code.now c.args.here.now.fun c.args.e.now c.args.t.now c.args.a.now c.args.b.now (spot c.args.here.now c.args.e.now).env c.requires.form) (if_test c.args.here.now.code.now c.args.here.now.fun c.args.e.now c.args.t.now c.args.a.now c.args.b.now (spot c.args.here.now c.args.e.now).env c.requires.form)).same ∙ part_stops_so c.args.here.now.code.now c.args.here.now.fun (spot c.args.here.now c.args.e.now) 0 [] _ c.in-Err.stop _ (if_no_try c.args.here.now.code.now c.args.here.now.fun c.args.e.now c.args.t.now c.args.a.now c.args.b.now (spot c.args.here.now c.args.e.now).env c.requires.form) ((rw is at c.evaluate.ensures.flows) other)
 
