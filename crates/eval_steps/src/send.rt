@@ -127,6 +127,31 @@ fn send_remote(
     Ok(Next::Give(Value::Unit))
 }
 
+/// A send by a routing name, behind its chunk and its host. Condition: both wait.
+fn last_remote(
+    alloc: Global,
+    r: &Name,
+    held: Values,
+    v: Value,
+    state: &mut State,
+) -> Result<Next, EvalStop>
+    requires both { 2 ≤ length held }
+    requires safe { (c w : Value) (more : List Value) → held ≡ c ∷ w ∷ more
+        → RemoteIsSafe r.now c w v state.old }
+    ensures decides { (code : Program) (seen : ℕ) (a h b : Expr) (n : ℕ) (s : ServiceState)
+        → Continues code seen (Expr-F.OnRemote a h b r.now) n held v
+        (joined_state state.old s) result (joined_state state.new s) }
+    ensures falls { state.new.work ≤ state.old.work }
+{
+    let mut waiting = held;
+    let c = take_first(&mut waiting);
+    let w = take_first(&mut waiting);
+    let sent = send_remote(alloc, r, c, &w, &v, state);
+    drop(w);
+    drop(v);
+    sent
+}
+
 /// The next part of a send by a routing name, or the send.
 #[tactic(auto, using(crate::proofs::Deciding::host_of_remote, crate::proofs::Deciding::bound_of_remote, crate::proofs::Sending::early_remote))]
 #[inline(never)]
@@ -160,15 +185,7 @@ pub fn remote_part(
             }
             Ok(part_next(2, held, v)?)
         }
-        [_, _, ..] => {
-            let mut waiting = held;
-            let c = take_first(&mut waiting);
-            let w = take_first(&mut waiting);
-            let sent = send_remote(alloc, r, c, &w, &v, state);
-            drop(w);
-            drop(v);
-            sent
-        }
+        [_, _, ..] => last_remote(alloc, r, held, v, state),
     }
 }
 
@@ -254,6 +271,32 @@ pub fn neighbour_sent(
     }
 }
 
+/// A send to a neighbour, behind its chunk, its host and its bound. Condition: all three wait.
+fn last_neighbour(
+    alloc: Global,
+    held: Values,
+    v: Value,
+    state: &mut State,
+) -> Result<Next, EvalStop>
+    requires all { 3 ≤ length held }
+    requires safe { (c w u : Value) (more : List Value) → held ≡ c ∷ w ∷ u ∷ more
+        → NeighbourIsSafe c w u v state.old }
+    ensures decides { (code : Program) (seen : ℕ) (a h b d : Expr) (n : ℕ) (s : ServiceState)
+        → Continues code seen (Expr-F.OnNeighbor a h b d) n held v
+        (joined_state state.old s) result (joined_state state.new s) }
+    ensures falls { state.new.work ≤ state.old.work }
+{
+    let mut waiting = held;
+    let c = take_first(&mut waiting);
+    let w = take_first(&mut waiting);
+    let u = take_first(&mut waiting);
+    let sent = send_neighbour(alloc, c, &w, &u, &v, state);
+    drop(w);
+    drop(u);
+    drop(v);
+    sent
+}
+
 /// The next part of a send to a neighbour, or the send.
 #[tactic(auto, using(crate::proofs::Deciding::host_of_neighbour, crate::proofs::Deciding::bound_of_neighbour, crate::proofs::Deciding::dev_of_neighbour, crate::proofs::Sending::early_neighbour, crate::proofs::Sending::third_neighbour))]
 #[inline(never)]
@@ -298,16 +341,6 @@ pub fn neighbour_part(
             }
             Ok(part_next(3, held, v)?)
         }
-        [_, _, _, ..] => {
-            let mut waiting = held;
-            let c = take_first(&mut waiting);
-            let w = take_first(&mut waiting);
-            let u = take_first(&mut waiting);
-            let sent = send_neighbour(alloc, c, &w, &u, &v, state);
-            drop(w);
-            drop(u);
-            drop(v);
-            sent
-        }
+        [_, _, _, ..] => last_neighbour(alloc, held, v, state),
     }
 }

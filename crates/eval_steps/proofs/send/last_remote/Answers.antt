@@ -1,6 +1,6 @@
 use Rattle.std.proofs.Common.{◌≡◌, ◌∷◌, List, ap, ◌∙◌}
 use Rattle.plan_base.specs.declared.tree.Value.{Value}
-use Rattle.eval_steps.proofs.send.remote_part.Goals as goal
+use Rattle.eval_steps.proofs.send.last_remote.Goals as goal
 
 pub send_remote-sent-requires : goal.send_remote-sent-requires
 send_remote-sent-requires c =

@@ -1,6 +1,6 @@
 use Rattle.std.proofs.Common.{◌≡◌, ◌∷◌, List, ap, ◌∙◌}
 use Rattle.plan_base.specs.declared.tree.Value.{Value}
-use Rattle.eval_steps.proofs.send.neighbour_part.Goals as goal
+use Rattle.eval_steps.proofs.send.last_neighbour.Goals as goal
 
 pub send_neighbour-sent-requires : goal.send_neighbour-sent-requires
 send_neighbour-sent-requires c =
