@@ -29,7 +29,7 @@ begun_safe code seen env e s t paid safe = (begun_here code seen env e s t paid)
 
 -- what answered so is that variant
 pub ok_is : {A E : Type 0} (r : Result A E) (x y : A) → r ≡ Ok x → x ≡ y → r ≡ Ok y
-ok_is r x y is same = is ∙ ap (λ (a : A). Ok a) same
+ok_is {A = A} r x y is same = is ∙ ap (λ (a : A). Ok a) same
 
 -- what lasts from less lasts from more
 pub lasts_later : (old mid new : ℕ) (r : Result Flow EvalStop) → mid ≤ old → Lasts 3 mid r new → Lasts 3 old r new
