@@ -1,8 +1,8 @@
-ghost use Rattle.std.specs.Prelude.{◌≡◌, ℕ, [], ◌∷◌, ◌++◌, ◌<◌, length, slice_get, ◌↔◌, IsTrue, OnOk, OnErr, position};
+ghost use Rattle.std.specs.Prelude.{◌≡◌, ℕ, [], ◌∷◌, ◌++◌, ◌<◌, length, slice_get, ◌↔◌, IsTrue, List, OnOk, OnErr, position};
 ghost use Rattle.std.specs.Option.{option_copied};
 ghost use Rattle.node_io.specs.FileMaps.{file_at, contents, is_named, ChangesOnly};
 
-use crate::text::{is_text, text_of};
+use crate::text::{bytes_of, is_text, text_of};
 use plan_base::{Bytes, NoMemory, Text};
 use std::alloc::{AllocError, Global};
 use std::marker::Model;
@@ -87,14 +87,11 @@ impl FileList {
     {
         match self.find(name) {
             Some(i) => {
-                self.all[i].1 = Bytes::new(alloc);
+                self.empty_at(alloc, i);
+                Ok(())
             }
-            None => {
-                let name = text_of(alloc, name)?;
-                push_file(&mut self.all, (name, Bytes::new(alloc)))?;
-            }
+            None => add_file(alloc, &mut self.all, name, b""),
         }
-        Ok(())
     }
 
     /// Adds `piece` at the end of the file `name`, which is begun where it is missing. Where memory
@@ -110,20 +107,49 @@ impl FileList {
         ensures err { OnErr result (self.new ≡ self.old) }
     {
         match self.find(name) {
-            Some(i) => {
-                self.all[i].1.add_all(piece)?;
-            }
-            None => {
-                let name = text_of(alloc, name)?;
-                let mut bytes = Bytes::new(alloc);
-                bytes.add_all(piece)?;
-                push_file(&mut self.all, (name, bytes))?;
-            }
+            Some(i) => self.extend_at(i, piece),
+            None => add_file(alloc, &mut self.all, name, piece),
         }
+    }
+
+    /// Makes the file at place `i` empty.
+    fn empty_at(&mut self, alloc: Global, i: usize)
+        requires { i < length self.old }
+        ensures { (name : List ℕ) → Some i ≡ position (is_named name) self.old
+            → ChangesOnly self.old self.new name [] }
+    {
+        self.all[i].1 = Bytes::new(alloc);
+    }
+
+    /// Adds `piece` at the end of the file at place `i`.
+    fn extend_at(&mut self, i: usize, piece: &[u8]) -> Result<(), NoMemory>
+        requires { i < length self.old }
+        ensures ok { OnOk result ((name : List ℕ) → Some i ≡ position (is_named name) self.old
+            → ChangesOnly self.old self.new name (contents self.old name ++ piece.now)) }
+        ensures err { OnErr result (self.new ≡ self.old) }
+    {
+        self.all[i].1.add_all(piece)?;
         Ok(())
     }
 }
 
+/// Adds a file of this name with these bytes. Where memory is refused, the files stay.
+fn add_file(
+    alloc: Global,
+    files: &mut Vec<(Text, Bytes)>,
+    name: &[u8],
+    bytes: &[u8],
+) -> Result<(), NoMemory>
+    ensures ok { OnOk result (files.new.items ≡ files.old.items ++ (name.now, bytes.now) ∷ []) }
+    ensures err { OnErr result (files.new.items ≡ files.old.items) }
+{
+    let name = text_of(alloc, name)?;
+    let bytes = bytes_of(alloc, bytes)?;
+    push_file(files, (name, bytes))?;
+    Ok(())
+}
+
+/// Adds a file at the end.
 fn push_file(files: &mut Vec<(Text, Bytes)>, file: (Text, Bytes)) -> Result<(), AllocError>
     ensures ok { OnOk result (files.new.items ≡ files.old.items ++ file ∷ []) }
     ensures err { OnErr result (files.new.items ≡ files.old.items) }

@@ -1,10 +1,10 @@
-ghost use Rattle.std.specs.Prelude.{◌≡◌, [], false, is_some};
+ghost use Rattle.std.specs.Prelude.{◌≡◌, ◌≤◌, ◌<◌, [], true, false, length, is_some, IsTrue, IfSome};
 
 use crate::counts::raise;
 use crate::host_sink::write_some;
 use crate::outside::{Failed, Files};
 use std::fs;
-use std::io::Read;
+use std::io::{Read, Write};
 use std::rt::Files as System;
 
 /// The files of the system. Each push writes and flushes, so that no fault comes later. It tells
@@ -34,6 +34,30 @@ impl<'a, R: System> HostFiles<'a, R> {
     }
 }
 
+/// Reads the next bytes of the file to the front of `buf`. Answers their number, or `None` where the reading failed.
+fn read_some<T: Read>(source: &mut Option<T>, buf: &mut [u8]) -> Option<usize>
+    requires { IsTrue (is_some source.old) }
+    ensures within { IfSome result (λ n. n ≤ length buf.new) }
+    ensures begun { is_some source.new ≡ true }
+{
+    match source {
+        Some(file) => file.read(buf).ok(),
+        None => unreachable!(),
+    }
+}
+
+/// Adds a prefix of `piece` to the file. Answers its length, or `None` where the writing failed.
+fn add_some<T: Write>(target: &mut Option<T>, piece: &[u8]) -> Option<usize>
+    requires { IsTrue (is_some target.old) }
+    ensures count { IfSome result (λ n. (n ≤ length piece.now) × (0 < length piece.now → 0 < n)) }
+    ensures begun { is_some target.new ≡ true }
+{
+    match target {
+        Some(file) => write_some(file, piece),
+        None => unreachable!(),
+    }
+}
+
 impl<R: System> Files for HostFiles<'_, R> {
     ghost state = { λ f. record {
       observable = false;
@@ -58,15 +82,12 @@ impl<R: System> Files for HostFiles<'_, R> {
     }
 
     fn pull(&mut self, buf: &mut [u8]) -> Result<usize, Failed> {
-        match &mut self.source {
-            None => unreachable!(),
-            Some(file) => match file.read(buf) {
-                Ok(count) => Ok(count),
-                Err(_) => {
-                    raise(&mut self.read_faults);
-                    Err(Failed)
-                }
-            },
+        match read_some(&mut self.source, buf) {
+            Some(count) => Ok(count),
+            None => {
+                raise(&mut self.read_faults);
+                Err(Failed)
+            }
         }
     }
 
@@ -80,15 +101,12 @@ impl<R: System> Files for HostFiles<'_, R> {
     }
 
     fn push(&mut self, piece: &[u8]) -> Result<usize, Failed> {
-        match &mut self.target {
-            None => unreachable!(),
-            Some(file) => match write_some(file, piece) {
-                Some(count) => Ok(count),
-                None => {
-                    raise(&mut self.write_faults);
-                    Err(Failed)
-                }
-            },
+        match add_some(&mut self.target, piece) {
+            Some(count) => Ok(count),
+            None => {
+                raise(&mut self.write_faults);
+                Err(Failed)
+            }
         }
     }
 }

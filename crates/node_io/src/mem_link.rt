@@ -5,6 +5,7 @@ ghost use Rattle.node_io.specs.Memory.{link_state, IsDueAtLink, LinkLacksMemory,
 use crate::counts::{is_due, raise};
 use crate::link::{Arrival, Arrivals, Got, Link, MOST_RECEIVED, Peer, Peers, SentFrames};
 use crate::outside::{Calls, Failed};
+use crate::text::bytes_of;
 use plan_base::{Bytes, Dev, NoMemory};
 use plan_items::Items;
 use std::alloc::{AllocError, Global};
@@ -119,8 +120,7 @@ fn note_sent(alloc: Global, sent: &mut SentFrames, dev: Dev, bytes: &[u8]) -> Re
     ensures ok { OnOk result (sent.new ≡ sent.old ++ (dev, bytes.now) ∷ []) }
     ensures err { OnErr result (sent.new ≡ sent.old) }
 {
-    let mut frame = Bytes::new(alloc);
-    frame.add_all(bytes)?;
+    let frame = bytes_of(alloc, bytes)?;
     sent.add((dev, frame))
 }
 

@@ -6,7 +6,7 @@ use crate::children::Children;
 use crate::counts::{is_due, raise};
 use crate::outside::{Calls, Failed};
 use crate::spawner::{Child, Spawner, Statuses};
-use crate::text::text_of;
+use crate::text::add_name;
 use plan_base::{NoMemory, Text, Texts};
 use plan_items::Items;
 use std::alloc::{AllocError, Global};
@@ -51,7 +51,7 @@ fn copy_words(alloc: Global, words: &[Text]) -> Result<Texts, AllocError>
 {
     let mut copy = Texts::new(alloc);
     for word in words {
-        copy.add(text_of(alloc, word.as_slice())?)?;
+        add_name(alloc, &mut copy, word.as_slice())?;
     }
     Ok(copy)
 }

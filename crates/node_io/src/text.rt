@@ -1,7 +1,7 @@
 ghost use Rattle.std.specs.Prelude.{◌≡◌, ◌++◌, ◌∷◌, [], IfOk, OnOk, OnErr};
 ghost use Rattle.std.specs.Str.{bytes_eq};
 
-use plan_base::{NoMemory, Text, Texts};
+use plan_base::{Bytes, Text, Texts};
 use std::alloc::{AllocError, Global};
 
 /// A text of the bytes of `bytes`.
@@ -9,6 +9,13 @@ pub(crate) fn text_of(alloc: Global, bytes: &[u8]) -> Result<Text, AllocError>
     ensures { IfOk result (λ text. text ≡ bytes.now) }
 {
     Ok(Text::of(Vec::from_slice(alloc, bytes)?))
+}
+
+/// The same bytes.
+pub(crate) fn bytes_of(alloc: Global, bytes: &[u8]) -> Result<Bytes, AllocError>
+    ensures { IfOk result (λ copy. copy ≡ bytes.now) }
+{
+    Ok(Bytes::of(Vec::from_slice(alloc, bytes)?))
 }
 
 /// Whether `text` has the bytes of `bytes`.
@@ -19,11 +26,10 @@ pub(crate) fn is_text(text: &Text, bytes: &[u8]) -> bool
 }
 
 /// Adds `name` at the end of `names`. Where memory is refused, the names stay.
-pub(crate) fn add_name(alloc: Global, names: &mut Texts, name: &[u8]) -> Result<(), NoMemory>
+pub(crate) fn add_name(alloc: Global, names: &mut Texts, name: &[u8]) -> Result<(), AllocError>
     ensures ok { OnOk result (names.new ≡ names.old ++ name.now ∷ []) }
     ensures err { OnErr result (names.new ≡ names.old) }
 {
     let text = text_of(alloc, name)?;
-    names.add(text)?;
-    Ok(())
+    names.add(text)
 }
