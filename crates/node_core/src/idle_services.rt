@@ -204,7 +204,7 @@ fn turn_of(
 
 /// Visits a packet and settles the visit, of which nothing stands yet: gives it with what was left before and with whether its
 /// work was spent.
-#[tactic(auto, using(crate::proofs::TurnLaws::turn_visit, crate::proofs::TurnLaws::turn_closes, settled_visit::proofs::Sends::sent_plain))]
+#[tactic(auto, using(settled_visit::proofs::Sends::sent_plain))]
 fn settled_of<S: Services>(
     alloc: Global,
     services: &mut S,
