@@ -23,13 +23,13 @@ use Rattle.typing_rules.specs.TypingFills.{Fills}
 use Rattle.typing_rules.specs.TypingOrder.{annotated_program}
 use Rattle.plan_base.proofs.SizeLaws.{type_depth_out}
 use Rattle.plan_base.proofs.FormLaws.{formed_type_out, formed_expr_out}
-use Rattle.typing_laws.proofs.Programs.{annotated_complete, fills_itself, depths_kept}
+use Rattle.typing_rules.proofs.Programs.{annotated_complete, fills_itself, depths_kept}
 use Rattle.plan_types.specs.Kept.{IsChecked}
 use Rattle.plan_lexer.specs.declared.token.Key.TheVariants as key
 use Rattle.printed_forms.specs.Printed.{program_text}
-use Rattle.text_laws.specs.Proper.{AreBytes, base_key, IsProperType, AreProperTypes, IsReadableType, IsProperCatch, IsProper, AreProper, AreProperClauses, AllProper, IsProperSvc, IsProperParam, IsProperFun, IsProperProgram}
-use Rattle.text_laws.specs.Proper as p
-use Rattle.text_laws.proofs.ProgramTokens.{program_lexes}
+use Rattle.round_trip.specs.Proper.{AreBytes, base_key, IsProperType, AreProperTypes, IsReadableType, IsProperCatch, IsProper, AreProper, AreProperClauses, AllProper, IsProperSvc, IsProperParam, IsProperFun, IsProperProgram}
+use Rattle.round_trip.specs.Proper as p
+use Rattle.round_trip.proofs.ProgramTokens.{program_lexes}
 use Rattle.round_trip.proofs.Within.{within_limits}
 use Rattle.round_trip.proofs.Declarations.{program_reads}
 use Rattle.program_text.specs.Texts.{placed_result, typed_of, program_of, Says}

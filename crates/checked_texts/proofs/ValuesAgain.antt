@@ -20,10 +20,10 @@ use Rattle.chunk_types.specs.Chunks.{IsCheckedChunk}
 use Rattle.plan_parser.specs.Values.{value_of}
 use Rattle.plan_parser.specs.ReadTexts.{Reads}
 use Rattle.printed_forms.specs.Printed.{value_text}
-use Rattle.text_laws.specs.Proper.{IsReadableType, IsProperValue, AreProperValues}
-use Rattle.text_laws.specs.Proper as p
-use Rattle.text_laws.proofs.Segments.{lexes_whole}
-use Rattle.text_laws.proofs.ValueTokens.{value_part}
+use Rattle.round_trip.specs.Proper.{IsReadableType, IsProperValue, AreProperValues}
+use Rattle.round_trip.specs.Proper as p
+use Rattle.round_trip.proofs.Segments.{lexes_whole}
+use Rattle.round_trip.proofs.ValueTokens.{value_part}
 use Rattle.round_trip.specs.Readable.{IsReadable, AreOfType, AreReadable}
 use Rattle.round_trip.specs.Readable as re
 use Rattle.round_trip.proofs.ValuesRead.{value_again}

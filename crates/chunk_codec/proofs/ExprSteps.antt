@@ -1,8 +1,8 @@
 use Rattle.std.proofs.Common.{◌≡◌, ℕ, zero, suc, ◌+◌, ◌-◌, ◌<◌, ◌≤◌, ◌==◌, append_assoc, append-nil, List, [], ◌∷◌, ◌++◌, Bool, true, false, Result, Ok, Err, refl, sym, ◌∙◌, ap, arith}
 use Rattle.std.proofs.lemmas.Bool.Decides.{nat_tests}
-use Rattle.read_laws.specs.Reading.{◌>>=◌}
-use Rattle.read_laws.proofs.Binds.{bind_is, bind_err}
-use Rattle.read_laws.proofs.Lists.{with_front}
+use Rattle.plan_items.specs.Reading.{◌>>=◌}
+use Rattle.plan_items.proofs.Binds.{bind_is, bind_err}
+use Rattle.plan_items.proofs.ReadingLists.{with_front}
 use Rattle.plan_base.specs.declared.tree.Expr.{Expr}
 use Rattle.plan_base.specs.declared.tree.Clause.{Clause}
 use Rattle.chunk_spelling.specs.declared.fault.SpellFault.{SpellFault}

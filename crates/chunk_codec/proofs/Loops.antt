@@ -1,6 +1,6 @@
 use Rattle.std.proofs.Common.{◌≡◌, ℕ, suc, ◌+◌, ◌-◌, ◌<◌, ◌≤◌, List, [], ◌∷◌, ◌++◌, Result, Ok, Err, sym, ◌∙◌, ap, arith}
-use Rattle.read_laws.specs.Reading.{many}
-use Rattle.read_laws.proofs.Lists.{with_front, many_stops, many_goes_on, many_done}
+use Rattle.plan_items.specs.Reading.{many}
+use Rattle.plan_items.proofs.ReadingLists.{with_front, many_stops, many_goes_on, many_done}
 use Rattle.chunk_spelling.specs.declared.fault.SpellFault.{SpellFault}
 use Rattle.chunk_spelling.specs.declared.fault.SpellFault.TheVariants.{Truncated, BadTag, BadName, BadUtf8, OverLimit, NoMemory}
 use Rattle.chunk_spelling.specs.Scan.{Scan, Reader}

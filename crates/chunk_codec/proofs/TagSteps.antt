@@ -2,7 +2,7 @@ use Rattle.std.proofs.Common.{◌≡◌, ℕ, ◌+◌, ◌<◌, ◌≤◌, Bool,
 use Rattle.std.specs.Int.{w8}
 use Rattle.std.proofs.lemmas.Bool.{le-ltb, lt-ltb}
 use Rattle.wire_bytes.specs.Fields.{Front, number_at}
-use Rattle.read_laws.proofs.Binds.{ok_inj, bind_is, bind_err}
+use Rattle.plan_items.proofs.Binds.{ok_inj, bind_is, bind_err}
 use Rattle.plan_base.specs.declared.limit.Limit.{Limit}
 use Rattle.chunk_spelling.specs.declared.fault.SpellFault.{SpellFault}
 use Rattle.chunk_spelling.specs.declared.fault.SpellFault.TheVariants.{OverLimit}

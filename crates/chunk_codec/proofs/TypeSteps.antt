@@ -1,5 +1,5 @@
 use Rattle.std.proofs.Common.{◌≡◌, ℕ, zero, suc, ◌-◌, ◌<◌, Ok, Err, refl, ◌∙◌, ap, arith}
-use Rattle.read_laws.proofs.Binds.{bind_is, bind_err}
+use Rattle.plan_items.proofs.Binds.{bind_is, bind_err}
 use Rattle.plan_base.specs.declared.tree.Ty.{Ty}
 use Rattle.chunk_spelling.specs.declared.fault.SpellFault.{SpellFault}
 use Rattle.chunk_spelling.specs.declared.tags.TypeTag.{TypeTag}

@@ -1,6 +1,6 @@
 use Rattle.std.proofs.Common.{◌≡◌, ◌⊎◌, inl, inr, ℕ, ◌+◌, List, ◌++◌, length, Result, Ok, Err, refl, sym, ◌∙◌, ap, subst}
 use Rattle.wire_bytes.specs.Fields.{Front, IsBytes}
-use Rattle.read_laws.proofs.Binds.{ok_inj}
+use Rattle.plan_items.proofs.Binds.{ok_inj}
 use Rattle.chunk_spelling.specs.declared.fault.SpellFault.{SpellFault}
 use Rattle.chunk_spelling.specs.declared.fault.SpellFault.TheVariants.{Truncated, BadTag, BadName, BadUtf8, OverLimit, NoMemory}
 use Rattle.chunk_spelling.specs.Scan.{Scan}

@@ -1,8 +1,10 @@
 ghost use Rattle.std.specs.Prelude.{◌≡◌, ◌-◌, ◌<◌};
-ghost use Rattle.read_laws.specs.Reading.{many};
+ghost use Rattle.plan_items.specs.Reading.{many};
 ghost use Rattle.chunk_spelling.specs.Exprs.{clauses_at, clauses_from};
+ghost use Rattle.chunk_codec.specs.Shapes as shape;
 ghost use Rattle.chunk_codec.specs.Reading.{Gives, expr_at, expr_behind, clause_at};
 
+use crate::shapes::{Applied, Fold, Pair, applied_to, folded, paired};
 use crate::source::Source;
 use crate::types::type_of;
 use chunk_spelling::{ExprTag, SpellFault};
@@ -31,7 +33,7 @@ fn boxed_expr(alloc: Global, s: &mut Source<'_>, room: u32) -> Result<Boxed<Expr
 
 /// What is behind an expression's tag.
 #[cycle(exprs)]
-#[tactic(auto, unfolding(crate::specs::Reading::expr_behind, chunk_spelling::specs::Parts::counted_at, chunk_spelling::specs::Exprs::clauses_at))]
+#[tactic(auto, unfolding(crate::specs::Reading::expr_behind, crate::specs::Shapes::pair_behind, crate::specs::Shapes::fold_behind, crate::specs::Shapes::applied_behind))]
 fn expr_with_tag(
     alloc: Global,
     s: &mut Source<'_>,
@@ -54,12 +56,12 @@ fn expr_with_tag(
         ExprTag::Nil => Ok(Expr::Nil(Some(type_of(alloc, s, 7)?))),
         ExprTag::Var => Ok(Expr::Var(s.name(alloc)?)),
         ExprTag::Tuple => tuple_behind(alloc, s, room),
-        ExprTag::Call => call_behind(alloc, s, room),
+        ExprTag::Call => applied_behind(alloc, s, room, Applied::Called),
         ExprTag::If => choice_behind(alloc, s, room),
         ExprTag::Let => binding_behind(alloc, s, room),
-        ExprTag::Then => sequence_behind(alloc, s, room),
-        ExprTag::And => both_behind(alloc, s, room),
-        ExprTag::Or => either_behind(alloc, s, room),
+        ExprTag::Then => pair_behind(alloc, s, room, Pair::Then),
+        ExprTag::And => pair_behind(alloc, s, room, Pair::And),
+        ExprTag::Or => pair_behind(alloc, s, room, Pair::Or),
         ExprTag::Not => Ok(Expr::Not(boxed_expr(alloc, s, room - 1)?)),
         ExprTag::Binary => operation_behind(alloc, s, room),
         ExprTag::Part => part_behind(alloc, s, room),
@@ -69,9 +71,9 @@ fn expr_with_tag(
             Ok(Expr::Raise(name, otype))
         }
         ExprTag::Try => handling_behind(alloc, s, room),
-        ExprTag::Foldl => fold_left_behind(alloc, s, room),
-        ExprTag::Foldr => fold_right_behind(alloc, s, room),
-        ExprTag::ChunkOf => packing_behind(alloc, s, room),
+        ExprTag::Foldl => fold_behind(alloc, s, room, Fold::Left),
+        ExprTag::Foldr => fold_behind(alloc, s, room, Fold::Right),
+        ExprTag::ChunkOf => applied_behind(alloc, s, room, Applied::Packed),
         ExprTag::Eval => Ok(Expr::Eval(boxed_expr(alloc, s, room - 1)?)),
         ExprTag::OnRemote => remote_behind(alloc, s, room),
         ExprTag::OnNeighbor => neighbour_behind(alloc, s, room),
@@ -91,18 +93,47 @@ fn tuple_behind(alloc: Global, s: &mut Source<'_>, room: u32) -> Result<Expr, Sp
     Ok(Expr::Tuple(parts))
 }
 
-/// What is behind the tag of a call.
+/// What is behind the tag of a form of two expressions.
 #[cycle(exprs)]
-#[tactic(auto, unfolding(crate::specs::Reading::expr_behind, chunk_spelling::specs::Parts::counted_at, chunk_spelling::specs::Exprs::clauses_at))]
-fn call_behind(alloc: Global, s: &mut Source<'_>, room: u32) -> Result<Expr, SpellFault>
+#[tactic(auto, unfolding(crate::specs::Shapes::pair_behind))]
+fn pair_behind(alloc: Global, s: &mut Source<'_>, room: u32, pair: Pair) -> Result<Expr, SpellFault>
     requires { 0 < room }
-    ensures { Gives result s.new (expr_behind (expr_at (room - 1))
-        (clauses_at (clause_at (expr_at (room - 1)))) ExprTag.Call s.old) }
+    ensures { Gives result s.new (shape.pair_behind (expr_at (room - 1)) pair s.old) }
+{
+    let first = boxed_expr(alloc, s, room - 1)?;
+    let second = boxed_expr(alloc, s, room - 1)?;
+    Ok(paired(pair, first, second))
+}
+
+/// What is behind the tag of a fold.
+#[cycle(exprs)]
+#[tactic(auto, unfolding(crate::specs::Shapes::fold_behind))]
+fn fold_behind(alloc: Global, s: &mut Source<'_>, room: u32, fold: Fold) -> Result<Expr, SpellFault>
+    requires { 0 < room }
+    ensures { Gives result s.new (shape.fold_behind (expr_at (room - 1)) fold s.old) }
+{
+    let name = s.name(alloc)?;
+    let first = boxed_expr(alloc, s, room - 1)?;
+    let second = boxed_expr(alloc, s, room - 1)?;
+    Ok(folded(fold, name, first, second))
+}
+
+/// What is behind the tag of a function with arguments.
+#[cycle(exprs)]
+#[tactic(auto, unfolding(crate::specs::Shapes::applied_behind, chunk_spelling::specs::Parts::counted_at))]
+fn applied_behind(
+    alloc: Global,
+    s: &mut Source<'_>,
+    room: u32,
+    applied: Applied,
+) -> Result<Expr, SpellFault>
+    requires { 0 < room }
+    ensures { Gives result s.new (shape.applied_behind (expr_at (room - 1)) applied s.old) }
 {
     let name = s.name(alloc)?;
     let count = s.count(Limit::Arguments, 0, 8)?;
     let args = exprs_of(alloc, s, room - 1, count)?;
-    Ok(Expr::Call(name, args))
+    Ok(applied_to(applied, name, args))
 }
 
 /// What is behind the tag of an `if`.
@@ -132,45 +163,6 @@ fn binding_behind(alloc: Global, s: &mut Source<'_>, room: u32) -> Result<Expr, 
     let first = boxed_expr(alloc, s, room - 1)?;
     let second = boxed_expr(alloc, s, room - 1)?;
     Ok(Expr::Let(name, ty, first, second))
-}
-
-/// What is behind the tag of `a; b`.
-#[cycle(exprs)]
-#[tactic(auto, unfolding(crate::specs::Reading::expr_behind, chunk_spelling::specs::Parts::counted_at, chunk_spelling::specs::Exprs::clauses_at))]
-fn sequence_behind(alloc: Global, s: &mut Source<'_>, room: u32) -> Result<Expr, SpellFault>
-    requires { 0 < room }
-    ensures { Gives result s.new (expr_behind (expr_at (room - 1))
-        (clauses_at (clause_at (expr_at (room - 1)))) ExprTag.Then s.old) }
-{
-    let first = boxed_expr(alloc, s, room - 1)?;
-    let second = boxed_expr(alloc, s, room - 1)?;
-    Ok(Expr::Then(first, second))
-}
-
-/// What is behind the tag of an `and`.
-#[cycle(exprs)]
-#[tactic(auto, unfolding(crate::specs::Reading::expr_behind, chunk_spelling::specs::Parts::counted_at, chunk_spelling::specs::Exprs::clauses_at))]
-fn both_behind(alloc: Global, s: &mut Source<'_>, room: u32) -> Result<Expr, SpellFault>
-    requires { 0 < room }
-    ensures { Gives result s.new (expr_behind (expr_at (room - 1))
-        (clauses_at (clause_at (expr_at (room - 1)))) ExprTag.And s.old) }
-{
-    let first = boxed_expr(alloc, s, room - 1)?;
-    let second = boxed_expr(alloc, s, room - 1)?;
-    Ok(Expr::And(first, second))
-}
-
-/// What is behind the tag of an `or`.
-#[cycle(exprs)]
-#[tactic(auto, unfolding(crate::specs::Reading::expr_behind, chunk_spelling::specs::Parts::counted_at, chunk_spelling::specs::Exprs::clauses_at))]
-fn either_behind(alloc: Global, s: &mut Source<'_>, room: u32) -> Result<Expr, SpellFault>
-    requires { 0 < room }
-    ensures { Gives result s.new (expr_behind (expr_at (room - 1))
-        (clauses_at (clause_at (expr_at (room - 1)))) ExprTag.Or s.old) }
-{
-    let first = boxed_expr(alloc, s, room - 1)?;
-    let second = boxed_expr(alloc, s, room - 1)?;
-    Ok(Expr::Or(first, second))
 }
 
 /// What is behind the tag of an operator.
@@ -212,48 +204,6 @@ fn handling_behind(alloc: Global, s: &mut Source<'_>, room: u32) -> Result<Expr,
     let count = s.count(Limit::Clauses, 1, 8)?;
     let clauses = clauses_of(alloc, s, room - 1, count)?;
     Ok(Expr::Try(first, clauses))
-}
-
-/// What is behind the tag of a `foldl`.
-#[cycle(exprs)]
-#[tactic(auto, unfolding(crate::specs::Reading::expr_behind, chunk_spelling::specs::Parts::counted_at, chunk_spelling::specs::Exprs::clauses_at))]
-fn fold_left_behind(alloc: Global, s: &mut Source<'_>, room: u32) -> Result<Expr, SpellFault>
-    requires { 0 < room }
-    ensures { Gives result s.new (expr_behind (expr_at (room - 1))
-        (clauses_at (clause_at (expr_at (room - 1)))) ExprTag.Foldl s.old) }
-{
-    let name = s.name(alloc)?;
-    let first = boxed_expr(alloc, s, room - 1)?;
-    let second = boxed_expr(alloc, s, room - 1)?;
-    Ok(Expr::Foldl(name, first, second))
-}
-
-/// What is behind the tag of a `foldr`.
-#[cycle(exprs)]
-#[tactic(auto, unfolding(crate::specs::Reading::expr_behind, chunk_spelling::specs::Parts::counted_at, chunk_spelling::specs::Exprs::clauses_at))]
-fn fold_right_behind(alloc: Global, s: &mut Source<'_>, room: u32) -> Result<Expr, SpellFault>
-    requires { 0 < room }
-    ensures { Gives result s.new (expr_behind (expr_at (room - 1))
-        (clauses_at (clause_at (expr_at (room - 1)))) ExprTag.Foldr s.old) }
-{
-    let name = s.name(alloc)?;
-    let first = boxed_expr(alloc, s, room - 1)?;
-    let second = boxed_expr(alloc, s, room - 1)?;
-    Ok(Expr::Foldr(name, first, second))
-}
-
-/// What is behind the tag of a chunk of the program.
-#[cycle(exprs)]
-#[tactic(auto, unfolding(crate::specs::Reading::expr_behind, chunk_spelling::specs::Parts::counted_at, chunk_spelling::specs::Exprs::clauses_at))]
-fn packing_behind(alloc: Global, s: &mut Source<'_>, room: u32) -> Result<Expr, SpellFault>
-    requires { 0 < room }
-    ensures { Gives result s.new (expr_behind (expr_at (room - 1))
-        (clauses_at (clause_at (expr_at (room - 1)))) ExprTag.ChunkOf s.old) }
-{
-    let name = s.name(alloc)?;
-    let count = s.count(Limit::Arguments, 0, 8)?;
-    let args = exprs_of(alloc, s, room - 1, count)?;
-    Ok(Expr::ChunkOf(name, args))
 }
 
 /// What is behind the tag of an `OnRemote`.

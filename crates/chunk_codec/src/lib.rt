@@ -6,6 +6,7 @@ mod exprs;
 mod laws;
 mod programs;
 mod read;
+mod shapes;
 mod source;
 mod tags;
 mod types;

@@ -1,5 +1,5 @@
 ghost use Rattle.std.specs.Prelude.{◌≡◌};
-ghost use Rattle.read_laws.specs.Reading.{many};
+ghost use Rattle.plan_items.specs.Reading.{many};
 ghost use Rattle.chunk_spelling.specs.Scan.{name_field};
 ghost use Rattle.chunk_spelling.specs.Programs.{program_at};
 ghost use Rattle.chunk_codec.specs.Reading.{Gives, param_at, service_at, function_at, program_fields};

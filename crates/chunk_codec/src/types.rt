@@ -1,5 +1,5 @@
 ghost use Rattle.std.specs.Prelude.{◌≡◌, ◌-◌, ◌<◌};
-ghost use Rattle.read_laws.specs.Reading.{many};
+ghost use Rattle.plan_items.specs.Reading.{many};
 ghost use Rattle.chunk_codec.specs.Reading.{Gives, type_at, type_behind};
 
 use crate::source::Source;

@@ -1,5 +1,5 @@
 ghost use Rattle.std.specs.Prelude.{◌≡◌, ◌-◌, IsTrue};
-ghost use Rattle.read_laws.specs.Reading.{many};
+ghost use Rattle.plan_items.specs.Reading.{many};
 ghost use Rattle.chunk_spelling.specs.Values.{may_open};
 ghost use Rattle.chunk_codec.specs.Reading.{Gives, value_at, value_behind, chunk_read, chunk_fields};
 

@@ -31,7 +31,7 @@ use Rattle.chunk_spelling.specs.Exprs.{clause_part, clauses_part, ClausesFit, is
 use Rattle.chunk_spelling.specs.Programs.{param_part, service_part, function_part, ProgramFits}
 use Rattle.chunk_spelling.specs.Values.{chunk_bytes, value_forms, value_parts, may_open, light, ChunkFits, values_within, value_core, value_part, value_inner, chunk_inner}
 use Rattle.chunk_spelling.specs.Spelling.{a_whole_chunk}
-use Rattle.spelling_sizes.proofs.LengthLaws.{code_length, chunk_length}
+use Rattle.chunk_spelling.proofs.LengthLaws.{code_length, chunk_length}
 use Rattle.chunk_ranges.specs.Ranges.{is_int, expr_ranged, expr_ranged_level, catch_ranged, clause_ranged, param_ranged, service_ranged, function_ranged, program_ranged, value_ranged, value_ranged_level, chunk_ranged}
 use Rattle.chunk_ranges.proofs.RangeLaws.{expr_ranged_out, value_ranged_out}
 use Rattle.chunk_ranges.proofs.TestLaws.{between, int_fits, max_parts, fold_within, no_depth, clause_named, body_formed, named_rest}

@@ -6,9 +6,9 @@ use Rattle.std.proofs.lemmas.List.{length-map}
 use Rattle.std.proofs.lemmas.List.Sums.{sum_by-cons}
 use Rattle.std.proofs.lemmas.Bool.{ltb-true, lt-ltb, leb-true, le-leb}
 use Rattle.wire_bytes.specs.Fields.{IsBytes}
-use Rattle.read_laws.specs.Reading.{◌>>=◌}
-use Rattle.read_laws.proofs.Binds.{ok_inj, some_inj, bind_ok, bind_is}
-use Rattle.read_laws.proofs.Agendas.{Goes, chain, one_step, making_goes_on, idle}
+use Rattle.plan_items.specs.Reading.{◌>>=◌}
+use Rattle.plan_items.proofs.Binds.{ok_inj, some_inj, bind_ok, bind_is}
+use Rattle.plan_items.proofs.Agendas.{Goes, chain, one_step, making_goes_on, idle}
 use Rattle.plan_base.specs.declared.limit.Limit.{Limit}
 use denote.Hole.Carrier.{roll, out}
 use Rattle.chunk_spelling.specs.declared.fault.SpellFault.{SpellFault}

@@ -10,7 +10,7 @@ use Rattle.chunk_spelling.specs.Scan.{Scan, Reader, whole, number_field, bytes_f
 use mir.Val.{bits}
 use mir.ValLaws as laws
 use Rattle.std.proofs.lemmas.Int.{of_z-to_z, to_z-of_z}
-use Rattle.read_laws.proofs.Binds.{ok_inj}
+use Rattle.plan_items.proofs.Binds.{ok_inj}
 use Rattle.chunk_spelling.proofs.Took.{Took, Took-bytes, Took-as, scan_is}
 
 pub take-front : (xs ys : List ℕ) → take (length xs) (xs ++ ys) ≡ xs

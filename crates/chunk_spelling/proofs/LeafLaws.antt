@@ -6,9 +6,9 @@ use Rattle.std.specs.Str.{IsUtf8, is_utf8}
 use Rattle.std.proofs.lemmas.Str.{IsUtf8-from_is_utf8, is_utf8-from_IsUtf8}
 use Rattle.std.proofs.lemmas.Bool.{ltb-false}
 use Rattle.wire_bytes.specs.Fields.{IsBytes}
-use Rattle.read_laws.specs.Reading.{◌>>=◌}
-use Rattle.read_laws.proofs.Binds.{ok_inj, some_inj, bind_ok, bind_is}
-use Rattle.read_laws.proofs.Agendas.{one_step}
+use Rattle.plan_items.specs.Reading.{◌>>=◌}
+use Rattle.plan_items.proofs.Binds.{ok_inj, some_inj, bind_ok, bind_is}
+use Rattle.plan_items.proofs.Agendas.{one_step}
 use Rattle.chunk_spelling.specs.Items.{a_flag, an_int, a_word, a_char, a_text, a_blob, a_name, an_operator, a_part_number}
 use Rattle.chunk_spelling.specs.Scan.{Scan, number_field, int_field, bytes_field, flag_field, char_field, text_field, blob_field, table_field, tag_of, flags, known_tag, allowed_or_fault, name_field, operator_field, count_field}
 use Rattle.chunk_spelling.specs.Fields.{flag_byte, flag_part, int_part, word_part, char_part, text_part, blob_part, name_part, op_byte, op_part, part_number_part}

@@ -1,3 +1,5 @@
+pub mod LengthLaws
+pub mod SpelledForms
 pub mod FieldLaws
 pub mod ExprLaws
 pub mod LeafLaws

@@ -5,10 +5,10 @@ use Rattle.std.specs.Int.{w8, w16, to_be_bytes}
 use Rattle.std.proofs.lemmas.Bool.{leb-true, le-leb}
 use Rattle.std.proofs.lemmas.List.Sums.{sum_by-cons}
 use Rattle.wire_bytes.specs.Fields.{IsBytes}
-use Rattle.read_laws.specs.Reading.{◌>>=◌, many}
-use Rattle.read_laws.specs.Agenda.{times}
-use Rattle.read_laws.proofs.Binds.{ok_inj, some_inj, bind_ok, bind_is, Bound}
-use Rattle.read_laws.proofs.Agendas.{Goes, chain, one_step, making_goes_on, many_goes, idle}
+use Rattle.plan_items.specs.Reading.{◌>>=◌, many}
+use Rattle.plan_items.specs.Agenda.{times}
+use Rattle.plan_items.proofs.Binds.{ok_inj, some_inj, bind_ok, bind_is, Bound}
+use Rattle.plan_items.proofs.Agendas.{Goes, chain, one_step, making_goes_on, many_goes, idle}
 use Rattle.plan_base.specs.declared.limit.Limit.{Limit}
 use Rattle.chunk_spelling.specs.declared.fault.SpellFault.{SpellFault}
 use Rattle.chunk_spelling.specs.declared.fault.SpellFault.TheVariants.{BadTag, OverLimit}

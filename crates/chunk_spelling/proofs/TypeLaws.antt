@@ -4,8 +4,8 @@ use Rattle.std.proofs.lemmas.List.Sums.{sum_by-cons}
 use Rattle.std.specs.Prelude.{map}
 use Rattle.std.specs.List.{flat_map}
 use Rattle.wire_bytes.specs.Fields.{IsBytes}
-use Rattle.read_laws.specs.Reading.{◌>>=◌}
-use Rattle.read_laws.proofs.Binds.{ok_inj, some_inj, bind_ok, bind_is}
+use Rattle.plan_items.specs.Reading.{◌>>=◌}
+use Rattle.plan_items.proofs.Binds.{ok_inj, some_inj, bind_ok, bind_is}
 use Rattle.plan_base.specs.declared.limit.Limit.{Limit}
 use Rattle.plan_base.specs.declared.tree.Ty.{Ty, Ty-F, out-Ty, roll-Ty, roll-out-Ty, map-Ty, fold_out-Ty, the_lemmas}
 use Rattle.plan_base.specs.declared.tree.Ty.TheVariants as ty

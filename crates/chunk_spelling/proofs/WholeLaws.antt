@@ -1,9 +1,9 @@
 use Rattle.std.proofs.Common.{◌≡◌, ℕ, ◌+◌, ◌<◌, ◌≤◌, ◌⊎◌, inl, inr, List, [], ◌∷◌, ◌++◌, length, Result, Ok, Err, refl, sym, ◌∙◌, ap, subst, arith, take, length-append}
 use Rattle.std.specs.Prelude.{MatchResult}
 use Rattle.wire_bytes.specs.Fields.{Front, IsBytes}
-use Rattle.read_laws.specs.Agenda.{FirstFault}
-use Rattle.read_laws.proofs.Binds.{ok_inj}
-use Rattle.read_laws.proofs.Agendas.{one_first_fault, goes_ok, goes_err, no_fault}
+use Rattle.plan_items.specs.Agenda.{FirstFault}
+use Rattle.plan_items.proofs.Binds.{ok_inj}
+use Rattle.plan_items.proofs.Agendas.{one_first_fault, goes_ok, goes_err, no_fault}
 use Rattle.chunk_spelling.specs.declared.fault.SpellFault.{SpellFault}
 use Rattle.chunk_spelling.specs.Items.{ChunkItem}
 use Rattle.chunk_spelling.specs.Scan.{Scan}

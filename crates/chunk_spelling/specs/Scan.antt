@@ -5,7 +5,7 @@ use Rattle.std.specs.Str.{is_utf8}
 use lib.Utf8.{scalar}
 use Rattle.plan_base.specs.Words.{is_name}
 use Rattle.wire_bytes.specs.Fields.{Front, bytes_at, number_at, int_at}
-use Rattle.read_laws.specs.Reading.{◌>>=◌, many}
+use Rattle.plan_items.specs.Reading.{◌>>=◌, many}
 use Rattle.plan_base.specs.declared.limit.Limit.{Limit}
 use Rattle.plan_base.specs.declared.tree.Op.{Op}
 use Rattle.chunk_spelling.specs.declared.fault.SpellFault.{SpellFault}

@@ -1,7 +1,7 @@
 -- When bytes spell something, and where the reading of it stops else.
 use Rattle.std.specs.Prelude.{◌≡◌, ℕ, ◌+◌, List, [], ◌∷◌, ◌++◌, length}
 use Rattle.wire_bytes.specs.Fields.{Front}
-use Rattle.read_laws.specs.Agenda.{FirstFault}
+use Rattle.plan_items.specs.Agenda.{FirstFault}
 use Rattle.plan_base.specs.declared.tree.Ty.{Ty}
 use Rattle.plan_base.specs.declared.tree.Value.{Value}
 use Rattle.plan_base.specs.declared.tree.Chunk.{Chunk}

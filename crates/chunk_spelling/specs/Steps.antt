@@ -1,8 +1,8 @@
 -- The agenda of a reading, and its first fault.
 use Rattle.std.specs.Prelude.{◌≡◌, ℕ, zero, suc, List, [], ◌∷◌, Bool, Result, Ok, Err}
 use Rattle.std.specs.Int.{w16, w32}
-use Rattle.read_laws.specs.Reading.{◌>>=◌}
-use Rattle.read_laws.specs.Agenda.{times, FirstFault}
+use Rattle.plan_items.specs.Reading.{◌>>=◌}
+use Rattle.plan_items.specs.Agenda.{times, FirstFault}
 use Rattle.plan_base.specs.declared.limit.Limit.{Limit}
 use Rattle.chunk_spelling.specs.declared.fault.SpellFault.{SpellFault}
 use Rattle.chunk_spelling.specs.Items.{ChunkItem, a_flag, an_int, a_word, a_char, a_text, a_blob, a_name, an_operator, a_part_number, a_type, an_expr, several_clauses, a_clause, a_parameter, a_service, a_function, a_program, code_end, a_value, a_chunk, weight_end, counted, listed}

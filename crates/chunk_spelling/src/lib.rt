@@ -3,7 +3,9 @@
 #![tactic(auto)]
 
 mod fault;
+mod sizes;
 mod tags;
 
 pub use fault::SpellFault;
+pub use sizes::{form_laws, size_laws};
 pub use tags::{EXPR_TAGS, ExprTag, OPERATORS, TYPE_TAGS, TypeTag, VALUE_TAGS, ValueTag};

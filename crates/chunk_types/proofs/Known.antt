@@ -9,7 +9,7 @@ use Rattle.plan_base.specs.Sizes.{nesting, value_depth}
 use Rattle.plan_base.specs.WellFormed.{well_formed_program, formed_value, formed_chunk, well_formed_chunk, value_has_types, program_has_types}
 use Rattle.plan_base.proofs.FormLaws.{formed_chunk_is, chunk_has_types_is}
 use Rattle.typing_rules.specs.Typing.{Typed, IsTypedChunk, within}
-use Rattle.typing_laws.proofs.Programs.{annotated_complete, fills_itself, depths_kept}
+use Rattle.typing_rules.proofs.Programs.{annotated_complete, fills_itself, depths_kept}
 use Rattle.plan_types.specs.Kept.{IsChecked}
 use Rattle.chunk_types.specs.Chunks.{ill_call, ill_code, right, illness, IsCheckedChunk}
 

@@ -24,7 +24,7 @@ use Rattle.typing_rules.specs.TypingNames.{place_of, param_types}
 use Rattle.plan_base.specs.SameTypes.{same_type}
 use Rattle.typing_rules.specs.TypingOrder.{fun_of, annotated_program}
 use Rattle.plan_base.proofs.SameTypes.{out_same, same_type_true, same_type_itself}
-use Rattle.typing_laws.proofs.Programs.{annotated_sound, annotated_complete, fills_itself, fills_full, depths_kept}
+use Rattle.typing_rules.proofs.Programs.{annotated_sound, annotated_complete, fills_itself, fills_full, depths_kept}
 use Rattle.plan_types.specs.Kept.{IsChecked}
 use Rattle.chunk_types.specs.declared.fault.Ill.TheVariants.{Count, Argument}
 use Rattle.chunk_types.specs.Chunks.{fit_all, fits_layer, fits, ill_from, ill_with, ill_call, ill_code, sound_level, sound, right, illness, is_small_chunk, is_right_chunk, as_fault, or_large, refusal_of, IsCheckedChunk}

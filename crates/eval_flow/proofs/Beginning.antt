@@ -22,7 +22,7 @@ use Rattle.eval_steps.specs.Nexts.{begins, call_of}
 use Rattle.eval_steps.proofs.Leading.{onward, rests_are_regrouped, gave_on, given_on, known_then}
 use Rattle.eval_steps.proofs.Stacks.{all_ended_push}
 use Rattle.eval_flow.proofs.Applying.{innermost_top}
-use Rattle.meaning_laws.proofs.Within.{meaning_is_fixed}
+use Rattle.plan_meaning.proofs.Within.{meaning_is_fixed}
 
 -- the innermost expression of a stack
 pub runs_on : (codes : List Program) (outer : List Activation) (code : Program) (a : Activation) (at : Spot) (s : VisitState)

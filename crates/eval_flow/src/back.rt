@@ -75,8 +75,14 @@ fn ended_by_any(alloc: Global, v: Value, state: &mut State) -> Result<Flow, Eval
 {
     match state.weighs(&v) {
         Weighing::Paid => Ok(Flow::Done(v)),
-        Weighing::Spent => Err(EvalStop::WorkSpent),
-        Weighing::TooLarge => Err(too_large(alloc)),
+        Weighing::Spent => {
+            drop(v);
+            Err(EvalStop::WorkSpent)
+        }
+        Weighing::TooLarge => {
+            drop(v);
+            Err(too_large(alloc))
+        }
     }
 }
 
@@ -92,8 +98,14 @@ pub fn ended_by_value(alloc: Global, v: Value, state: &mut State) -> Result<Flow
     };
     match state.weighs_as(size, 0) {
         Weighing::Paid => Ok(Flow::Done(v)),
-        Weighing::Spent => Err(EvalStop::WorkSpent),
-        Weighing::TooLarge => Err(too_large(alloc)),
+        Weighing::Spent => {
+            drop(v);
+            Err(EvalStop::WorkSpent)
+        }
+        Weighing::TooLarge => {
+            drop(v);
+            Err(too_large(alloc))
+        }
     }
 }
 
@@ -135,9 +147,15 @@ pub fn bound_back(
         state.new.work }
 {
     match flow {
-        Ok(Flow::Done(value)) => ended_by_value(alloc, value, state),
+        Ok(Flow::Done(value)) => {
+            drop(v);
+            ended_by_value(alloc, value, state)
+        }
         Ok(Flow::Wait(rest)) => Ok(inside(alloc, rest, StackFrame::Bound(v))?),
-        Err(stop) => Err(stop),
+        Err(stop) => {
+            drop(v);
+            Err(stop)
+        }
     }
 }
 
@@ -187,7 +205,10 @@ pub fn chunk_back(
     ensures lasts { (old : ℕ) → Goes old flow state.old.work → Lasts 3 old result state.new.work }
 {
     match flow {
-        Ok(Flow::Done(_given)) => ended_by_value(alloc, Value::Unit, state),
+        Ok(Flow::Done(given)) => {
+            drop(given);
+            ended_by_value(alloc, Value::Unit, state)
+        }
         Ok(Flow::Wait(rest)) => Ok(inside(alloc, rest, StackFrame::Chunk)?),
         Err(stop) => Err(stop),
     }
@@ -201,7 +222,10 @@ pub fn visited_back(alloc: Global, flow: Result<Flow, EvalStop>) -> Result<Turn,
     ensures turns { (old new : ℕ) → Goes old flow new → Turns old result new }
 {
     match flow {
-        Ok(Flow::Done(_)) => Ok(Turn::More(Next::Give(Value::Unit))),
+        Ok(Flow::Done(given)) => {
+            drop(given);
+            Ok(Turn::More(Next::Give(Value::Unit)))
+        }
         Ok(Flow::Wait(rest)) => Ok(Turn::End(inside(alloc, rest, StackFrame::Chunk)?)),
         Err(stop) => Err(stop),
     }
@@ -342,7 +366,11 @@ pub fn part_back<S: Services>(
     match flow {
         Ok(Flow::Done(v)) => value_back(alloc, here, e, frame, v, state, svc),
         Ok(Flow::Wait(rest)) => Ok(Turn::End(inside(alloc, rest, frame)?)),
-        Err(stop) => stop_back(e, &frame, stop),
+        Err(stop) => {
+            let turn = stop_back(e, &frame, stop);
+            drop(frame);
+            turn
+        }
     }
 }
 

@@ -34,7 +34,12 @@ fn compute_value(alloc: Global, op: Op, x: Value, v: Value) -> Result<Value, Eva
 {
     match op {
         Op::Cons => cons(x, v),
-        _ => binary(alloc, op, &x, &v),
+        _ => {
+            let given = binary(alloc, op, &x, &v);
+            drop(x);
+            drop(v);
+            given
+        }
     }
 }
 
@@ -70,9 +75,13 @@ fn operate(alloc: Global, op: Op, x: Value, v: Value, state: &mut State) -> Resu
     ensures lasts { Lasts 3 state.old.work result state.new.work }
 {
     if let Some(n) = number_given(op, &x, &v) {
+        drop(x);
+        drop(v);
         return ended_by_number(n, state);
     }
     if let Some(b) = order_given(op, &x, &v) {
+        drop(x);
+        drop(v);
         return ended_by_test(b, state);
     }
     operate_values(alloc, op, x, v, state)
@@ -141,6 +150,9 @@ pub fn operands_back(
     match flow {
         Ok(Flow::Done(y)) => operate(alloc, op, x, y, state),
         Ok(Flow::Wait(rest)) => Ok(inside(alloc, rest, behind_one(alloc, 1, x)?)?),
-        Err(stop) => Err(stop),
+        Err(stop) => {
+            drop(x);
+            Err(stop)
+        }
     }
 }

@@ -39,13 +39,33 @@ pub fn pause(alloc: Global) -> Flow
     })
 }
 
+/// A list of no frame, which has room for one.
+fn room_for_one(alloc: Global) -> Result<StackFrames, NoMemory>
+    ensures { IfOk result (λ all. all ≡ []) }
+{
+    Ok(Items::from_vec(Vec::with_capacity(alloc, 1)?))
+}
+
+/// Frames with one more.
+fn with_frame(frames: StackFrames, frame: StackFrame) -> Result<StackFrames, NoMemory>
+    ensures { IfOk result (λ all. all ≡ frames ++ frame ∷ []) }
+{
+    let mut all = frames;
+    all.add(frame)?;
+    Ok(all)
+}
+
 /// A list of one frame, which takes no more than it: most bodies wait in one alone.
 fn alone(alloc: Global, frame: StackFrame) -> Result<StackFrames, NoMemory>
     ensures { IfOk result (λ all. all ≡ frame ∷ []) }
 {
-    let mut all = Items::from_vec(Vec::with_capacity(alloc, 1)?);
-    all.add(frame)?;
-    Ok(all)
+    match room_for_one(alloc) {
+        Ok(room) => with_frame(room, frame),
+        Err(NoMemory) => {
+            drop(frame);
+            Err(NoMemory)
+        }
+    }
 }
 
 /// One more frame.
@@ -55,9 +75,7 @@ fn add_frame(alloc: Global, frames: StackFrames, frame: StackFrame) -> Result<St
     if frames.is_empty() {
         return alone(alloc, frame);
     }
-    let mut all = frames;
-    all.add(frame)?;
-    Ok(all)
+    with_frame(frames, frame)
 }
 
 /// An expression that stops before its one open part begins.

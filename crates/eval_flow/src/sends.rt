@@ -1,5 +1,5 @@
 //! Sends to neighbours whose parts were evaluated on the native stack.
-ghost use Rattle.std.specs.Prelude.{◌≡◌, ◌∷◌, [], ℕ, List, IfOk};
+ghost use Rattle.std.specs.Prelude.{◌≡◌, ◌∷◌, ◌++◌, [], ℕ, List, IfOk};
 ghost use Rattle.plan_base.specs.declared.tree.Expr.{Expr, Expr-F, out-Expr};
 ghost use Rattle.plan_base.specs.declared.tree.Program.{Program};
 ghost use Rattle.service_api.specs.Services.{ServiceState};
@@ -12,11 +12,34 @@ ghost use Rattle.eval_flow.specs.Direct.{Flows, Lasts};
 use crate::back::ended_by_value;
 use crate::rest::Flow;
 use eval_steps::{StackFrame, neighbour_sent};
-use plan_base::{NoMemory, Value};
+use plan_base::{NoMemory, Value, Values};
 use plan_items::Items;
 use plan_meaning::EvalStop;
 use std::alloc::Global;
 use visit_state::State;
+
+/// Values with one more.
+fn with_more(held: Values, v: Value) -> Result<Values, NoMemory>
+    ensures { IfOk result (λ all. all ≡ held ++ v ∷ []) }
+{
+    let mut all = held;
+    all.add(v)?;
+    Ok(all)
+}
+
+/// A list of two values.
+#[cold]
+fn two(alloc: Global, c: Value, w: Value) -> Result<Values, NoMemory>
+    ensures { IfOk result (λ all. all ≡ c ∷ w ∷ []) }
+{
+    match with_more(Items::new(alloc), c) {
+        Ok(held) => with_more(held, w),
+        Err(NoMemory) => {
+            drop(w);
+            Err(NoMemory)
+        }
+    }
+}
 
 /// A frame for the third part, behind two values.
 #[cold]
@@ -24,9 +47,7 @@ use visit_state::State;
 pub fn behind_two(alloc: Global, c: Value, w: Value) -> Result<StackFrame, NoMemory>
     ensures { IfOk result (λ f. f ≡ frame.Part 2 (c ∷ w ∷ [])) }
 {
-    let mut held = Items::new(alloc);
-    held.add(c)?;
-    held.add(w)?;
+    let held = two(alloc, c, w)?;
     Ok(StackFrame::Part(2, held))
 }
 
@@ -36,11 +57,13 @@ pub fn behind_two(alloc: Global, c: Value, w: Value) -> Result<StackFrame, NoMem
 pub fn behind_three(alloc: Global, c: Value, w: Value, u: Value) -> Result<StackFrame, NoMemory>
     ensures { IfOk result (λ f. f ≡ frame.Part 3 (c ∷ w ∷ u ∷ [])) }
 {
-    let mut held = Items::new(alloc);
-    held.add(c)?;
-    held.add(w)?;
-    held.add(u)?;
-    Ok(StackFrame::Part(3, held))
+    match two(alloc, c, w) {
+        Ok(held) => Ok(StackFrame::Part(3, with_more(held, u)?)),
+        Err(NoMemory) => {
+            drop(u);
+            Err(NoMemory)
+        }
+    }
 }
 
 /// All parts of a send to a neighbour gave values.

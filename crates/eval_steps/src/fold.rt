@@ -5,10 +5,11 @@ ghost use Rattle.plan_base.specs.declared.tree.Value.{Value};
 ghost use Rattle.plan_meaning.specs.State.{VisitState};
 ghost use Rattle.plan_meaning.specs.Meaning.{Env};
 ghost use Rattle.plan_meaning.specs.Meaning as spec;
+ghost use Rattle.eval_steps.specs.declared.next.Next.TheVariants as next;
 ghost use Rattle.eval_steps.specs.Nexts.{Decides, Continues, FoldsOn, fold_on};
 
 use crate::next::Next;
-use crate::operand::{behind_one, first_of};
+use crate::operand::{alone, behind_one, first_of, with_more};
 use plan_base::{Expr, Name, NoMemory, Program, Value, Values};
 use plan_items::{Items, Shared};
 use plan_meaning::EvalStop;
@@ -19,10 +20,21 @@ use visit_state::place_among;
 fn pair(alloc: Global, a: Value, b: Value) -> Result<Values, NoMemory>
     ensures { IfOk result (λ args. args ≡ a ∷ b ∷ []) }
 {
-    let mut args = Items::new(alloc);
-    args.add(a)?;
-    args.add(b)?;
-    Ok(args)
+    match alone(alloc, a) {
+        Ok(args) => with_more(args, b),
+        Err(NoMemory) => {
+            drop(b);
+            Err(NoMemory)
+        }
+    }
+}
+
+/// A step of a fold by the function at that place.
+fn step(alloc: Global, fun: usize, a: Value, b: Value, left: Values) -> Result<Next, NoMemory>
+    ensures { IfOk result (λ n. n ≡ next.Step fun (a ∷ b ∷ []) left) }
+{
+    let args = pair(alloc, a, b)?;
+    Ok(Next::Step(fun, args, left))
 }
 
 /// The items of a list from its last one, so that the first is popped first.
@@ -52,8 +64,12 @@ fn left_step(
         return Ok(Next::Give(acc));
     };
     match place_among(f, seen, code.get().funs.as_slice()) {
-        Some(fun) => Ok(Next::Step(fun, pair(alloc, acc, item)?, rest)),
-        None => Err(EvalStop::Wrong),
+        Some(fun) => Ok(step(alloc, fun, acc, item, rest)?),
+        None => {
+            drop(acc);
+            drop(item);
+            Err(EvalStop::Wrong)
+        }
     }
 }
 
@@ -75,8 +91,12 @@ fn right_step(
         return Ok(Next::Give(acc));
     };
     match place_among(f, seen, code.get().funs.as_slice()) {
-        Some(fun) => Ok(Next::Step(fun, pair(alloc, item, acc)?, rest)),
-        None => Err(EvalStop::Wrong),
+        Some(fun) => Ok(step(alloc, fun, item, acc, rest)?),
+        None => {
+            drop(acc);
+            drop(item);
+            Err(EvalStop::Wrong)
+        }
     }
 }
 
@@ -87,7 +107,10 @@ fn items_of(v: Value) -> Option<Values>
 {
     match v {
         Value::List(_, items) => Some(items),
-        _ => None,
+        other => {
+            drop(other);
+            None
+        }
     }
 }
 
@@ -110,7 +133,10 @@ pub fn left_part(
     };
     match items_of(v) {
         Some(items) => left_step(alloc, code, seen, f, acc, last_first(items)),
-        None => Err(EvalStop::Wrong),
+        None => {
+            drop(acc);
+            Err(EvalStop::Wrong)
+        }
     }
 }
 
@@ -133,7 +159,10 @@ pub fn right_part(
     };
     match items_of(v) {
         Some(items) => right_step(alloc, code, seen, f, acc, items),
-        None => Err(EvalStop::Wrong),
+        None => {
+            drop(acc);
+            Err(EvalStop::Wrong)
+        }
     }
 }
 
@@ -155,6 +184,9 @@ pub fn item_gave(
     match e {
         Expr::Foldl(f, _, _) => left_step(alloc, code, seen, f, acc, left),
         Expr::Foldr(f, _, _) => right_step(alloc, code, seen, f, acc, left),
-        _ => Err(EvalStop::Wrong),
+        _ => {
+            drop(acc);
+            Err(EvalStop::Wrong)
+        }
     }
 }

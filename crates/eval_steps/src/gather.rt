@@ -1,7 +1,8 @@
 //! Tuples, calls and chunks: their parts in order.
-ghost use Rattle.std.specs.Prelude.{◌≡◌, ◌≤◌, ◌+◌, ◌∷◌, ◌++◌, [], ℕ, List, MatchOption, drop, IsSome};
+ghost use Rattle.std.specs.Prelude.{◌≡◌, ◌≤◌, ◌+◌, ◌∷◌, ◌++◌, [], ℕ, List, MatchOption, drop, IfOk, IsSome};
 ghost use Rattle.plan_base.specs.declared.tree.Expr.{Expr, Expr-F};
 ghost use Rattle.plan_base.specs.declared.tree.Program.{Program};
+ghost use Rattle.plan_base.specs.declared.tree.Value as value;
 ghost use Rattle.plan_meaning.specs.State.{VisitState, joined_state};
 ghost use Rattle.plan_meaning.specs.Safe.{IsSafe};
 ghost use Rattle.eval_steps.specs.Nexts.{Continues, call_of};
@@ -9,7 +10,7 @@ ghost use Rattle.eval_steps.specs.Nexts.{Continues, call_of};
 use crate::call::begin_call;
 use crate::next::Next;
 use crate::stack_frame::StackFrame;
-use plan_base::{Chunk, Expr, Exprs, Name, Program, Value, Values};
+use plan_base::{Chunk, Expr, Exprs, Name, NoMemory, Program, Value, Values};
 use plan_items::{Boxed, Shared};
 use plan_meaning::EvalStop;
 use service_api::Services;
@@ -45,6 +46,24 @@ pub fn tuple_part(es: &Exprs, n: usize, held: Values, v: Value) -> Result<Next, 
     }
 }
 
+/// A chunk as a value.
+fn packed(
+    alloc: Global,
+    code: &Shared<Program>,
+    entry: &Name,
+    args: Values,
+) -> Result<Value, NoMemory>
+    ensures { IfOk result (λ v. v ≡ value.Chunk
+        (record { code = code.now; entry = entry.now; args = args })) }
+{
+    let chunk = Chunk {
+        code: code.share()?,
+        entry: entry.copy(alloc)?,
+        args,
+    };
+    Ok(Value::Chunk(Boxed::new(alloc, chunk)?))
+}
+
 /// The next argument of a chunk, or the chunk.
 #[tactic(auto, using(crate::proofs::Deciding::next_of_chunk, crate::proofs::Deciding::last_of_chunk))]
 #[inline(never)]
@@ -65,12 +84,7 @@ pub fn chunk_part(
     if let Some(next) = part_behind(es.as_slice(), n) {
         return Ok(Next::Open(StackFrame::Part(next, args)));
     }
-    let chunk = Chunk {
-        code: code.share()?,
-        entry: f.copy(alloc)?,
-        args,
-    };
-    Ok(Next::Give(Value::Chunk(Boxed::new(alloc, chunk)?)))
+    Ok(Next::Give(packed(alloc, code, f, args)?))
 }
 
 /// The next argument of a call, or the call.

@@ -50,14 +50,17 @@ fn after_part<S: Services>(
         Expr::Tuple(es) => tuple_part(es, n, held, v),
         Expr::Call(f, es) => call_part(alloc, code, seen, f, es, n, held, v, state, svc),
         Expr::ChunkOf(f, es) => chunk_part(alloc, code, f, es, n, held, v),
-        Expr::If(_, _, _) => choose(&v),
+        Expr::If(_, _, _) => choose(v),
         Expr::Let(_, _, _, _) => Ok(Next::Open(StackFrame::Bound(v))),
-        Expr::Then(_, _) => Ok(Next::Open(StackFrame::Last(1))),
-        Expr::And(_, _) => both(&v),
-        Expr::Or(_, _) => either(&v),
-        Expr::Not(_) => turn(&v),
+        Expr::Then(_, _) => {
+            drop(v);
+            Ok(Next::Open(StackFrame::Last(1)))
+        }
+        Expr::And(_, _) => both(v),
+        Expr::Or(_, _) => either(v),
+        Expr::Not(_) => turn(v),
         Expr::Binary(op, _, _) => operand(alloc, *op, held, v),
-        Expr::Part(i, _) => select_part(alloc, *i, &v),
+        Expr::Part(i, _) => select_part(alloc, *i, v),
         Expr::Foldl(f, _, _) => left_part(alloc, code, seen, f, held, v),
         Expr::Foldr(f, _, _) => right_part(alloc, code, seen, f, held, v),
         Expr::Eval(_) => begin_eval(alloc, v, state),
@@ -96,8 +99,14 @@ pub fn frame_given<S: Services>(
     match frame {
         StackFrame::Part(n, held) => after_part(alloc, code, seen, e, n, held, v, state, svc),
         StackFrame::Last(_) | StackFrame::Body => Ok(Next::Give(v)),
-        StackFrame::Bound(_) => Ok(Next::Give(v)),
+        StackFrame::Bound(bound) => {
+            drop(bound);
+            Ok(Next::Give(v))
+        }
         StackFrame::Items(left) => item_gave(alloc, code, seen, e, v, left),
-        StackFrame::Chunk => Ok(Next::Give(Value::Unit)),
+        StackFrame::Chunk => {
+            drop(v);
+            Ok(Next::Give(Value::Unit))
+        }
     }
 }

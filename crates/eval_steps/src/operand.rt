@@ -1,5 +1,5 @@
 //! Operators and parts of tuples.
-ghost use Rattle.std.specs.Prelude.{◌≡◌, ◌∷◌, [], ℕ, List, IfOk, MatchOption};
+ghost use Rattle.std.specs.Prelude.{◌≡◌, ◌∷◌, ◌++◌, [], ℕ, List, IfOk, MatchOption};
 ghost use Rattle.plan_base.specs.declared.tree.Expr.{Expr, Expr-F};
 ghost use Rattle.plan_base.specs.declared.tree.Op.TheVariants as op;
 ghost use Rattle.plan_base.specs.declared.tree.Program.{Program};
@@ -16,12 +16,29 @@ use plan_meaning::EvalStop;
 use std::alloc::Global;
 use visit_state::{binary, cons, part};
 
+/// A list of one value.
+pub fn alone(alloc: Global, v: Value) -> Result<Values, NoMemory>
+    ensures { IfOk result (λ held. held ≡ v ∷ []) }
+{
+    let mut held = Items::new(alloc);
+    held.add(v)?;
+    Ok(held)
+}
+
+/// Values with one more.
+pub fn with_more(held: Values, v: Value) -> Result<Values, NoMemory>
+    ensures { IfOk result (λ all. all ≡ held ++ v ∷ []) }
+{
+    let mut all = held;
+    all.add(v)?;
+    Ok(all)
+}
+
 /// A frame for a second part, behind one value.
 pub fn behind_one(alloc: Global, n: usize, v: Value) -> Result<StackFrame, NoMemory>
     ensures { IfOk result (λ f. f ≡ frame.Part n (v ∷ [])) }
 {
-    let mut held = Items::new(alloc);
-    held.add(v)?;
+    let held = alone(alloc, v)?;
     Ok(StackFrame::Part(n, held))
 }
 
@@ -42,7 +59,12 @@ fn apply_operator(alloc: Global, op: Op, x: Value, v: Value) -> Result<Next, Eva
 {
     match op {
         Op::Cons => put_first(x, v),
-        _ => Ok(Next::Give(binary(alloc, op, &x, &v)?)),
+        _ => {
+            let given = binary(alloc, op, &x, &v);
+            drop(x);
+            drop(v);
+            Ok(Next::Give(given?))
+        }
     }
 }
 
@@ -73,9 +95,11 @@ pub fn first_of(held: Values) -> Option<Value>
 /// What a part of a tuple gives.
 #[tactic(auto, using(crate::proofs::Gathering::part_gives, crate::proofs::Gathering::part_stops))]
 #[inline(never)]
-pub fn select_part(alloc: Global, i: u8, v: &Value) -> Result<Next, EvalStop>
+pub fn select_part(alloc: Global, i: u8, v: Value) -> Result<Next, EvalStop>
     ensures { (code : Program) (seen : ℕ) (a : Expr) (n : ℕ) (held : List Value) (s : VisitState)
-        → Continues code seen (Expr-F.Part i a) n held v.now s result s }
+        → Continues code seen (Expr-F.Part i a) n held v s result s }
 {
-    Ok(Next::Give(part(alloc, i, v)?))
+    let given = part(alloc, i, &v);
+    drop(v);
+    Ok(Next::Give(given?))
 }

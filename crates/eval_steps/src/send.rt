@@ -1,10 +1,11 @@
 //! Evals and sends.
-ghost use Rattle.std.specs.Prelude.{◌≡◌, ◌≤◌, ◌<◌, ◌∷◌, ◌++◌, [], ℕ, List, length, IfOk};
+ghost use Rattle.std.specs.Prelude.{◌≡◌, ◌≤◌, ◌<◌, ◌∷◌, ◌++◌, [], ℕ, List, length, IfOk, Err};
 ghost use Rattle.plan_base.specs.declared.tree.Expr.{Expr, Expr-F, out-Expr};
 ghost use Rattle.plan_base.specs.declared.tree.Program.{Program};
 ghost use Rattle.plan_base.specs.declared.tree.Value.{Value};
 ghost use Rattle.plan_base.specs.declared.tree.Value as value;
 ghost use Rattle.service_api.specs.Services.{ServiceState};
+ghost use Rattle.plan_meaning.specs.declared.stop.EvalStop.TheVariants as stops;
 ghost use Rattle.plan_meaning.specs.State.{joined_state};
 ghost use Rattle.plan_meaning.specs.Run.{weighed_value};
 ghost use Rattle.plan_meaning.specs.Meaning.{Env};
@@ -16,7 +17,7 @@ ghost use Rattle.eval_steps.specs.Leads.{Carries};
 ghost use Rattle.eval_steps.specs.Nexts.{Decides, Continues, RemoteIsSafe, NeighbourIsSafe, NearIsSafe, near_step, part_gave};
 
 use crate::next::Next;
-use crate::operand::behind_one;
+use crate::operand::{behind_one, with_more};
 use crate::stack_frame::StackFrame;
 use plan_base::{Chunk, Host, Name, NoMemory, Value, Values};
 use plan_meaning::EvalStop;
@@ -30,7 +31,10 @@ fn chunk_of(v: Value) -> Option<Chunk>
 {
     match v {
         Value::Chunk(chunk) => Some(chunk.into_inner()),
-        _ => None,
+        other => {
+            drop(other);
+            None
+        }
     }
 }
 
@@ -55,9 +59,33 @@ pub fn begin_eval(alloc: Global, v: Value, state: &mut State) -> Result<Next, Ev
 fn behind_more(n: usize, held: Values, v: Value) -> Result<StackFrame, NoMemory>
     ensures { IfOk result (λ f. f ≡ frame.Part n (held ++ v ∷ [])) }
 {
-    let mut all = held;
-    all.add(v)?;
+    let all = with_more(held, v)?;
     Ok(StackFrame::Part(n, all))
+}
+
+/// A part of a send that isn't what it has to be: the values that wait and it are let go.
+fn unfit(held: Values, v: Value) -> Result<Next, EvalStop>
+    ensures { result ≡ Err stops.Wrong }
+{
+    drop(held);
+    drop(v);
+    Err(EvalStop::Wrong)
+}
+
+/// The chunk of a send came: its host is next.
+fn host_next(alloc: Global, v: Value) -> Result<Next, NoMemory>
+    ensures { IfOk result (λ n. n ≡ next.Open (frame.Part 1 (v ∷ []))) }
+{
+    let frame = behind_one(alloc, 1, v)?;
+    Ok(Next::Open(frame))
+}
+
+/// A later part of a send came: that of number `n` is next.
+fn part_next(n: usize, held: Values, v: Value) -> Result<Next, NoMemory>
+    ensures { IfOk result (λ m. m ≡ next.Open (frame.Part n (held ++ v ∷ []))) }
+{
+    let frame = behind_more(n, held, v)?;
+    Ok(Next::Open(frame))
 }
 
 /// Takes the first of the values that wait. Condition: there is one.
@@ -119,24 +147,27 @@ pub fn remote_part(
     match held.as_slice() {
         [] => {
             if as_chunk(&v).is_none() {
-                return Err(EvalStop::Wrong);
+                return unfit(held, v);
             }
-            Ok(Next::Open(behind_one(alloc, 1, v)?))
+            Ok(host_next(alloc, v)?)
         }
         [c] => {
             if as_chunk(c).is_none() {
-                return Err(EvalStop::Wrong);
+                return unfit(held, v);
             }
             if as_host(&v).is_none() {
-                return Err(EvalStop::Wrong);
+                return unfit(held, v);
             }
-            Ok(Next::Open(behind_more(2, held, v)?))
+            Ok(part_next(2, held, v)?)
         }
         [_, _, ..] => {
             let mut waiting = held;
             let c = take_first(&mut waiting);
             let w = take_first(&mut waiting);
-            send_remote(alloc, r, c, &w, &v, state)
+            let sent = send_remote(alloc, r, c, &w, &v, state);
+            drop(w);
+            drop(v);
+            sent
         }
     }
 }
@@ -215,7 +246,10 @@ pub fn neighbour_sent(
     ensures falls { state.new.work ≤ state.old.work }
 {
     match send_neighbour(alloc, c, w, u, v, state) {
-        Ok(_given) => Ok(()),
+        Ok(given) => {
+            drop(given);
+            Ok(())
+        }
         Err(stop) => Err(stop),
     }
 }
@@ -239,37 +273,41 @@ pub fn neighbour_part(
     match held.as_slice() {
         [] => {
             if as_chunk(&v).is_none() {
-                return Err(EvalStop::Wrong);
+                return unfit(held, v);
             }
-            Ok(Next::Open(behind_one(alloc, 1, v)?))
+            Ok(host_next(alloc, v)?)
         }
         [c] => {
             if as_chunk(c).is_none() {
-                return Err(EvalStop::Wrong);
+                return unfit(held, v);
             }
             if as_host(&v).is_none() {
-                return Err(EvalStop::Wrong);
+                return unfit(held, v);
             }
-            Ok(Next::Open(behind_more(2, held, v)?))
+            Ok(part_next(2, held, v)?)
         }
         [c, w] => {
             if as_chunk(c).is_none() {
-                return Err(EvalStop::Wrong);
+                return unfit(held, v);
             }
             if as_host(w).is_none() {
-                return Err(EvalStop::Wrong);
+                return unfit(held, v);
             }
             if as_int(&v).is_none() {
-                return Err(EvalStop::Wrong);
+                return unfit(held, v);
             }
-            Ok(Next::Open(behind_more(3, held, v)?))
+            Ok(part_next(3, held, v)?)
         }
         [_, _, _, ..] => {
             let mut waiting = held;
             let c = take_first(&mut waiting);
             let w = take_first(&mut waiting);
             let u = take_first(&mut waiting);
-            send_neighbour(alloc, c, &w, &u, &v, state)
+            let sent = send_neighbour(alloc, c, &w, &u, &v, state);
+            drop(w);
+            drop(u);
+            drop(v);
+            sent
         }
     }
 }

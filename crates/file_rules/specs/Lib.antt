@@ -1,0 +1,7 @@
+pub mod Outside
+pub mod Later
+pub mod Skipping
+pub mod Words
+pub mod Configs
+pub mod Asks
+pub mod Fleets

@@ -3,6 +3,9 @@
 //! Each law stands on a function without code, so that contracts of other crates can name it.
 #![tactic(auto)]
 
+mod counts;
+mod written;
+
 ghost use Rattle.std.specs.Prelude.{◌≡◌, ℕ, List, Ok};
 ghost use Rattle.network_plan.specs.Rules.{KeepsRules};
 ghost use Rattle.network_plan.specs.NodeRules.{KeepsServe, KeepsLog, KeepsAsk, KeepsFleet};
@@ -24,6 +27,11 @@ ghost use Rattle.cut_files.specs.Cuts.{cut_of, KeepsCut};
 ghost use Rattle.port_files.specs.declared.file.PortFile.{PortFile};
 ghost use Rattle.port_files.specs.PortFiles.{port_of};
 ghost use Rattle.port_files.specs.PortRules.{KeepsPort};
+
+pub use counts::{files_only_count, skipped_lines_only_move};
+pub use written::{
+    written_configurations_are_read, written_fleets_are_read, written_requests_are_read,
+};
 
 /// What a file says keeps the rules of its kind.
 pub fn values_keep_rules()

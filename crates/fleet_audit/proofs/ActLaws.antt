@@ -9,7 +9,7 @@ use Rattle.plan_base.specs.declared.ids.Family.{Family}
 use Rattle.node_model.specs.declared.acts.Act.{Act}
 use Rattle.node_model.specs.declared.acts.Act.TheVariants.{Injected, Arrived, Asked, Noted, Ended, Handled, Queued, Dropped, Bad, Misplaced, AdvertQueued, AdvertDropped, AdvertSpent, Stale, Heard, Ticked, Taken, SerialsSpent, NoMemory}
 use Rattle.node_model.specs.Counts.{is_family, only, act_sum, act_granted, act_hops, act_evals, act_left}
-use Rattle.node_laws.proofs.CountLaws.{act_sum-append}
+use Rattle.node_model.proofs.CountLaws.{act_sum-append}
 use Rattle.fleet_audit.specs.declared.keys.FamilyKey.{FamilyKey}
 use Rattle.fleet_audit.specs.declared.book.Counts.{Counts}
 use Rattle.fleet_audit.specs.declared.book.Book.{Book}

@@ -1,5 +1,6 @@
 -- What the code keeps of logs, one act, one frame, one entry and one log after the other.
 use Rattle.std.proofs.Common.{◌≡◌, ℕ, suc, ◌+◌, ◌<◌, ◌≤◌, true, false, if◌then◌else◌, List, [], ◌∷◌, ◌++◌, length, take, get_or, Option, Some, None, refl, sym, ap, subst, ◌∙◌, arith, append-nil, append_assoc}
+use Rattle.std.specs.Prelude.{Result, Ok, Err, OnOk}
 use Rattle.std.specs.List.{cons_option, AllByRecursion}
 use Rattle.std.proofs.lemmas.Grind.{take_at_read}
 use Rattle.std.proofs.lemmas.List.{take_all, length-take-le, map-append}
@@ -24,6 +25,7 @@ use Rattle.network_plan.specs.declared.event.LogEvent.TheVariants.{Step, Lost}
 use Rattle.network_plan.specs.NodeRules.{KeepsNodeEvent}
 use Rattle.service_api.specs.Services.{ServiceState}
 use Rattle.node_model.specs.declared.acts.Act.{Act}
+use Rattle.node_model.specs.declared.acts.Act.TheVariants.{NoMemory}
 use Rattle.node_model.specs.State.{NodeState, new_node}
 use Rattle.node_model.specs.Node.{node_step}
 use Rattle.serve_model.specs.Runs.{acts_of, node_by, node_after}
@@ -43,7 +45,7 @@ use Rattle.fleet_audit.specs.Tallies.{none as no_frames, one_sent, tally_in, Cha
 use Rattle.fleet_audit.specs.Books.{none as no_sums, plus, counts_in, act_counts}
 use Rattle.fleet_audit.specs.Pasts.{Past, nothing, with_acts, with_sent, with_accepted, with_host, arrived_from, accepted_by, taken_by, TakenReads, with_frames, with_entry, with_entries, with_log, with_logs, arrival_of, arrivals_of, injected_by, injected_families, Holds, IsReckoned}
 use Rattle.fleet_audit.proofs.TallyLaws.{tallied_sent}
-use Rattle.fleet_audit.proofs.ActLaws.{counts_push, no_counts}
+use Rattle.fleet_audit.proofs.ActLaws.{counts_push, no_counts, act_apart}
 
 -- ---- acts
 
@@ -194,10 +196,11 @@ event_reads v node (event.Control bytes) frame k is t = (tt, reads_none node (ev
 event_reads v node event.Tick frame k is t = (tt, reads_none node event.Tick (λ d q. absurd cc))
 event_reads v node (event.Take d) frame k is t = (tt, subst FrameReads is t)
 
--- an entry that found no memory
-pub lost_held : (r : Reckoning) (p : Past) (links : Cables) (log n : ℕ) (node : NodeState) → Holds r (with_acts (acts_of node Lost) p) → Holds r (with_entry links log n node Lost p)
+-- an entry that found no memory: its act counts for no family, and injects none
+pub lost_held : (r : Reckoning) (p : Past) (links : Cables) (log n : ℕ) (node : NodeState) → Holds r p → Holds r (with_entry links log n node Lost p)
 unfolding with_entry
-lost_held r p links log n node h = neither r (with_acts (acts_of node Lost) p) h
+lost_held r p links log n node h =
+    neither r (with_acts (acts_of node Lost) p) (act_held NoMemory p r r h (λ f. act_apart NoMemory r.book refl f) refl refl refl None refl (sym (append-nil r.injected)))
 
 entries_more : (links : Cables) (log n : ℕ) (s : NodeState) (es fs : List LogEvent) (p : Past)
     → with_entries links log n s (es ++ fs) p ≡ with_entries links log (n + length es) (node_after s es) fs (with_entries links log n s es p)
@@ -259,7 +262,7 @@ all_push : (P : Logged → Type 0) (ls : List Logged) (l : Logged) → AllByRecu
 all_push P [] l a h = (h, tt)
 all_push P (x ∷ ls) l a h = (a.0, all_push P ls l a.1 h)
 
-host_held : (p : Past) (old new : Reckoning) (h : Host) → Holds old p → new.hosts ≡ old.hosts ++ h ∷ [] → new.tallies ≡ old.tallies → new.arrived ≡ old.arrived → new.book ≡ old.book → new.injected ≡ old.injected → Holds new (with_host h p)
+pub host_held : (p : Past) (old new : Reckoning) (h : Host) → Holds old p → new.hosts ≡ old.hosts ++ h ∷ [] → new.tallies ≡ old.tallies → new.arrived ≡ old.arrived → new.book ≡ old.book → new.injected ≡ old.injected → Holds new (with_host h p)
 host_held p old new h k hosts tallies arrived book injects = record {
   hosts = hosts ∙ ap (λ l. l ++ h ∷ []) k.hosts;
   sent = λ c. ap (tally_in c) tallies ∙ k.sent c;
@@ -277,18 +280,21 @@ unfolding new_node
 here_is c s = refl
 
 -- a log more
-pub log_reckoned : (links : Cables) (ls : List Logged) (number : ℕ) (c : NodeConfig) (s : ServiceState) (es : List LogEvent) (old mid new : Reckoning) → IsReckoned links ls old → length ls + 1 ≡ number
-    → ((p : Past) → Holds old p → Holds mid (with_entries links number 0 (new_node c s) es p)) → EntriesRead (new_node c s) es
-    → new.hosts ≡ mid.hosts ++ c.here ∷ [] → new.tallies ≡ mid.tallies → new.arrived ≡ mid.arrived → new.book ≡ mid.book → new.injected ≡ mid.injected
-    → IsReckoned links (ls ++ record { node = new_node c s; entries = es } ∷ []) new
-log_reckoned links ls number c s es old mid new k is held reads hosts tallies arrived book injects =
+pub log_reckoned : (links : Cables) (ls : List Logged) (number : ℕ) (c : NodeConfig) (s : ServiceState) (es : List LogEvent) (old new : Reckoning) → IsReckoned links ls old → length ls + 1 ≡ number
+    → Holds new (with_host c.here (with_entries links number 0 (new_node c s) es (with_logs links 0 ls nothing))) → EntriesRead (new_node c s) es → IsReckoned links (ls ++ record { node = new_node c s; entries = es } ∷ []) new
+log_reckoned links ls number c s es old new k is held reads =
     let l : Logged = record { node = new_node c s; entries = es } in
     let before = with_logs links 0 ls nothing in
     let n : number ≡ 0 + length ls + 1 = omega (arith, is) in
     record {
       holds = subst (Holds new)
           (ap (λ h. with_host h (with_entries links number 0 (new_node c s) es before)) (here_is c s) ∙ ap (λ m. with_log links m l before) n ∙ sym (logs_more links 0 ls l nothing))
-          (host_held (with_entries links number 0 (new_node c s) es before) mid new c.here (held before k.holds) hosts tallies arrived book injects);
+          held;
       begin = all_push Begins ls l k.begin (begins c s es);
       read = all_push ReadsAgain ls l k.read reads;
     }
+
+-- what two facts of a result that is well give
+pub on_both : {T E : Type 0} (A B C : Type 0) (r : Result T E) → (A → B → C) → OnOk r A → OnOk r B → OnOk r C
+on_both A B C (Ok x) f a b = f a b
+on_both A B C (Err e) f a b = a

@@ -15,7 +15,7 @@ use Rattle.dv_routing.specs.Sorted.{sorted_into}
 use Rattle.node_model.specs.declared.acts.Act.{Act}
 use Rattle.node_model.specs.State.{NodeState}
 use Rattle.node_model.specs.Counts.{act_sum, act_granted, act_hops, act_evals, act_left}
-use Rattle.node_laws.proofs.CountLaws.{act_sum-append}
+use Rattle.node_model.proofs.CountLaws.{act_sum-append}
 use Rattle.serve_model.specs.Runs.{acts_of, node_by}
 use Rattle.world_model.specs.World.{Cables}
 use Rattle.bound_ledger.specs.declared.row.Row.{Row}

@@ -50,7 +50,6 @@ pub struct Arrived {
 
 /// What the logs so far sent, accepted and did: the frames sent with their counts, the frames accepted in order, what each
 /// family was granted, paid and left, the families injected in order, and the hosts.
-#[derive(Drop)]
 pub struct Reckoning {
     /// The frames sent, with their counts.
     pub tallies: Tallies,
@@ -62,6 +61,19 @@ pub struct Reckoning {
     pub injected: Items<Family>,
     /// The hosts of the logs, in order.
     pub hosts: Items<Host>,
+}
+
+// (with a drop of its own, so that what lets one go need not prove again how its parts are dropped)
+impl Drop for Reckoning {
+    fn drop(self) {
+        let Reckoning {
+            tallies: _tallies,
+            arrived: _arrived,
+            book: _book,
+            injected: _injected,
+            hosts: _hosts,
+        } = self;
+    }
 }
 
 /// The family that an act injects, if it does.
@@ -228,6 +240,27 @@ fn reckon_frames(
     }
 }
 
+/// Adds what a step did, accepted and sent, by its acts.
+fn reckon_step(
+    alloc: Global,
+    links: &[Cable],
+    mark: Mark,
+    here: Host,
+    event: &Event,
+    acts: &Acts,
+    reckoning: &mut Reckoning,
+) -> Result<(), NoMemory>
+    ensures holds { (p : Past) → Holds reckoning.old p
+        → OnOk result (Holds reckoning.new
+        (spec.with_frames links.now mark.log mark.event here event.now
+        acts.now.list acts.now.frame (spec.with_acts acts.now.list p))) }
+    ensures reads { OnOk result (TakenReads event.now acts.now.frame) }
+{
+    reckon_acts(acts.list.as_slice(), reckoning)?;
+    reckon_frames(alloc, links, mark, here, event, acts, reckoning)?;
+    Ok(())
+}
+
 /// Makes a step again, and adds what it sent, accepted and did.
 #[tactic(auto, using(log_replay::proofs::Within::comes_as))]
 fn reckon_event<S: Services>(
@@ -251,12 +284,11 @@ fn reckon_event<S: Services>(
 {
     let here = node.here();
     let acts = node.step(alloc, event)?;
-    reckon_acts(acts.list.as_slice(), reckoning)?;
-    reckon_frames(alloc, links, mark, here, event, &acts, reckoning)?;
+    reckon_step(alloc, links, mark, here, event, &acts, reckoning)?;
     Ok(())
 }
 
-/// Makes an entry again, and adds what it sent, accepted and did.
+/// Makes an entry again, and adds what it sent, accepted and did: nothing, where it found no memory.
 #[tactic(auto, using(crate::proofs::PastLaws::lost_held))]
 fn reckon_entry<S: Services>(
     alloc: Global,
@@ -279,10 +311,7 @@ fn reckon_entry<S: Services>(
 {
     match entry {
         LogEvent::Step(event) => reckon_event(alloc, links, mark, node, event, reckoning),
-        LogEvent::Lost => {
-            reckon_act(&Act::NoMemory, reckoning)?;
-            Ok(())
-        }
+        LogEvent::Lost => Ok(()),
     }
 }
 
@@ -324,6 +353,29 @@ pub fn nothing_reckoned(alloc: Global) -> Reckoning
     }
 }
 
+/// Makes the steps of a log again with its node at the beginning, and adds what they sent, accepted and did, and the host.
+fn reckon_node<S: Services>(
+    alloc: Global,
+    links: &[Cable],
+    number: u32,
+    log: &Log,
+    node: &mut Node<S>,
+    reckoning: &mut Reckoning,
+) -> Result<(), NoMemory>
+    requires keeps { All (KeepsEntry (version_of node.old)) log.now.events }
+    requires few { length log.now.events ≤ 50000 }
+    ensures holds { (s : NodeState) → NodeStands S.stands node.old s
+        → (p : Past) → Holds reckoning.old p
+        → OnOk result (Holds reckoning.new (spec.with_host log.now.node.here
+        (spec.with_entries links.now number 0 s log.now.events p))) }
+    ensures reads { (s : NodeState) → NodeStands S.stands node.old s
+        → OnOk result (EntriesRead s log.now.events) }
+{
+    reckon_entries(alloc, links, number, node, log.events.as_slice(), reckoning)?;
+    reckoning.hosts.add(log.node.here)?;
+    Ok(())
+}
+
 /// Makes the steps of a log again, from its node's beginning, and adds what they sent, accepted and did. The number is that
 /// of the log, from 1. Condition: the log keeps its rules.
 #[tactic(auto, using(log_replay::proofs::Resting::new_rests))]
@@ -340,14 +392,5 @@ pub fn reckon_log(
 {
     let services = Registry::new(alloc, log.missing.as_slice());
     let mut node = begin_node(alloc, &log.node, services)?;
-    reckon_entries(
-        alloc,
-        links,
-        number,
-        &mut node,
-        log.events.as_slice(),
-        reckoning,
-    )?;
-    reckoning.hosts.add(log.node.here)?;
-    Ok(())
+    reckon_node(alloc, links, number, log, &mut node, reckoning)
 }

@@ -36,11 +36,11 @@ use Rattle.node_model.specs.declared.acts.Lane.{Lane}
 use Rattle.node_model.specs.State.{Links, Queues, NodeState, routing_of, is_host, leads_to}
 use Rattle.node_model.specs.Visits.{visit_at, settled_at}
 use Rattle.node_model.specs.Node.{NodeStep as Stepped, stepped_node, has_room, lane_room, drop_act, mark, takes_as, stamped_as, stamped_step, asked_plain, asked_read, control_step, take_first, take_from, take_step, packet_sending, advert_sending, visit_sends, tick_sends, send_act, send_queues, sends_acts, handled_acts, visit_acts, visit_step, next_serial, injected_packet, inject_step, only_acts, onward, forward_by, forward_step, packet_step, hearing, advert_step, frame_step, arrived_read, arrive_step, tick_step, node_step}
-use Rattle.node_laws.proofs.Staying.{visited_stays, arrive_stays, tick_stays, take_stays}
+use Rattle.node_model.proofs.Staying.{visited_stays, arrive_stays, tick_stays, take_stays}
 use Rattle.serve_model.specs.Runs.{node_by}
 use Rattle.ledger_audit.specs.Runs.{acts_in}
 use Rattle.fleet_audit.specs.Pasts.{injected_by, injected_families}
-use Rattle.frames_once.proofs.Takings.{step_same}
+use Rattle.ledger_audit.proofs.Takings.{step_same}
 
 pub append_is : (xs ys : List Act) → injected_families (xs ++ ys) ≡ injected_families xs ++ injected_families ys
 unfolding injected_families

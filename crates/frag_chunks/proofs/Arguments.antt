@@ -3,7 +3,7 @@ use Rattle.std.proofs.Common.{◌≡◌, ℕ, ◌≤◌, true, ◌&&◌, List, I
 use Rattle.std.specs.List.{list_all}
 use Rattle.plan_base.specs.declared.tree.Value.{Value}
 use Rattle.plan_base.specs.WellFormed.{well_formed_value, value_has_types}
-use Rattle.leaf_laws.proofs.Leaves.{host_formed, int_formed, blob_formed, host_full, int_full, blob_full}
+use Rattle.plan_base.proofs.Leaves.{host_formed, int_formed, blob_formed, host_full, int_full, blob_full}
 use Rattle.frag_chunks.specs.declared.cutting.Address.{Address}
 use Rattle.frag_chunks.specs.Parts.{part_args}
 

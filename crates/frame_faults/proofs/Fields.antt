@@ -2,7 +2,7 @@
 use Rattle.std.proofs.Common.{◌≡◌, ◌≢◌, ℕ, zero, suc, ◌||◌, ◌==◌, Bool, true, false, List, [], ◌∷◌, Option, Some, None, Result, Ok, Err, refl, sym, subst}
 use Rattle.std.specs.Prelude.{nat_le}
 use Rattle.std.specs.Int.{Width, w8, w16, w32, w64}
-use Rattle.read_laws.specs.Reading.{◌>>=◌}
+use Rattle.plan_items.specs.Reading.{◌>>=◌}
 use Rattle.plan_base.specs.declared.limit.Limit.TheVariants as limits
 use Rattle.wire_bytes.specs.Fields.{Front}
 use Rattle.chunk_spelling.specs.Scan.{Scan, number_field, name_field}
@@ -20,7 +20,7 @@ use Rattle.packet_frame.specs.Fields.{told_fault, judged_field, number, magic_at
 use Rattle.packet_frame.specs.Forms.{FrameItem, the_magic, the_version, the_kind, a_host, a_serial, a_bound, a_route, a_carried_chunk, some_rows, rows_behind, a_cost, the_end, either_version, the_form}
 use Rattle.packet_frame.specs.Versions.{either_version_at, form_of, known_form, form_at}
 use Rattle.packet_frame.specs.Frames.{past, nothing_left, frame_step}
-use Rattle.flat_faults.specs.Flat.{is_chunk, FlatFault, at_field, behind_field, in_chunk, behind_chunk}
+use Rattle.frame_faults.specs.Flat.{is_chunk, FlatFault, at_field, behind_field, in_chunk, behind_chunk}
 use Rattle.frame_faults.specs.Refusals.{HoldsNoMemory}
 use Rattle.frame_faults.proofs.Parts.{Own, number_own, name_own, part_own}
 

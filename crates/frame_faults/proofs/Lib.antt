@@ -1,3 +1,4 @@
+pub mod FlatLaws
 pub mod Parts
 pub mod Fields
 pub mod Whole

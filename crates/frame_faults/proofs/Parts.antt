@@ -3,8 +3,8 @@ use Rattle.std.proofs.Common.{◌≡◌, ◌≢◌, ℕ, ◌+◌, ◌-◌, Bool,
 use Rattle.std.specs.Prelude.{nat_le}
 use Rattle.std.specs.Int.{Width, w8, w16, w32}
 use Rattle.std.specs.Str.{is_utf8}
-use Rattle.read_laws.specs.Reading.{◌>>=◌}
-use Rattle.read_laws.specs.Agenda.{FirstFault, here, later}
+use Rattle.plan_items.specs.Reading.{◌>>=◌}
+use Rattle.plan_items.specs.Agenda.{FirstFault, here, later}
 use Rattle.plan_base.specs.declared.limit.Limit.{Limit}
 use Rattle.plan_base.specs.declared.limit.Limit.TheVariants as limits
 use Rattle.plan_base.specs.Words.{is_name}

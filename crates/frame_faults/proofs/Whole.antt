@@ -23,8 +23,8 @@ use Rattle.packet_frame.proofs.Carried.{chunk_is_formed, chunk_is_full}
 use Rattle.packet_frame.proofs.FrameLaws.{either_is}
 use Rattle.packet_frame.proofs.StampedLaws.{stamped_either}
 use Rattle.packet_frame.proofs.Versions.{refused_by_two, found_by, accepted_by}
-use Rattle.flat_faults.specs.Flat.{too_long, misspelled as flat}
-use Rattle.flat_faults.proofs.FlatLaws.{frame_is_flat, stamped_is_flat}
+use Rattle.frame_faults.specs.Flat.{too_long, misspelled as flat}
+use Rattle.frame_faults.proofs.FlatLaws.{frame_is_flat, stamped_is_flat}
 use Rattle.packet_frame.specs.Decoding.{frame_of, illness_in, read_by}
 use Rattle.packet_frame.proofs.OneAnswer.{accepts_is, first_is as answered, found_typed}
 use Rattle.frame_faults.specs.Refusals.{CarriesFailing, FirstRefusal, of_spelling, of_types, FirstStampedRefusal, of_stamped_spelling, of_stamped_types, of_handler, IsFrameOrRefused, IsStampedOrRefused, HoldsNoMemory}

@@ -14,7 +14,7 @@ use Rattle.packet_frame.specs.declared.fault.FrameFault.{FrameFault}
 use Rattle.packet_frame.specs.declared.fault.FrameFault.TheVariants as faults
 use Rattle.packet_frame.specs.declared.frame.PlainFrame.{PlainFrame}
 use Rattle.packet_frame.specs.declared.frame.PlainStamped.{PlainStamped}
-use Rattle.flat_faults.specs.Flat.{FlatSpellingFault, FlatStampedFault}
+use Rattle.frame_faults.specs.Flat.{FlatSpellingFault, FlatStampedFault}
 
 -- the chunk that a frame carries isn't typed, for the first of its conditions
 pub record CarriesFailing (x : PlainFrame) (i : Ill) : Type 0 where

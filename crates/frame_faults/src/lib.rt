@@ -5,6 +5,8 @@
 //! Each law stands on a function without code, so that contracts of other crates can name it.
 #![tactic(auto)]
 
+mod flat;
+
 ghost use Rattle.std.specs.Prelude.{◌≡◌, ◌≢◌, ◌↔◌, ℕ, List};
 ghost use Rattle.wire_bytes.specs.Fields.{Front, IsBytes};
 ghost use Rattle.chunk_spelling.specs.Items.{ChunkItem};
@@ -18,6 +20,8 @@ ghost use Rattle.packet_frame.specs.declared.frame.PlainFrame.{PlainFrame};
 ghost use Rattle.packet_frame.specs.declared.frame.PlainStamped.{PlainStamped};
 ghost use Rattle.link_window.specs.declared.window.Version.TheVariants.{One, Two};
 ghost use Rattle.frame_faults.specs.Refusals.{FirstRefusal, FirstStampedRefusal, IsFrameOrRefused, IsStampedOrRefused, HoldsNoMemory};
+
+pub use flat::{frame_faults_are_flat, readings_fail_first, stamped_faults_are_flat};
 
 /// Any bytes are refused exactly for the first thing that is wrong with them. They are a typed frame or have a first refusal,
 /// and not both, and they have at most one.

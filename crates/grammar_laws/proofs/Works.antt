@@ -1,7 +1,7 @@
 -- A reading works off an agenda.
 use Rattle.std.proofs.Common.{◌≡◌, ℕ, zero, suc, Bool, true, false, List, [], ◌∷◌, Option, Some, Result, Ok, Err, if◌then◌else◌, refl, sym as back, ◌↔◌, ap}
-use Rattle.read_laws.specs.Agenda.{FirstFault}
-use Rattle.read_laws.proofs.Agendas.{Goes, through, one_step as single_step, goes_err, no_fault}
+use Rattle.plan_items.specs.Agenda.{FirstFault}
+use Rattle.plan_items.proofs.Agendas.{Goes, through, one_step as single_step, goes_err, no_fault}
 use Rattle.plan_lexer.specs.declared.token.TokenKind.{TokenKind}
 use Rattle.plan_lexer.specs.declared.token.TokenKind.TheVariants as kinds
 use Rattle.plan_lexer.specs.declared.token.Key.{Key}

@@ -1,6 +1,6 @@
 -- What must be read, in order, and what the first step that fails answers.
 use Rattle.std.specs.Prelude.{◌+◌, ℕ, zero, suc, max, Bool, List, [], ◌∷◌, length, nat_lt, Option, Some, None, is_some, Result, Ok, Err, if◌then◌else◌}
-use Rattle.read_laws.specs.Agenda.{FirstFault}
+use Rattle.plan_items.specs.Agenda.{FirstFault}
 use Rattle.plan_base.specs.declared.limit.Limit.{Limit}
 use Rattle.plan_base.specs.declared.limit.Limit.TheVariants as limits
 use Rattle.plan_base.specs.declared.tree.Ty.{Ty}

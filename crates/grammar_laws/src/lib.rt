@@ -6,7 +6,7 @@
 
 ghost use Rattle.std.specs.Prelude.{◌≡◌, ◌≢◌, ◌↔◌, ℕ, suc, List, Ok, Err};
 ghost use Rattle.plan_base.specs.declared.tree.Ty.{Ty};
-ghost use Rattle.read_laws.specs.Agenda.{FirstFault};
+ghost use Rattle.plan_items.specs.Agenda.{FirstFault};
 ghost use Rattle.plan_grammar.specs.declared.fault.ParseFault.{ParseFault};
 ghost use Rattle.plan_grammar.specs.declared.fault.ParseFault.TheVariants as fault;
 ghost use Rattle.plan_grammar.specs.declared.node.Node.{Node};

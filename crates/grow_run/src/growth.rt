@@ -2,9 +2,10 @@ ghost use Rattle.std.specs.Prelude.{◌≡◌, ◌≤◌, List, map, IfOk, OnOk}
 ghost use Rattle.plan_base.specs.declared.ids.Family.{Family};
 ghost use Rattle.grow_run.specs.Draws.{seeded_generator};
 ghost use Rattle.world_model.specs.declared.lines.Entry.{Entry};
-ghost use Rattle.world_model.specs.World.{WorldState, opening_services};
+ghost use Rattle.world_model.specs.World.{WorldState, opening, opening_services};
 ghost use Rattle.world_model.specs.Counts.{Balanced};
 ghost use Rattle.run_ledger.specs.Stands.{Stands};
+ghost use Rattle.net_world.specs.Stands.{WorldStands};
 ghost use Rattle.grow_run.specs.Grow as grow;
 ghost use Rattle.grow_run.specs.Growths.{IsAtOpening, CanMake, MakesEvent, HasMade};
 ghost use Rattle.grow_run.specs.Summaries.{summary_of, grown_text};
@@ -24,12 +25,32 @@ use service_api::Services;
 use std::alloc::Global;
 
 /// A network while it grows, and what is counted of it.
-#[derive(Drop)]
 pub struct Growth<S: Services> {
     world: World<S>,
     words: Lcg64Xsh32,
     ledger: Ledger,
     summary: Summary,
+}
+
+// (with a drop of its own, so that what lets one go need not prove again how its parts are dropped)
+impl<S: Services + Drop> Drop for Growth<S> {
+    fn drop(self) {
+        let Growth {
+            world: _world,
+            words: _words,
+            ledger: _ledger,
+            summary: _summary,
+        } = self;
+    }
+}
+
+/// The network of the ring before its first event. `services`: one for each host, in the order of hosts.
+fn ring_world<S: Services + Drop>(alloc: Global, services: Items<S>) -> Result<World<S>, NoMemory>
+    requires { map S.stands services ≡ map opening_services grow.ring.hosts }
+    ensures { IfOk result (λ w. WorldStands S.stands w (opening grow.ring)) }
+{
+    let topology = ring(alloc)?;
+    World::new(alloc, &topology, services)
 }
 
 impl<S: Services + Drop> Growth<S> {
@@ -39,9 +60,8 @@ impl<S: Services + Drop> Growth<S> {
         ensures fresh { IfOk result (λ g. IsAtOpening S.stands g) }
         ensures words { IfOk result (λ g. g.words ≡ seeded_generator seed) }
     {
-        let topology = ring(alloc)?;
-        let world = World::new(alloc, &topology, services)?;
         let ledger = Ledger::new(alloc)?;
+        let world = ring_world(alloc, services)?;
         Ok(Growth {
             world,
             words: begin(seed),

@@ -26,9 +26,9 @@ fn ping_text() -> &'static [u8]
 pub fn ping_program(alloc: Global) -> Result<Checked, NoMemory>
     ensures { IfOk result (λ code. program_of spec.ping_text ≡ Ok code) }
 {
-    match read_program(alloc, ping_text()) {
-        Ok(code) => Ok(code),
-        Err(_) => Err(NoMemory),
+    match read_program(alloc, ping_text()).ok() {
+        Some(code) => Ok(code),
+        None => Err(NoMemory),
     }
 }
 
@@ -53,8 +53,8 @@ pub fn ping(alloc: Global, code: &Checked, from: Host, to: Host) -> Result<Check
 {
     let entry = Name::of(alloc, b"ping")?;
     let args = host_args(alloc, from, to)?;
-    match chunk_of(alloc, code, &entry, args) {
-        Ok(chunk) => Ok(chunk),
-        Err(_) => Err(NoMemory),
+    match chunk_of(alloc, code, &entry, args).ok() {
+        Some(chunk) => Ok(chunk),
+        None => Err(NoMemory),
     }
 }

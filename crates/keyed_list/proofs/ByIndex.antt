@@ -4,7 +4,7 @@ use Rattle.std.proofs.Math.ListN.{set}
 use Rattle.std.proofs.lemmas.List.{length-map, get_or-map, get_or_default}
 use Rattle.std.specs.Prelude.{slice_index}
 use Rattle.std.specs.List.{insert, remove}
-use Rattle.item_keys.specs.Keys.{Key, first_of_key, put, without, IsUnique}
+use Rattle.plan_items.specs.Keys.{Key, first_of_key, put, without, IsUnique}
 use Rattle.keyed_list.specs.Index.{no_key, key_at, ranked_at, IsIndex, IsSpot, Splits, place_moved_up}
 use Rattle.keyed_list.proofs.Lists.{found_at, found_nowhere, put_at, put_end, without_at, without_none, unique_put, unique_without}
 use Rattle.keyed_list.proofs.Indexes.{splits_absent, index_more, index_less}

@@ -7,7 +7,7 @@ use Rattle.std.proofs.lemmas.List.Edits.{length-insert, get_or-insert_below, get
 use Rattle.std.specs.Prelude.{slice_index, nat_lt, if◌then◌else◌}
 use Rattle.std.specs.List.{insert, remove}
 use Rattle.std.specs.declared.cmp.Ordering.TheVariants.{Less, Equal, Greater}
-use Rattle.item_keys.specs.Keys.{Key}
+use Rattle.plan_items.specs.Keys.{Key}
 use Rattle.keyed_list.specs.Order.{key_cmp}
 use Rattle.keyed_list.specs.Index.{no_key, key_at, ranked_at, IsIndex, Splits, place_moved_up}
 use Rattle.keyed_list.proofs.Orders.{key_cmp_trans, key_cmp_turned, key_cmp_equal, less_differs}

@@ -3,7 +3,7 @@ use Rattle.std.proofs.Common.{◌≡◌, ◌≢◌, ◌⊎◌, inl, inr, ℕ, ze
 use Rattle.std.proofs.Math.ListN.{set}
 use Rattle.std.specs.List.{remove}
 use Rattle.plan_items.proofs.Options.{none-some}
-use Rattle.item_keys.specs.Keys.{Key, same_key, first_of_key, put, without, IsUnique}
+use Rattle.plan_items.specs.Keys.{Key, same_key, first_of_key, put, without, IsUnique}
 use Rattle.keyed_list.proofs.Orders.{same_key_is, same_key_true, same_key_false, same_or_not}
 
 module _ {R : Type 0} (key : R → Key) where

@@ -11,7 +11,7 @@ use Rattle.std.specs.Str.{bytes_eq}
 use Rattle.std.specs.declared.cmp.Ordering.{Ordering}
 use Rattle.std.specs.declared.cmp.Ordering.TheVariants.{Less, Equal, Greater}
 use Rattle.plan_items.proofs.Bools.{and_left, and_right, and_both, not_true}
-use Rattle.item_keys.specs.Keys.{Key, same_key}
+use Rattle.plan_items.specs.Keys.{Key, same_key}
 use Rattle.keyed_list.specs.Order.{key_cmp}
 
 key_path : (a b : Key) → a.name ≡ b.name → a.number ≡ b.number → ◌≡◌ {A = Key} a b

@@ -1,6 +1,6 @@
 -- Items that are put into a list, one after the other.
 use Rattle.std.specs.Prelude.{List, [], ◌∷◌}
-use Rattle.item_keys.specs.Keys.{Key, put}
+use Rattle.plan_items.specs.Keys.{Key, put}
 
 -- the list with all these items put, in order
 abbrev pub all_put : {R : Type 0} → (R → Key) → List R → List R → List R

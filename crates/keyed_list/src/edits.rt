@@ -1,10 +1,10 @@
 ghost use Rattle.std.specs.Prelude.{◌≡◌, ◌+◌, ◌<◌, ◌≤◌, length, map, slice_set, slice_index};
 ghost use Rattle.std.specs.List.{insert, remove};
 ghost use Rattle.std.specs.Vec.{vec_len, vec_capacity};
-ghost use Rattle.item_keys.specs.Keys.{IsUnique};
+ghost use Rattle.plan_items.specs.Keys.{IsUnique};
 ghost use Rattle.keyed_list.specs.Index.{IsIndex, place_moved_up};
 
-use item_keys::HasKey;
+use plan_items::HasKey;
 
 /// Puts `item` in the place of the item at `place`.
 pub fn swap_in<T: Drop>(items: &mut Vec<T>, place: usize, item: T)

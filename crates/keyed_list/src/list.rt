@@ -1,12 +1,12 @@
 ghost use Rattle.std.specs.Prelude.{◌≡◌, ◌+◌, ◌<◌, ◌≤◌, [], length, reverse, OnOk, IfOk, IsTrue, ◌↔◌};
 ghost use Rattle.std.specs.List.{remove};
 ghost use Rattle.std.specs.Option.{option_copied};
-ghost use Rattle.item_keys.specs.Keys.{IsUnique, first_of_key, put, without};
+ghost use Rattle.plan_items.specs.Keys.{IsUnique, first_of_key, put, without};
 ghost use Rattle.keyed_list.specs.Moved.{all_put};
 
 use crate::edits::{put_place, swap_in, take_out};
 use crate::search::{look_up, search};
-use item_keys::HasKey;
+use plan_items::HasKey;
 use std::alloc::{AllocError, Global};
 use std::marker::Model;
 
@@ -24,7 +24,7 @@ pub struct KeyedList<T: HasKey> {
 impl<T: HasKey> Model for KeyedList<T> {
     ghost use Rattle.std.specs.Prelude.{◌-◌, min, map};
     ghost use Rattle.std.specs.Vec.{vec_len, vec_capacity};
-    ghost use Rattle.item_keys.specs.Keys.{IsUnique};
+    ghost use Rattle.plan_items.specs.Keys.{IsUnique};
     ghost use Rattle.keyed_list.specs.Index.{IsIndex};
     ghost use Rattle.keyed_list.specs.Roomy.{Roomy, roomy_code};
 

@@ -1,4 +1,4 @@
-use item_keys::HasKey;
+use plan_items::HasKey;
 
 /// A key to look for.
 #[derive(Clone, Copy)]

@@ -2,11 +2,11 @@ ghost use Rattle.std.specs.Prelude.{◌≡◌, ◌<◌, length, map, Option};
 ghost use Rattle.std.specs.Option.{option_copied};
 ghost use Rattle.std.specs.Ordering.{nat_cmp};
 ghost use Rattle.std.specs.Cmp.Lexicographic.{slice_cmp};
-ghost use Rattle.item_keys.specs.Keys.{IsUnique, first_of_key};
+ghost use Rattle.plan_items.specs.Keys.{IsUnique, first_of_key};
 ghost use Rattle.keyed_list.specs.Order.{key_cmp};
 ghost use Rattle.keyed_list.specs.Index.{IsIndex, IsSpot};
 
-use item_keys::HasKey;
+use plan_items::HasKey;
 use std::cmp::Ordering;
 
 /// How some bytes stand to others, byte for byte: for names that are short.

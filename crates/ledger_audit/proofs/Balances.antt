@@ -18,8 +18,8 @@ use Rattle.node_model.specs.declared.acts.Act.{Act}
 use Rattle.node_model.specs.State.{NodeState, no_queues}
 use Rattle.node_model.specs.Node.{node_step}
 use Rattle.node_model.specs.Counts.{act_sum, act_granted, act_hops, act_evals, act_left, node_live, frame_live, taken_sum, if_fresh, bytes_came, came, queues_sum, queue_sum}
-use Rattle.node_laws.proofs.NodeBalance.{step_balances}
-use Rattle.node_laws.proofs.CountLaws.{act_sum-append}
+use Rattle.node_model.proofs.NodeBalance.{step_balances}
+use Rattle.node_model.proofs.CountLaws.{act_sum-append}
 use Rattle.serve_model.specs.Runs.{acts_of, node_by, node_after}
 use Rattle.world_model.specs.World.{Cables}
 use Rattle.ledger_audit.specs.Crossings.{Crossing, Arrival, crossings, AtMost}

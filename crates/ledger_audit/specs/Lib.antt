@@ -1,3 +1,4 @@
+pub mod Once
 pub mod Crossings
 pub mod Runs
 pub mod Audits

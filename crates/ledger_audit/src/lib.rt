@@ -3,5 +3,7 @@
 #![tactic(auto)]
 
 mod laws;
+mod once;
 
 pub use laws::{accepted_is_sent, ledger_adds_up};
+pub use once::{accepted_once, sent_once};

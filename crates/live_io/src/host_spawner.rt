@@ -1,10 +1,10 @@
-ghost use Rattle.std.specs.Prelude.{◌≡◌, ◌++◌, ◌∷◌, [], false, filter, IfSome, MatchOption};
+ghost use Rattle.std.specs.Prelude.{◌≡◌, ◌+◌, ◌≤◌, ◌++◌, ◌∷◌, [], false, filter, vec_len, vec_capacity, IfSome, OnSome, MatchOption};
 ghost use Rattle.node_io.specs.Spawners.{is_other, IsFresh};
 
 use node_io::{Child, Failed, Spawner, raise};
 use plan_base::{Text, Texts};
 use std::alloc::Global;
-use std::process::{Child as Process, Command, Processes, Stdio};
+use std::process::{Child as Process, Command, OpenProcess, Processes, Stdio};
 use std::{io, str};
 
 /// Child processes of one program, which are given their words. Their standard input is empty, what they write to
@@ -49,6 +49,40 @@ fn utf8_text(text: &Text) -> io::Result<&str> {
     }
 }
 
+// A command, which is let go by a call.
+struct CommandLine {
+    command: Command,
+}
+
+impl Drop for CommandLine {
+    fn drop(self) {
+        let CommandLine { command: _command } = self;
+    }
+}
+
+impl CommandLine {
+    // A command of the program, without words.
+    fn of(alloc: Global, program: &Text) -> io::Result<CommandLine> {
+        let command = Command::new(alloc, utf8_text(program)?)?;
+        Ok(CommandLine { command })
+    }
+
+    // Adds words.
+    fn add(&mut self, words: &[Text]) -> io::Result<()> {
+        for word in words {
+            self.command.arg(utf8_text(word)?)?;
+        }
+        Ok(())
+    }
+
+    // Starts it.
+    fn start<R: Processes>(&mut self, system: &R) -> io::Result<Process<R::Started>> {
+        self.command.stdin(Stdio::null());
+        self.command.stdout(Stdio::null());
+        self.command.spawn(system)
+    }
+}
+
 // Starts the program with these words.
 fn run<R: Processes>(
     alloc: Global,
@@ -56,13 +90,15 @@ fn run<R: Processes>(
     program: &Text,
     words: &Texts,
 ) -> io::Result<Process<R::Started>> {
-    let mut command = Command::new(alloc, utf8_text(program)?)?;
-    for word in words.as_slice() {
-        command.arg(utf8_text(word)?)?;
-    }
-    command.stdin(Stdio::null());
-    command.stdout(Stdio::null());
-    command.spawn(system)
+    let mut line = CommandLine::of(alloc, program)?;
+    line.add(words.as_slice())?;
+    line.start(system)
+}
+
+// The exit status of a process once it has ended, where it has one.
+fn exit_status<P: OpenProcess>(process: &mut Process<P>) -> Option<u8> {
+    let status = process.wait().ok()?;
+    u8::try_from(status.code()?).ok()
 }
 
 // Takes the process of this child off the list, and answers its exit status once it has ended, where it has one.
@@ -72,8 +108,7 @@ fn status_of<R: Processes>(
 ) -> Option<u8> {
     let at = processes.iter().position(|entry| entry.0.0 == child.0)?;
     let (_, mut process) = processes.swap_remove(at);
-    let status = process.wait().ok()?;
-    u8::try_from(status.code()?).ok()
+    exit_status(&mut process)
 }
 
 // Whether a child is open.
@@ -91,6 +126,19 @@ fn forget(children: &mut Vec<Child>, child: Child)
 }
 
 impl<R: Processes> HostSpawner<'_, R> {
+    // Starts a process, where there is room for one more child and the system starts it.
+    fn start_process(&mut self, words: &Texts) -> Option<Process<R::Started>>
+        ensures children { self.new.children.items ≡ self.old.children.items }
+        ensures faults { self.new.faults ≡ self.old.faults }
+        ensures room { OnSome result
+            ((vec_len self.new.children + 1 ≤ vec_capacity self.new.children)
+            × (vec_len self.new.processes + 1 ≤ vec_capacity self.new.processes)) }
+    {
+        self.children.reserve(1).ok()?;
+        self.processes.reserve(1).ok()?;
+        run(self.alloc, self.system, &self.program, words).ok()
+    }
+
     // Starts the next child, where its number is free, there is room for it, and the system starts it.
     fn start_next(&mut self, words: &Texts) -> Option<Child>
         ensures children { MatchOption result
@@ -103,9 +151,7 @@ impl<R: Processes> HostSpawner<'_, R> {
         if is_open(self.children.as_slice(), child) {
             return None;
         }
-        self.children.reserve(1).ok()?;
-        self.processes.reserve(1).ok()?;
-        let process = run(self.alloc, self.system, &self.program, words).ok()?;
+        let process = self.start_process(words)?;
         self.children.push_reserved(child);
         self.processes.push_reserved((child, process));
         self.next = self.next.wrapping_add(1);

@@ -1,4 +1,4 @@
-ghost use Rattle.std.specs.Prelude.{◌≡◌, [], ◌≤◌, false, length, IfSome, IsTrue};
+ghost use Rattle.std.specs.Prelude.{◌≡◌, [], ◌≤◌, ◌<◌, false, length, None, IfOk, IfSome, IsTrue};
 ghost use Rattle.node_io.specs.Links.{has_peer, HasPeer};
 
 use node_io::{Failed, Got, Link, Peer, Peers, raise};
@@ -74,34 +74,100 @@ fn is_quiet(error: &io::Error) -> bool {
     )
 }
 
+// What an error of a receiving means: nothing came, or the link failed.
+fn nothing_or_fault(error: &io::Error) -> Result<Option<(Dev, usize)>, Failed>
+    ensures { IfOk result (λ got. got ≡ None) }
+{
+    if is_quiet(error) {
+        Ok(None)
+    } else {
+        Err(Failed)
+    }
+}
+
+// The device of a frame of so many bytes from this port, with their number, where it comes from a peer.
+fn frame_from(peers: &[Peer], port: u16, count: usize) -> Option<(Dev, usize)>
+    ensures peer { IfSome result (λ frame. HasPeer peers.now frame.0) }
+    ensures count { IfSome result (λ frame. (0 < frame.1) × (frame.1 ≤ count)) }
+{
+    match peer_at(peers, port) {
+        Some(dev) if count > 0 => Some((dev, count)),
+        _ => None,
+    }
+}
+
+// Receives a frame: the device of its peer, and its length.
+fn receive(
+    socket: &UdpSocket,
+    peers: &[Peer],
+    buf: &mut [u8],
+) -> Result<Option<(Dev, usize)>, Failed>
+    ensures peer { IfOk result (λ got. IfSome got (λ frame. HasPeer peers.now frame.0)) }
+    ensures count { IfOk result
+        (λ got. IfSome got (λ frame. (0 < frame.1) × (frame.1 ≤ length buf.new))) }
+    ensures room { length buf.new ≡ length buf.old }
+{
+    match socket.recv_from(buf) {
+        Ok((count, from)) => Ok(frame_from(peers, from.port(), count)),
+        Err(error) => nothing_or_fault(&error),
+    }
+}
+
+// Sends a frame to the peer on this device, and answers whether the link didn't fail.
+fn send_to(socket: &Option<UdpSocket>, peers: &[Peer], dev: Dev, bytes: &[u8]) -> bool {
+    let Some(socket) = socket else {
+        return false;
+    };
+    let Some(port) = port_of(peers, dev) else {
+        return false;
+    };
+    match socket.send_to(bytes, (Ipv4Addr::LOCALHOST, port)) {
+        Ok(_) => true,
+        Err(error) => is_quiet(&error),
+    }
+}
+
+// A socket at this port, with a copy of the peers.
+fn open_with<R: Net>(
+    alloc: Global,
+    system: &R,
+    port: u16,
+    peers: &Peers,
+) -> Option<(UdpSocket, Peers)>
+    ensures { IfSome result (λ opened. opened.1 ≡ peers.now) }
+{
+    let copy = Peers::from_slice(alloc, peers.as_slice()).ok()?;
+    let socket = open(system, port).ok()?;
+    Some((socket, copy))
+}
+
 impl<R: Net> Link for UdpLink<'_, R> {
     ghost state = { λ l. record { observable = false; script = []; sent = []; binds = []; bound = l.peers; faults = l.faults } };
 
     fn bind(&mut self, port: u16, peers: &Peers) -> Result<(), Failed> {
         // The port is free again before it is bound again.
         self.socket = None;
-        if let Ok(copy) = Peers::from_slice(self.alloc, peers.as_slice()) {
-            if let Ok(socket) = open(self.system, port) {
+        match open_with(self.alloc, self.system, port, peers) {
+            Some((socket, peers)) => {
                 self.socket = Some(socket);
-                self.peers = copy;
-                return Ok(());
+                self.peers = peers;
+                Ok(())
+            }
+            None => {
+                self.peers = Peers::new(self.alloc);
+                raise(&mut self.faults);
+                Err(Failed)
             }
         }
-        self.peers = Peers::new(self.alloc);
-        raise(&mut self.faults);
-        Err(Failed)
     }
 
     fn recv(&mut self, buf: &mut [u8]) -> Got {
         let Some(socket) = &self.socket else {
             return Got::Nothing;
         };
-        match socket.recv_from(buf) {
-            Ok((count, from)) => match peer_at(self.peers.as_slice(), from.port()) {
-                Some(dev) if count > 0 => Got::Frame(dev, count),
-                _ => Got::Nothing,
-            },
-            Err(error) if is_quiet(&error) => Got::Nothing,
+        match receive(socket, self.peers.as_slice(), buf) {
+            Ok(Some((dev, count))) => Got::Frame(dev, count),
+            Ok(None) => Got::Nothing,
             Err(_) => {
                 raise(&mut self.faults);
                 Got::Failed
@@ -110,16 +176,10 @@ impl<R: Net> Link for UdpLink<'_, R> {
     }
 
     fn send(&mut self, dev: Dev, bytes: &[u8]) -> Result<(), Failed> {
-        if let Some(socket) = &self.socket
-            && let Some(port) = port_of(self.peers.as_slice(), dev)
-        {
-            match socket.send_to(bytes, (Ipv4Addr::LOCALHOST, port)) {
-                Ok(_) => return Ok(()),
-                Err(error) if is_quiet(&error) => return Ok(()),
-                Err(_) => {}
-            }
+        if !send_to(&self.socket, self.peers.as_slice(), dev, bytes) {
+            raise(&mut self.faults);
+            return Err(Failed);
         }
-        raise(&mut self.faults);
-        Err(Failed)
+        Ok(())
     }
 }

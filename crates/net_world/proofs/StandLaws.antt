@@ -1,8 +1,8 @@
 -- Nodes and their states, place by place; the lines and neighbours of one more.
-use Rattle.std.proofs.Common.{get_or, ◌≡◌, ℕ, zero, suc, ◌+◌, ◌<◌, cond, List, Vec, [], ◌∷◌, ◌++◌, length, refl, sym, ap, ◌∙◌, arith, subst, append_assoc}
+use Rattle.std.proofs.Common.{get_or, ◌≡◌, ◌⊎◌, inl, inr, ℕ, zero, suc, ◌+◌, ◌<◌, cond, List, Vec, [], ◌∷◌, ◌++◌, length, refl, sym, ap, ◌∙◌, arith, subst, append_assoc}
 use Rattle.std.proofs.lemmas.List.{append-nil, with_items_is}
 use Rattle.std.specs.Vec.{with_items}
-use Rattle.std.specs.Prelude.{slice_get, slice_set, Option, Some, None, Result, Ok, Err, IfOk}
+use Rattle.std.specs.Prelude.{◌≢◌, slice_get, slice_set, Option, Some, None, Result, Ok, Err, IfOk}
 use Rattle.std.specs.List.{position_from}
 use Rattle.std.proofs.lemmas.Iterator.Adapters.{position_from-zero}
 use Rattle.std.proofs.lemmas.Option.{slice_get-get_or}
@@ -14,6 +14,8 @@ use Rattle.plan_base.specs.declared.tree.Chunk.{Chunk}
 use Rattle.typing_rules.specs.Handlers.{MayHandle}
 use Rattle.link_window.specs.declared.window.Version.{Version}
 use Rattle.link_window.specs.declared.window.Version.TheVariants.{One, Two}
+use Rattle.packet_frame.specs.declared.fault.FrameFault.{FrameFault}
+use Rattle.packet_frame.specs.declared.fault.FrameFault.TheVariants.{NoMemory as Lacking}
 use Rattle.packet_frame.specs.declared.frame.PlainStamped.{PlainStamped}
 use Rattle.network_plan.specs.Rules.{MayName}
 use Rattle.service_api.specs.Services.{ServiceState}
@@ -27,7 +29,7 @@ use Rattle.node_core.specs.declared.node.Node.{Node}
 use Rattle.node_core.specs.Stands.{NodeStands, IsStep}
 use Rattle.world_model.specs.declared.lines.Line.{Line}
 use Rattle.world_model.specs.declared.lines.Line.TheVariants.{At}
-use Rattle.world_model.specs.World.{Cables, WorldState, place_of, lines_at, peer_of, neighbour_at, neighbours_to}
+use Rattle.world_model.specs.World.{Cables, WorldState, forged_lines, place_of, lines_at, peer_of, neighbour_at, neighbours_to}
 use Rattle.world_model.specs.declared.lines.Wired.{Wired}
 use Rattle.network_plan.specs.declared.event.WorldEvent.{WorldEvent}
 use Rattle.network_plan.specs.declared.event.WorldEvent.TheVariants.{Inject, Send, Deliver, Repeat, Lose, Tick, Raw}
@@ -103,6 +105,12 @@ named_handles Two chunk handler m = m
 pub if_ok : {T E : Type 0} (P Q : T → Type 0) (r : Result T E) → ((x : T) → P x → Q x) → IfOk r P → IfOk r Q
 if_ok P Q (Ok x) f h = f x h
 if_ok P Q (Err e) f h = h
+
+-- bytes that are refused, and not for want of memory, have no lines
+pub none_forged : (host : Host) (fault : FrameFault) (read : Result PlainStamped FrameFault) (lines : List Line) → (fault ≡ Lacking) ⊎ (read ≡ Err fault) → (lines ≡ []) × (fault ≢ Lacking)
+    → lines ≡ forged_lines host read
+none_forged host fault read lines (inl lacking) p = absurd (p.1 lacking)
+none_forged host fault read lines (inr refused) p = p.0 ∙ ap (forged_lines host) (sym refused)
 
 -- an event that fits a network fits each state of its version
 pub fits_there : {S : Type 0} (w : WorldState) (e : WorldEvent) (n : Network S) → w.version ≡ n.version → event_fits n.version e → event_fits w.version e

@@ -8,8 +8,8 @@ use Rattle.world_model.specs.Counts.{Balanced, IsBounded, IsGranted}
 use Rattle.world_model.specs.Sound.{IsSound}
 use Rattle.world_model.specs.Wires.{IsOnce, WireLeads}
 use Rattle.world_model.specs.Visits.{EndsWell, visits_after}
-use Rattle.world_routes.specs.Roads.{BringsNone}
-use Rattle.world_routes.specs.Routes.{RunKeepsRoutes}
+use Rattle.network_laws.specs.Roads.{BringsNone}
+use Rattle.network_laws.specs.Routes.{RunKeepsRoutes}
 
 -- the history of a schedule's first events, and the network after them
 abbrev pub history_at : Schedule → ℕ → List Entry

@@ -1,4 +1,5 @@
-ghost use Rattle.std.specs.Prelude.{◌≡◌, ◌∷◌, ◌++◌, [], IfOk};
+ghost use Rattle.std.specs.Prelude.{◌≡◌, ◌≢◌, ◌∷◌, ◌++◌, [], IfOk};
+ghost use Rattle.packet_frame.specs.declared.fault.FrameFault.TheVariants as refusal;
 ghost use Rattle.packet_frame.specs.Typed.{plain_of};
 ghost use Rattle.packet_frame.specs.Stamped.{stamped_bytes};
 ghost use Rattle.packet_frame.specs.Decoding.{read_by};
@@ -22,16 +23,13 @@ pub fn no_lines(alloc: Global) -> Lines
     Items::new(alloc)
 }
 
-/// The lines of most events are no more than these.
-const MOST_LINES: usize = 4;
-
-/// One line, with room for those of most events.
+/// One line. The list has room for four, and most events have no more.
 pub fn one_line(alloc: Global, line: Line) -> Result<Lines, NoMemory>
     ensures { IfOk result (λ lines. lines ≡ line ∷ []) }
 {
-    let mut lines = Vec::with_capacity(alloc, MOST_LINES)?;
-    lines.push_reserved(line);
-    Ok(Items::from_vec(lines))
+    let mut lines = Items::new(alloc);
+    lines.add(line)?;
+    Ok(lines)
 }
 
 /// Lines, and then those of a node's acts.
@@ -56,6 +54,16 @@ fn lines_of(alloc: Global, host: Host, frame: &Frame) -> Result<Lines, NoMemory>
     }
 }
 
+/// The lines of bytes from outside that are refused with a fault: none, where memory was there.
+fn refused_lines(alloc: Global, fault: &FrameFault) -> Result<Lines, NoMemory>
+    ensures { IfOk result (λ lines. (lines ≡ []) × (fault.now ≢ refusal.NoMemory)) }
+{
+    match fault {
+        FrameFault::NoMemory => Err(NoMemory),
+        _ => Ok(no_lines(alloc)),
+    }
+}
+
 /// The lines of bytes from outside before they arrive at a node of a version: those that it accepts as a packet grant its
 /// bound.
 pub fn forged_lines(
@@ -68,8 +76,7 @@ pub fn forged_lines(
 {
     match read_as(alloc, bytes, version, None) {
         Ok(stamped) => lines_of(alloc, host, &stamped.frame),
-        Err(FrameFault::NoMemory) => Err(NoMemory),
-        Err(_) => Ok(no_lines(alloc)),
+        Err(fault) => refused_lines(alloc, &fault),
     }
 }
 
@@ -83,7 +90,7 @@ fn bytes_of(alloc: Global, frame: &SpelledFrame) -> Result<Bytes, NoMemory>
 }
 
 /// Lines, and then that of a frame that goes onto the wire.
-pub fn with_wire(
+fn with_wire(
     alloc: Global,
     before: Lines,
     number: u32,
@@ -96,6 +103,21 @@ pub fn with_wire(
     let bytes = bytes_of(alloc, frame)?;
     lines.add(Line::Wire(number, bytes))?;
     Ok(lines)
+}
+
+/// The lines of a frame that a node took and that goes onto the wire: those of the node's acts, and then its own.
+pub fn sent_lines(
+    alloc: Global,
+    host: Host,
+    acts: ActList,
+    number: u32,
+    frame: &SpelledFrame,
+) -> Result<Lines, NoMemory>
+    ensures { IfOk result (λ lines. lines
+        ≡ spec.lines_at host acts ++ line.Wire number (stamped_bytes frame.now) ∷ []) }
+{
+    let before = with_acts(no_lines(alloc), host, acts)?;
+    with_wire(alloc, before, number, frame)
 }
 
 /// The line of a frame that is handed to its receiving end.

@@ -9,7 +9,7 @@ ghost use Rattle.wire_numbers.specs.Numbers as numbers;
 ghost use Rattle.net_world.specs.Stands.{NetworkStands, WorldStands, IsActed};
 
 use crate::ends::{hand_off, was_handed, wire_place};
-use crate::lines::{forged_lines, hand_line, no_lines, one_line, with_acts, with_wire};
+use crate::lines::{forged_lines, hand_line, no_lines, one_line, sent_lines, with_acts};
 use crate::nodes::{arrive_at, hand_to, inject_at, node_place, take_at, tick_at, version_at};
 use crate::opening::open_nodes;
 use chunk_types::CheckedChunk;
@@ -147,8 +147,7 @@ impl<S: Services> Network<S> {
             return nothing(alloc);
         };
         let number = self.next;
-        let before = with_acts(no_lines(alloc), host, list)?;
-        let lines = with_wire(alloc, before, number, &frame)?;
+        let lines = sent_lines(alloc, host, list, number, &frame)?;
         let from = LinkEnd { host, dev };
         self.wire.add(Wired {
             number,
@@ -175,10 +174,9 @@ impl<S: Services> Network<S> {
         let Some(at) = node_place(self.nodes.as_slice(), to.host) else {
             return nothing(alloc);
         };
-        let line = hand_line(how, x.number);
+        let before = one_line(alloc, hand_line(how, x.number))?;
         let acts = hand_to(alloc, &mut self.nodes, at, to.dev, &x.frame)?;
         hand_off(alloc, &mut self.wire, how, place);
-        let before = one_line(alloc, line)?;
         with_acts(before, to.host, acts.list)
     }
 

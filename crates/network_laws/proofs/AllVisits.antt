@@ -36,7 +36,7 @@ use Rattle.plan_base.specs.declared.ids.Family.{Family}
 use Rattle.node_model.specs.Visits.{visit_at, settled_at}
 use Rattle.node_model.specs.Node.{NodeStep, stepped_node, lane_room, mark, packet_sending, advert_sending, visit_sends, tick_sends, has_room, drop_act, send_act, send_queues, sends_acts, handled_acts, visit_acts, visit_step, next_serial, injected_packet, inject_step, forward_by, forward_step, packet_step, hearing, advert_step, frame_step, takes_as, stamped_as, stamped_step, arrived_read, arrive_step, next_tick, tick_step, take_first, take_from, take_step}
 use Rattle.node_model.specs.Counts.{act_sum}
-use Rattle.node_laws.proofs.CountLaws.{act_sum-nil, act_sum-cons, act_sum-append}
+use Rattle.node_model.proofs.CountLaws.{act_sum-nil, act_sum-cons, act_sum-append}
 use Rattle.world_model.specs.declared.lines.Line.{Line}
 use Rattle.world_model.specs.declared.lines.Line.TheVariants.{Forged, Wire, Off, Again, Lost, Nothing}
 use Rattle.world_model.specs.declared.lines.LinkEnd.{LinkEnd}

@@ -23,9 +23,9 @@ use Rattle.node_model.specs.State.{NodeState, new_node}
 use Rattle.node_model.specs.Node.{NodeStep, takes_as, inject_step, stamped_step, arrive_step, tick_step, take_step}
 use Rattle.node_model.specs.Counts.{act_sum, act_left, act_stale, what_left, queues_sum, frame_live, if_fresh, if_stale, stamped_came, stamped_stale, bytes_came, bytes_stale, node_live, taken_sum, StepBalances}
 use Rattle.node_model.specs.declared.acts.Act.{Act}
-use Rattle.node_laws.proofs.CountLaws.{no_queues_sum, act_sum-nil, act_sum-cons}
-use Rattle.node_laws.proofs.NodeBalance.{inject_event_balances, stamped_balances, arrive_balances, tick_balances, take_balances}
-use Rattle.node_laws.proofs.Staying.{inject_frame, stamped_frame, arrive_frame, tick_frame}
+use Rattle.node_model.proofs.CountLaws.{no_queues_sum, act_sum-nil, act_sum-cons}
+use Rattle.node_model.proofs.NodeBalance.{inject_event_balances, stamped_balances, arrive_balances, tick_balances, take_balances}
+use Rattle.node_model.proofs.Staying.{inject_frame, stamped_frame, arrive_frame, tick_frame}
 use Rattle.world_model.specs.declared.lines.Line.{Line}
 use Rattle.world_model.specs.declared.lines.Line.TheVariants.{At, Forged, Wire, Off, Again, Lost, Nothing}
 use Rattle.world_model.specs.declared.lines.LinkEnd.{LinkEnd}

@@ -1,7 +1,7 @@
 -- Each event keeps what every network keeps.
 use Rattle.std.proofs.Common.{◌≡◌, ℕ, zero, suc, ◌+◌, ◌<◌, ◌≤◌, Bool, true, false, cond, List, [], ◌∷◌, ◌++◌, refl, sym, ap, ◌∙◌, subst, arith, length, take, drop}
 use Rattle.std.specs.Prelude.{slice_get, slice_set, remove, nat_lt, ◌==◌, if◌then◌else◌, position, Option, Some, None, All}
-use Rattle.read_laws.proofs.Binds.{some_inj}
+use Rattle.plan_items.proofs.Binds.{some_inj}
 use Rattle.network_plan.specs.declared.schedule.Cable.{Cable}
 use Rattle.std.proofs.lemmas.List.Elements.{All-nil, All-head, All-tail, All-push, All-set, All-append, All-take, All-drop, All-weaker, All-get_or}
 use Rattle.std.proofs.lemmas.List.Edits.{length-remove}
@@ -23,9 +23,9 @@ use Rattle.network_plan.specs.declared.event.WorldEvent.TheVariants.{Inject, Sen
 use Rattle.node_model.specs.State.{Links, NodeState}
 use Rattle.node_model.specs.Node.{NodeStep, takes_as, inject_step, stamped_step, arrive_step, tick_step, take_step}
 use Rattle.node_model.specs.Fits.{IsMarked, StampedKeeps, NodeFits}
-use Rattle.node_laws.proofs.Fitting.{FrameTaken, inject_event_fits, stamped_fits, arrive_fits, tick_fits, take_fits}
-use Rattle.node_laws.proofs.Staying.{Stays, inject_stays, stamped_stays, arrive_stays, tick_stays, take_stays}
-use Rattle.node_laws.proofs.Windows.{SeenLater, same_later, inject_seen, arrive_later, stamped_later, stamped_taken}
+use Rattle.node_model.proofs.Fitting.{FrameTaken, inject_event_fits, stamped_fits, arrive_fits, tick_fits, take_fits}
+use Rattle.node_model.proofs.Staying.{Stays, inject_stays, stamped_stays, arrive_stays, tick_stays, take_stays}
+use Rattle.node_model.proofs.Windows.{SeenLater, same_later, inject_seen, arrive_later, stamped_later, stamped_taken}
 use Rattle.network_laws.proofs.Places.{SetAt, there, elsewhere, set_at, first_of_host, set_of_host}
 use Rattle.network_laws.proofs.Numbers.{numbers_differ}
 use Rattle.world_model.specs.declared.lines.Line.{Line}

@@ -26,12 +26,12 @@ use Rattle.spelled_frame.specs.Spelled.{what_of}
 use Rattle.node_model.specs.State.{NodeState, new_node}
 use Rattle.node_model.specs.Node.{NodeStep, inject_step, stamped_step, arrive_step, tick_step, take_step}
 use Rattle.node_model.specs.Counts.{act_sum, queues_sum, frame_one, taken_sum}
-use Rattle.node_laws.proofs.CountLaws.{act_sum-nil, act_sum-cons, queues_sum-nil}
-use Rattle.node_laws.proofs.Fitting.{Taken, taken_in}
+use Rattle.node_model.proofs.CountLaws.{act_sum-nil, act_sum-cons, queues_sum-nil}
+use Rattle.node_model.proofs.Fitting.{Taken, taken_in}
 use Rattle.packet_frame.proofs.Versions.{found_by}
 use Rattle.wire_bytes.specs.Fields.{IsBytes}
 use Rattle.node_model.specs.declared.acts.Act.{Act}
-use Rattle.node_laws.proofs.Giving.{may_give, only_limit, StepGives, inject_gives, stamped_gives, arrive_gives, tick_gives, take_gives, came_one, inject_adds, stamped_adds, arrive_adds, tick_adds, take_adds}
+use Rattle.node_model.proofs.Giving.{may_give, only_limit, StepGives, inject_gives, stamped_gives, arrive_gives, tick_gives, take_gives, came_one, inject_adds, stamped_adds, arrive_adds, tick_adds, take_adds}
 use Rattle.world_model.specs.declared.lines.Line.{Line}
 use Rattle.world_model.specs.declared.lines.Line.TheVariants.{At, Forged, Wire, Off, Again, Lost, Nothing}
 use Rattle.world_model.specs.declared.lines.LinkEnd.{LinkEnd}

@@ -24,7 +24,7 @@ use Rattle.node_model.specs.declared.acts.Act.{Act}
 use Rattle.node_model.specs.State.{NodeState}
 use Rattle.node_model.specs.Node.{NodeStep, takes_as, inject_step, stamped_step, arrive_step, tick_step, take_step}
 use Rattle.node_model.specs.Counts.{act_sum, act_stale, frame_live, if_stale, bytes_stale}
-use Rattle.node_laws.proofs.NodeBalance.{inject_event_balances, arrive_balances, tick_balances, take_balances}
+use Rattle.node_model.proofs.NodeBalance.{inject_event_balances, arrive_balances, tick_balances, take_balances}
 use Rattle.world_model.specs.declared.lines.Line.{Line}
 use Rattle.world_model.specs.declared.lines.Line.TheVariants.{At, Forged, Wire, Off, Again, Lost, Nothing}
 use Rattle.world_model.specs.declared.lines.LinkEnd.{LinkEnd}

@@ -1,3 +1,11 @@
+pub mod Cut
+pub mod Steps
+pub mod Holding
+pub mod Events
+pub mod Openings
+pub mod Reaching
+pub mod Leading
+pub mod Moving
 pub mod AllVisits
 pub mod Balance
 pub mod CountLaws

@@ -21,10 +21,10 @@ use Rattle.world_model.specs.declared.lines.LinkEnd.{LinkEnd}
 use Rattle.network_plan.specs.declared.event.WorldEvent.{WorldEvent}
 use Rattle.network_plan.specs.declared.event.WorldEvent.TheVariants.{Inject, Send, Deliver, Repeat, Lose, Tick, Raw}
 use Rattle.node_model.specs.Node.{NodeStep, inject_step, tick_step, arrive_step, stamped_step, take_first, take_from, take_step}
-use Rattle.node_laws.proofs.Staying.{inject_stays, tick_stays, arrive_stays, stamped_stays}
-use Rattle.read_laws.proofs.Binds.{some_inj}
+use Rattle.node_model.proofs.Staying.{inject_stays, tick_stays, arrive_stays, stamped_stays}
+use Rattle.plan_items.proofs.Binds.{some_inj}
 use Rattle.node_model.specs.Numbers.{Ascend, NumbersFit, FitsAt, link_in, numbers_in}
-use Rattle.node_laws.proofs.Numbers.{taken_fits, inject_rises, tick_rises, arrive_rises, stamped_rises}
+use Rattle.node_model.proofs.Numbers.{taken_fits, inject_rises, tick_rises, arrive_rises, stamped_rises}
 use Rattle.network_laws.proofs.Places.{SetAt, there, elsewhere, set_at, first_of_host, set_of_host}
 
 -- ---- lists

@@ -15,9 +15,9 @@ use Rattle.network_plan.specs.declared.schedule.Topology.{Topology}
 use Rattle.dv_routing.specs.Sorted as sorted
 use Rattle.node_model.specs.State.{Links, NodeState, is_host, no_lane, no_queues, new_node}
 use Rattle.node_model.specs.Numbers.{NumbersFit, FitsAt}
-use Rattle.read_laws.proofs.Binds.{some_inj}
+use Rattle.plan_items.proofs.Binds.{some_inj}
 use Rattle.node_model.specs.Fits.{StampedKeeps, NetworkFits, ConfigFits, ServicesFit, NodeFits}
-use Rattle.node_laws.proofs.HostLaws.{same_among, new_node_fits}
+use Rattle.node_model.proofs.HostLaws.{same_among, new_node_fits}
 use Rattle.world_model.specs.declared.lines.LinkEnd.{LinkEnd}
 use Rattle.world_model.specs.World.{Cables, peer_of, neighbour_at, neighbours_to, opening_services, first_moment, config_of, opening_node, opening}
 use Rattle.world_model.specs.Sound.{WiredFits, Rise, DevicesFit, node_of, IsStaleAt, NumbersDiffer, LinkFits, IsSound}

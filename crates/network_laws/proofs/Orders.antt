@@ -5,7 +5,7 @@ use Rattle.plan_base.specs.declared.tree.Packet.{Packet}
 use Rattle.node_model.specs.Contexts.{IsOrdered}
 use Rattle.node_model.specs.Visits.{around}
 use Rattle.node_model.specs.Fits.{NodeFits}
-use Rattle.node_laws.proofs.Contexts.{node_ordered}
+use Rattle.node_model.proofs.Contexts.{node_ordered}
 use Rattle.world_model.specs.World.{WorldState}
 use Rattle.world_model.specs.Sound.{IsSound}
 

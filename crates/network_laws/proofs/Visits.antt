@@ -20,15 +20,15 @@ use Rattle.chunk_types.specs.Chunks.{IsCheckedChunk}
 use Rattle.service_api.specs.Services.{IsGood, IsGoodChunk, IsGoodNote, begun_now}
 use Rattle.plan_meaning.specs.Safe.{IsGoodSent, IsGoodState}
 use Rattle.plan_meaning.specs.Visit.{begun_state}
-use Rattle.meaning_laws.proofs.Allowances.{visit_can_end}
+use Rattle.plan_meaning.proofs.Allowances.{visit_can_end}
 use Rattle.network_plan.specs.declared.event.WorldEvent.{WorldEvent}
 use Rattle.network_plan.specs.declared.event.WorldEvent.TheVariants.{Inject, Send, Deliver, Repeat, Lose, Tick, Raw}
 use Rattle.node_model.specs.State.{NodeState, is_host}
 use Rattle.node_model.specs.Node.{takes_as, next_serial, injected_packet}
 use Rattle.node_model.specs.Visits.{around}
 use Rattle.node_model.specs.Fits.{NodeFits}
-use Rattle.node_laws.proofs.Fitting.{Taken, taken_in, kept_taken}
-use Rattle.node_laws.proofs.VisitLaws.{has_case}
+use Rattle.node_model.proofs.Fitting.{Taken, taken_in, kept_taken}
+use Rattle.node_model.proofs.VisitLaws.{has_case}
 use Rattle.world_model.specs.declared.lines.Wired.{Wired}
 use Rattle.world_model.specs.World.{WorldState, place_of, wire_place, happens}
 use Rattle.world_model.specs.Sound.{IsSound, event_fits, EventsFit}

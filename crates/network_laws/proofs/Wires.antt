@@ -20,7 +20,7 @@ use Rattle.node_model.specs.declared.acts.Act.{Act}
 use Rattle.node_model.specs.State.{NodeState}
 use Rattle.node_model.specs.Node.{NodeStep, inject_step, stamped_step, arrive_step, tick_step, take_step}
 use Rattle.node_model.specs.Counts.{act_sum}
-use Rattle.node_laws.proofs.CountLaws.{act_sum-nil, act_sum-cons}
+use Rattle.node_model.proofs.CountLaws.{act_sum-nil, act_sum-cons}
 use Rattle.world_model.specs.declared.lines.Line.{Line}
 use Rattle.world_model.specs.declared.lines.Line.TheVariants.{At, Forged, Wire, Off, Again, Lost, Nothing}
 use Rattle.world_model.specs.declared.lines.LinkEnd.{LinkEnd}

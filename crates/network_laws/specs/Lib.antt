@@ -1,0 +1,3 @@
+pub mod Roads
+pub mod Routes
+pub mod Led

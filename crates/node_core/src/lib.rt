@@ -1,8 +1,13 @@
 //! A node: its services and its step.
 #![tactic(auto)]
 
+mod around;
 mod idle_services;
+mod links;
 mod node;
+mod opening;
+mod own;
+mod step_acts;
 
 pub use link_window::{Stamp, Took, Version, Window};
 pub use node::Node;

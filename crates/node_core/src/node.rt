@@ -1,9 +1,8 @@
-ghost use Rattle.std.specs.Prelude.{◌≡◌, ◌≤◌, ◌<◌, length, ◌++◌, IfOk, OnErr, [], ◌∷◌, slice_get, None};
-ghost use Rattle.node_model.specs.State.{NodeState, new_node, neighbour_on, leads_to, routing_of};
+ghost use Rattle.std.specs.Prelude.{◌≡◌, ◌≤◌, ◌<◌, IfOk, OnErr, [], ◌∷◌, slice_get, None};
+ghost use Rattle.node_model.specs.State.{NodeState, new_node, leads_to, routing_of};
 ghost use Rattle.node_model.specs.declared.acts.Act.TheVariants as act;
 ghost use Rattle.node_model.specs.Node as spec;
 ghost use Rattle.plan_base.specs.declared.ids.Family.{Family as FamilyOf};
-ghost use Rattle.typing_rules.specs.Handlers.{MayHandle};
 ghost use Rattle.link_window.specs.declared.window.Took.TheVariants.{Fresh as FreshOne};
 ghost use Rattle.network_plan.specs.Rules.{MayName};
 ghost use Rattle.spelled_frame.specs.Spelled as spelled;
@@ -11,36 +10,44 @@ ghost use Rattle.spelled_frame.specs.Spelled.{MayCarry};
 ghost use Rattle.node_model.specs.Counts.{came, stale, StepBalances};
 ghost use Rattle.node_model.specs.Fits.{ConfigFits, NodeFits, IsMarked, comes_fit, comes_within};
 ghost use Rattle.node_parts.specs.Queued.{queued_at};
+ghost use Rattle.node_parts.specs.Heard.{TellsAll};
+ghost use Rattle.packet_frame.specs.Stamped.{stamped_plain};
 ghost use Rattle.packet_frame.specs.Typed.{plain_of};
 ghost use Rattle.dv_routing.specs.Routing.{all_routes};
 ghost use Rattle.service_api.specs.Routes.{hop};
 ghost use Rattle.node_core.specs.Turns.{IsResting};
-ghost use Rattle.node_core.specs.Stands.{NodeStands, IsStep, version_of, mark_on, with_stamp, own_family, own_packet, around_at};
+ghost use Rattle.node_core.specs.Stands.{NodeStands, IsStep, version_of, mark_on, with_stamp};
 ghost use Rattle.node_parts.specs.Carried.{MayBear, MayGoOn, asks_within};
 
+use crate::around::{around, next_tick};
 use crate::idle_services::IdleServices;
+use crate::links::leads_to;
+use crate::opening::open_parts;
+use crate::own::{own_family, own_packet};
+use crate::step_acts::{
+    acts_room, arrived_bad, asked_bad, none_taken, one_act, only_acts, taken, ticked, two_room,
+    with_act,
+};
 use chunk_types::{CheckedChunk, CheckedPacket};
 use link_window::{Stamp, Took, Version, Window};
 use network_plan::{Event, NodeConfig};
 use node_model::{Act, ActList, Acts, Lane, Reason};
 use node_parts::{
-    NeighbourList, Routes, advert_sendings, code_of, count_frames, has_frame, judge, note,
-    open_lanes, open_windows, packet_sending, read_as, send_all, send_one, take_first, what_of,
+    Leavings, NeighbourList, Routes, advert_sendings, code_of, count_frames, has_frame, judge,
+    note, packet_sending, read_as, send_all, send_one, take_first, what_of,
 };
-use packet_frame::{Frame, FrameFault};
-use plan_base::{Dev, Family, Host, Name, NoMemory};
+use packet_frame::{Frame, Stamped};
+use plan_base::{Dev, Host, Name, NoMemory};
 use plan_copies::copy_handler;
 use plan_items::Items;
 use plan_types::Checked;
-use remote_calls::default_route;
-use service_api::{Advert, Ctx, Hop, Neighbours, Router, Services};
-use spelled_frame::{SpelledFrame, with_handler};
+use service_api::{Advert, Ctx, Hop, Router, Services};
+use spelled_frame::SpelledFrame;
 use std::alloc::Global;
 
 /// A node: its host, its version, the moment at which it began, its neighbours by device, its routes, its services, for each
 /// device from 0 to 8 its queue with the number of its next frame and, under version 2, its window, the serial number of its next
 /// injection, its time in ticks, and the program of the last chunk that arrived, so that the same program isn't checked again.
-#[derive(Drop)]
 pub struct Node<S: Services> {
     here: Host,
     version: Version,
@@ -55,106 +62,28 @@ pub struct Node<S: Services> {
     known: Option<Checked>,
 }
 
-/// The acts of most steps are no more than these.
-const MOST_ACTS: usize = 4;
-
-/// No acts, with room for those of most steps.
-fn no_acts(alloc: Global) -> Result<ActList, NoMemory>
-    ensures { IfOk result (λ acts. acts ≡ []) }
-{
-    Ok(Items::from_vec(Vec::with_capacity(alloc, MOST_ACTS)?))
-}
-
-/// A list of one act, with room for those of most steps.
-fn one_act(alloc: Global, act: Act) -> Result<ActList, NoMemory>
-    ensures { IfOk result (λ acts. acts ≡ act ∷ []) }
-{
-    let mut acts = Vec::with_capacity(alloc, MOST_ACTS)?;
-    acts.push_reserved(act);
-    Ok(Items::from_vec(acts))
-}
-
-/// Acts and one more.
-fn with_act(before: ActList, act: Act) -> Result<ActList, NoMemory>
-    ensures { IfOk result (λ acts. acts ≡ before ++ act ∷ []) }
-{
-    let mut acts = before;
-    acts.add(act)?;
-    Ok(acts)
-}
-
-/// A list of two acts.
-fn two_acts(alloc: Global, first: Act, second: Act) -> Result<ActList, NoMemory>
-    ensures { IfOk result (λ acts. acts ≡ first ∷ second ∷ []) }
-{
-    let mut acts = Vec::with_capacity(alloc, 2)?;
-    acts.push_reserved(first);
-    acts.push_reserved(second);
-    Ok(Items::from_vec(acts))
-}
-
-/// The neighbour on a device.
-fn neighbour_on(links: &[(Host, Dev)], dev: Dev) -> Option<Host>
-    ensures { result ≡ neighbour_on links.now dev }
-{
-    let mut rest = links;
-    while let [link, later @ ..] = rest {
-        if link.1.0 == dev.0 {
-            return Some(link.0);
-        }
-        rest = later;
+impl<S: Services + Drop> Drop for Node<S> {
+    fn drop(self) {
+        let Node {
+            here: _here,
+            version: _version,
+            boot: _boot,
+            neighbours: _neighbours,
+            routes: _routes,
+            services: _services,
+            lanes: _lanes,
+            windows: _windows,
+            serial: _serial,
+            time: _time,
+            known: _known,
+        } = self;
     }
-    None
-}
-
-/// Whether a device leads to this neighbour.
-fn leads_to(links: &[(Host, Dev)], dev: Dev, host: Host) -> bool
-    ensures { result ≡ leads_to links.now dev host }
-{
-    if dev.0 == 0 {
-        return false;
-    }
-    match neighbour_on(links, dev) {
-        None => false,
-        Some(there) => there.0 == host.0,
-    }
-}
-
-/// What stands around the visit of a packet, with the neighbours and the routes of its node. Condition: at most 8 neighbours.
-fn around(
-    here: Host,
-    now: u64,
-    packet: &CheckedPacket,
-    neighbours: Neighbours,
-    router: Router,
-) -> Ctx
-    requires { length neighbours ≤ 8 }
-    ensures ctx { result ≡ around_at here now packet.now neighbours router }
-    ensures near { length result.neighbours ≤ 8 }
-    ensures purse { result.purse ≡ packet.now.bound }
-    ensures source { result.source ≡ packet.now.family.source }
-{
-    Ctx {
-        here,
-        source: packet.family().source,
-        purse: packet.bound(),
-        now,
-        neighbours,
-        router,
-    }
-}
-
-/// The next tick, which stands still at the last number.
-fn next_tick(now: u64) -> u64
-    ensures { result ≡ spec.next_tick now }
-{
-    if now == u64::MAX { now } else { now + 1 }
 }
 
 impl<S: Services + Drop> Node<S> {
     /// A node at its beginning: it has heard nothing, nothing is queued, nothing was taken, and its time is 0. Conditions: at
     /// most 32 hosts, none twice; neighbours on devices from 1 to 8, each once, in order; no `begin` of the services is open.
-    #[tactic(auto, unfolding(node_model::specs::State::new_node), using(node_laws::proofs::Contexts::near_by_devices))]
+    #[tactic(auto, unfolding(node_model::specs::State::new_node), using(node_model::proofs::Contexts::near_by_devices))]
     pub fn new(alloc: Global, config: NodeConfig, services: S) -> Result<Node<S>, NoMemory>
         requires config { ConfigFits config }
         requires services { IsResting (S.stands services) }
@@ -162,18 +91,17 @@ impl<S: Services + Drop> Node<S> {
             (new_node config (S.stands services))) }
         ensures version { IfOk result (λ node. version_of node ≡ config.version) }
     {
+        let (routes, devices) = open_parts(alloc, &config)?;
+        let (lanes, windows) = devices.into_parts();
         let NodeConfig {
             here,
-            hosts,
+            hosts: _hosts,
             neighbours,
             serial,
             version,
             boot,
-            link,
+            link: _link,
         } = config;
-        let routes = Routes::open(alloc, here, hosts.as_slice(), &neighbours)?;
-        let lanes = open_lanes(alloc, link)?;
-        let windows = open_windows(alloc, version)?;
         Ok(Node {
             here,
             version,
@@ -229,7 +157,6 @@ impl<S: Services> Node<S> {
     }
 
     /// The settled visit of a packet, after some acts. Condition: under version 1 it has no handler.
-    #[tactic(auto, unfolding(node_model::specs::Node::visit_step))]
     fn visit(
         &mut self,
         alloc: Global,
@@ -244,8 +171,30 @@ impl<S: Services> Node<S> {
         ensures same { version_of self.new ≡ version_of self.old }
         ensures serial { self.new.serial ≡ self.old.serial }
     {
-        let mark = self.mark();
         let rows = self.routes.take_router(alloc)?;
+        self.visit_with(alloc, before, packet, rows)
+    }
+
+    /// The settled visit of a packet, after some acts, with the routes that were handed out. Conditions: under version 1 the
+    /// packet has no handler, and the routes are those of the node.
+    #[tactic(auto, unfolding(node_model::specs::Node::visit_step))]
+    fn visit_with(
+        &mut self,
+        alloc: Global,
+        before: ActList,
+        packet: &CheckedPacket,
+        rows: Router,
+    ) -> Result<Acts, NoMemory>
+        requires carried { MayCarry (mark_on self.old) packet.now.handler }
+        requires rows { TellsAll self.old.routes rows }
+        ensures ok { (s : NodeState) → NodeStands S.stands self.old s → IfOk result
+            (λ acts. IsStep S.stands (spec.visit_step before s packet.now) acts self.new) }
+        ensures err { (s : NodeState) → NodeStands S.stands self.old s → OnErr result
+            (NodeStands S.stands self.new s) }
+        ensures same { version_of self.new ≡ version_of self.old }
+        ensures serial { self.new.serial ≡ self.old.serial }
+    {
+        let mark = self.mark();
         let links = self.neighbours.take(alloc);
         let ctx = around(self.here, self.time, packet, links, rows);
         let turned = self
@@ -262,34 +211,6 @@ impl<S: Services> Node<S> {
             Ok(list) => Ok(Acts { list, frame: None }),
             Err(refused) => Err(refused),
         }
-    }
-
-    /// The family of the next injection.
-    fn next_family(&self) -> Family
-        ensures { result ≡ own_family self.now.here self.now.serial }
-    {
-        Family {
-            source: self.here,
-            serial: self.serial,
-        }
-    }
-
-    /// The packet of the next injection. Conditions: the bound is at most 65,535, and the handler, if there is one, may handle.
-    fn next_packet(
-        &self,
-        alloc: Global,
-        chunk: CheckedChunk,
-        bound: u32,
-        handler: Option<Name>,
-    ) -> Result<CheckedPacket, NoMemory>
-        requires bound { bound ≤ 65535 }
-        requires handler { MayHandle chunk handler }
-        ensures { IfOk result (λ p. p ≡ own_packet self.now.here self.now.serial chunk bound
-            handler) }
-    {
-        let route = default_route(alloc)?;
-        let packet = CheckedPacket::of(self.next_family(), self.here, bound, route, chunk);
-        Ok(with_handler(packet, handler))
     }
 
     /// The visit of an injected packet, after some acts; the next injection gets the next serial number. Conditions: a serial
@@ -314,9 +235,35 @@ impl<S: Services> Node<S> {
         Ok(acts)
     }
 
+    /// An injection after some acts, where a serial number is left. Conditions: the bound is at most 65,535; the handler is none
+    /// under version 1, and one that may handle or none under version 2.
+    #[tactic(auto, using(crate::proofs::StepLaws::named_handles, crate::proofs::StepLaws::named_carries))]
+    fn admit_next(
+        &mut self,
+        alloc: Global,
+        before: ActList,
+        chunk: CheckedChunk,
+        bound: u32,
+        handler: Option<Name>,
+    ) -> Result<Acts, NoMemory>
+        requires left { self.old.serial < 18446744073709551615 }
+        requires small { bound ≤ 65535 }
+        requires handler { MayName (version_of self.old) chunk handler }
+        ensures ok { (s : NodeState) → NodeStands S.stands self.old s → IfOk result
+            (λ acts. IsStep S.stands (spec.inject_step before s chunk bound handler)
+            acts self.new) }
+        ensures err { (s : NodeState) → NodeStands S.stands self.old s → OnErr result
+            (NodeStands S.stands self.new s) }
+        ensures same { version_of self.new ≡ version_of self.old }
+    {
+        let packet = own_packet(alloc, self.here, self.serial, chunk, bound, handler)?;
+        let injected = Act::Injected(own_family(self.here, self.serial), bound);
+        let list = with_act(before, injected)?;
+        self.visit_own(alloc, list, &packet)
+    }
+
     /// An injection after some acts. Conditions: the bound is at most 65,535; the handler is none under version 1, and one that may
     /// handle or none under version 2.
-    #[tactic(auto, using(crate::proofs::StepLaws::named_handles, crate::proofs::StepLaws::named_carries))]
     fn admit(
         &mut self,
         alloc: Global,
@@ -338,10 +285,7 @@ impl<S: Services> Node<S> {
             let list = with_act(before, Act::SerialsSpent)?;
             return Ok(Acts { list, frame: None });
         }
-        let injected = Act::Injected(self.next_family(), bound);
-        let list = with_act(before, injected)?;
-        let packet = self.next_packet(alloc, chunk, bound, handler)?;
-        self.visit_own(alloc, list, &packet)
+        self.admit_next(alloc, before, chunk, bound, handler)
     }
 
     /// The step of an injection. Conditions: the bound is at most 65,535; the handler is none under version 1, and one that may
@@ -362,7 +306,7 @@ impl<S: Services> Node<S> {
             (NodeStands S.stands self.new s) }
         ensures same { version_of self.new ≡ version_of self.old }
     {
-        let before = no_acts(alloc)?;
+        let before = Items::from_vec(acts_room(alloc)?);
         self.admit(alloc, before, chunk, bound, handler)
     }
 
@@ -395,15 +339,6 @@ impl<S: Services> Node<S> {
         })
     }
 
-    /// Nothing but two acts.
-    fn only_acts(&self, alloc: Global, first: Act, second: Act) -> Result<Acts, NoMemory>
-        ensures list { IfOk result (λ acts. acts.list ≡ first ∷ second ∷ []) }
-        ensures frame { IfOk result (λ acts. acts.frame ≡ None) }
-    {
-        let list = two_acts(alloc, first, second)?;
-        Ok(Acts { list, frame: None })
-    }
-
     /// A packet that goes on by a hop. Condition: under version 1 it has no handler.
     #[tactic(auto, unfolding(node_model::specs::Node::forward_by))]
     fn forward_by(
@@ -425,8 +360,9 @@ impl<S: Services> Node<S> {
             Hop::NoService => Reason::NoService,
             Hop::NoRoute => Reason::NoRoute,
         };
+        let room = two_room(alloc)?;
         let dropped = Act::Dropped(reason, packet.family(), packet.bound());
-        self.only_acts(alloc, Act::Arrived(dev), dropped)
+        Ok(only_acts(room, Act::Arrived(dev), dropped))
     }
 
     /// Where a packet for another host goes next.
@@ -450,8 +386,9 @@ impl<S: Services> Node<S> {
         ensures same { version_of self.new ≡ version_of self.old }
     {
         if packet.bound() == 0 {
+            let room = two_room(alloc)?;
             let dropped = Act::Dropped(Reason::NoBound, packet.family(), 0);
-            return self.only_acts(alloc, Act::Arrived(dev), dropped);
+            return Ok(only_acts(room, Act::Arrived(dev), dropped));
         }
         let hop = self.hop(alloc, packet)?;
         self.forward_by(alloc, dev, packet, hop)
@@ -470,7 +407,7 @@ impl<S: Services> Node<S> {
         if packet.dest().0 != self.here.0 {
             return self.forward(alloc, dev, packet);
         }
-        let before = one_act(alloc, Act::Arrived(dev))?;
+        let before = one_act(acts_room(alloc)?, Act::Arrived(dev));
         self.visit(alloc, before, packet)
     }
 
@@ -500,12 +437,12 @@ impl<S: Services> Node<S> {
             (NodeStands S.stands self.new s) }
         ensures same { version_of self.new ≡ version_of self.old }
     {
+        let room = two_room(alloc)?;
         if !self.knows(dev, advert.host) {
-            return self.only_acts(alloc, Act::Arrived(dev), Act::Misplaced);
+            return Ok(only_acts(room, Act::Arrived(dev), Act::Misplaced));
         }
-        let acts = self.only_acts(alloc, Act::Arrived(dev), Act::Heard(dev))?;
         self.learn(dev, advert);
-        Ok(acts)
+        Ok(only_acts(room, Act::Arrived(dev), Act::Heard(dev)))
     }
 
     /// A frame arrives. Condition: under version 1 a packet has no handler.
@@ -520,7 +457,10 @@ impl<S: Services> Node<S> {
         match frame {
             Frame::Packet(packet) => self.take_in(alloc, dev, packet),
             Frame::Advert(advert) => self.hear(alloc, dev, advert),
-            Frame::Ask(_, _) => self.only_acts(alloc, Act::Arrived(dev), Act::Misplaced),
+            Frame::Ask(_, _) => {
+                let room = two_room(alloc)?;
+                Ok(only_acts(room, Act::Arrived(dev), Act::Misplaced))
+            }
         }
     }
 
@@ -587,8 +527,9 @@ impl<S: Services> Node<S> {
             (spelled.what_of (plain_of frame.now)) ∷ []) }
         ensures frame { IfOk result (λ acts. acts.frame ≡ None) }
     {
+        let room = two_room(alloc)?;
         let stale = Act::Stale(took, what_of(frame));
-        self.only_acts(alloc, Act::Arrived(dev), stale)
+        Ok(only_acts(room, Act::Arrived(dev), stale))
     }
 
     /// A frame with its stamp arrives: it is stale where its stamp isn't fresh on its device. Conditions: under version 1 it has
@@ -629,6 +570,22 @@ impl<S: Services> Node<S> {
         }
     }
 
+    /// A frame that was read arrives, and its program is kept. Conditions: under version 1 it has no stamp, and a packet has no
+    /// handler.
+    fn arrive_read(&mut self, alloc: Global, dev: Dev, stamped: &Stamped) -> Result<Acts, NoMemory>
+        requires borne { MayBear (version_of self.old) stamped.now.stamp }
+        requires carried { MayGoOn (mark_on self.old) (plain_of stamped.now.frame) }
+        ensures ok { (s : NodeState) → NodeStands S.stands self.old s → IfOk result
+            (λ acts. IsStep S.stands (spec.stamped_step s dev (stamped_plain stamped.now))
+            acts self.new) }
+        ensures err { (s : NodeState) → NodeStands S.stands self.old s → OnErr result
+            (NodeStands S.stands self.new s) }
+        ensures same { version_of self.new ≡ version_of self.old }
+    {
+        self.remember(&stamped.frame);
+        self.arrive_stamped(alloc, dev, stamped.stamp, &stamped.frame)
+    }
+
     /// The step of bytes that arrive over a device.
     #[tactic(auto, unfolding(node_model::specs::Node::arrive_step))]
     pub fn arrive(&mut self, alloc: Global, dev: Dev, bytes: &[u8]) -> Result<Acts, NoMemory>
@@ -639,12 +596,8 @@ impl<S: Services> Node<S> {
         ensures same { version_of self.new ≡ version_of self.old }
     {
         match read_as(alloc, bytes, self.version, self.known.as_ref()) {
-            Ok(stamped) => {
-                self.remember(&stamped.frame);
-                self.arrive_stamped(alloc, dev, stamped.stamp, &stamped.frame)
-            }
-            Err(FrameFault::NoMemory) => Err(NoMemory),
-            Err(refusal) => self.only_acts(alloc, Act::Arrived(dev), Act::Bad(refusal)),
+            Ok(stamped) => self.arrive_read(alloc, dev, &stamped),
+            Err(fault) => arrived_bad(alloc, dev, fault),
         }
     }
 
@@ -683,11 +636,28 @@ impl<S: Services> Node<S> {
     {
         match frame {
             Frame::Ask(bound, chunk) => {
-                let before = one_act(alloc, Act::Asked)?;
+                let before = one_act(acts_room(alloc)?, Act::Asked);
                 self.admit(alloc, before, chunk, bound, None)
             }
-            _ => self.only_acts(alloc, Act::Asked, Act::Misplaced),
+            _ => {
+                let room = two_room(alloc)?;
+                Ok(only_acts(room, Act::Asked, Act::Misplaced))
+            }
         }
+    }
+
+    /// What the owner asked was read, and its program is kept.
+    fn ask_read(&mut self, alloc: Global, stamped: Stamped) -> Result<Acts, NoMemory>
+        requires { asks_within (plain_of stamped.frame) }
+        ensures ok { (s : NodeState) → NodeStands S.stands self.old s → IfOk result
+            (λ acts. IsStep S.stands (spec.asked_plain s (plain_of stamped.frame))
+            acts self.new) }
+        ensures err { (s : NodeState) → NodeStands S.stands self.old s → OnErr result
+            (NodeStands S.stands self.new s) }
+        ensures same { version_of self.new ≡ version_of self.old }
+    {
+        self.remember(&stamped.frame);
+        self.ask_frame(alloc, stamped.frame)
     }
 
     /// Bytes arrive from the owner: an ask is an injection.
@@ -700,17 +670,24 @@ impl<S: Services> Node<S> {
         ensures same { version_of self.new ≡ version_of self.old }
     {
         match read_as(alloc, bytes, self.version, self.known.as_ref()) {
-            Ok(stamped) => {
-                self.remember(&stamped.frame);
-                self.ask_frame(alloc, stamped.frame)
-            }
-            Err(FrameFault::NoMemory) => Err(NoMemory),
-            Err(refusal) => self.only_acts(alloc, Act::Asked, Act::Bad(refusal)),
+            Ok(stamped) => self.ask_read(alloc, stamped),
+            Err(fault) => asked_bad(alloc, fault),
         }
     }
 
+    /// The advert for each neighbour.
+    #[tactic(auto, unfolding(node_model::specs::Node::tick_sends))]
+    fn adverts(&self, alloc: Global) -> Result<Leavings, NoMemory>
+        ensures { (s : NodeState) → NodeStands S.stands self.now s → IfOk result
+            (λ sends. sends ≡ spec.tick_sends s) }
+    {
+        let advert = self.routes.advert(alloc)?;
+        let sends = advert_sendings(alloc, self.mark(), &advert, self.neighbours.as_slice())?;
+        Ok(sends)
+    }
+
     /// The step of a tick: rows that have expired go, and the advert is queued for each neighbour.
-    #[tactic(auto, unfolding(node_model::specs::Node::tick_step, node_model::specs::Node::tick_sends))]
+    #[tactic(auto, unfolding(node_model::specs::Node::tick_step))]
     pub fn tick(&mut self, alloc: Global) -> Result<Acts, NoMemory>
         ensures ok { (s : NodeState) → NodeStands S.stands self.old s → IfOk result
             (λ acts. IsStep S.stands (spec.tick_step s) acts self.new) }
@@ -719,10 +696,8 @@ impl<S: Services> Node<S> {
         ensures same { version_of self.new ≡ version_of self.old }
     {
         let now = next_tick(self.time);
-        let advert = self.routes.advert(alloc)?;
-        let sends = advert_sendings(alloc, self.mark(), &advert, self.neighbours.as_slice())?;
-        let mut acts = Vec::with_capacity(alloc, sends.len() + 1)?;
-        acts.push_reserved(Act::Ticked(now));
+        let sends = self.adverts(alloc)?;
+        let mut acts = ticked(alloc, now, sends.len())?;
         self.services.expire(now);
         self.time = now;
         send_all(&mut acts, &mut self.lanes, sends);
@@ -741,20 +716,36 @@ impl<S: Services> Node<S> {
             (NodeStands S.stands self.new s) }
         ensures same { version_of self.new ≡ version_of self.old }
     {
-        let mut list = Vec::with_capacity(alloc, 1)?;
+        let room = Vec::with_capacity(alloc, 1)?;
         let at = dev.0 as usize;
-        if !has_frame(&self.lanes, at) {
-            return Ok(Acts {
-                list: Items::from_vec(list),
-                frame: None,
-            });
+        if has_frame(&self.lanes, at) {
+            let frame = take_first(&mut self.lanes, at);
+            Ok(taken(room, dev, frame))
+        } else {
+            Ok(none_taken(room))
         }
-        let frame = take_first(&mut self.lanes, at);
-        list.push_reserved(Act::Taken(dev, frame.what()));
-        Ok(Acts {
-            list: Items::from_vec(list),
-            frame: Some(frame),
-        })
+    }
+
+    /// The step of an injection whose chunk and handler are lent. Conditions: as of `inject`.
+    fn inject_again(
+        &mut self,
+        alloc: Global,
+        chunk: &CheckedChunk,
+        bound: u32,
+        handler: &Option<Name>,
+    ) -> Result<Acts, NoMemory>
+        requires small { bound ≤ 65535 }
+        requires handler { MayName (version_of self.old) chunk.now handler.now }
+        ensures ok { (s : NodeState) → NodeStands S.stands self.old s → IfOk result
+            (λ acts. IsStep S.stands (spec.inject_step [] s chunk.now bound handler.now)
+            acts self.new) }
+        ensures err { (s : NodeState) → NodeStands S.stands self.old s → OnErr result
+            (NodeStands S.stands self.new s) }
+        ensures same { version_of self.new ≡ version_of self.old }
+    {
+        let handler = copy_handler(alloc, handler)?;
+        let chunk = chunk.copy(alloc)?;
+        self.inject(alloc, chunk, bound, handler)
     }
 
     /// The step of an event, by its case.
@@ -768,8 +759,7 @@ impl<S: Services> Node<S> {
     {
         match event {
             Event::Inject(chunk, bound, handler) => {
-                let handler = copy_handler(alloc, handler)?;
-                self.inject(alloc, chunk.copy(alloc)?, *bound, handler)
+                self.inject_again(alloc, chunk, *bound, handler)
             }
             Event::Frame(dev, bytes) => self.arrive(alloc, *dev, bytes.as_slice()),
             Event::Control(bytes) => self.control(alloc, bytes.as_slice()),

@@ -13,7 +13,7 @@ use Rattle.plan_base.specs.declared.name.Name.{Name}
 use Rattle.plan_base.specs.Words.{is_name}
 use Rattle.plan_base.specs.declared.tree.Chunk.{Chunk}
 use Rattle.chunk_types.specs.Chunks.{IsCheckedChunk}
-use Rattle.spelling_sizes.proofs.LengthLaws.{chunk_length}
+use Rattle.chunk_spelling.proofs.LengthLaws.{chunk_length}
 use Rattle.packet_frame.proofs.Sizes.{chunk_small}
 use Rattle.hex.specs.Hex.{encode_lower, IsBytes}
 use Rattle.hex.proofs.HexLemmas.{decode_of-encode_lower}

@@ -43,7 +43,7 @@ fn put_hex(alloc: Global, bytes: &[u8], out: &mut Bytes) -> Result<(), NoMemory>
 }
 
 /// A chunk that keeps the limits of its spelling, as its bytes.
-#[tactic(auto, using(packet_frame::proofs::Sizes::chunk_small, packet_frame::proofs::Sizes::chunk_can, spelling_sizes::proofs::LengthLaws::chunk_length))]
+#[tactic(auto, using(packet_frame::proofs::Sizes::chunk_small, packet_frame::proofs::Sizes::chunk_can, chunk_spelling::proofs::LengthLaws::chunk_length))]
 fn bytes_of_chunk(alloc: Global, chunk: &Chunk) -> Result<Bytes, NoMemory>
     requires { a_whole_chunk.Fits chunk.now }
     ensures value { IfOk result (λ b. b ≡ bytes_of chunk.now) }

@@ -1,0 +1,13 @@
+pub mod Contexts
+pub mod CountLaws
+pub mod Fitting
+pub mod Giving
+pub mod HostLaws
+pub mod Keeping
+pub mod NodeBalance
+pub mod Numbers
+pub mod Orders
+pub mod Outgoing
+pub mod Staying
+pub mod VisitLaws
+pub mod Windows

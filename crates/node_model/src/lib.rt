@@ -2,8 +2,13 @@
 #![tactic(auto)]
 
 mod acts;
+mod laws;
 
 pub use acts::{Act, ActList, Acts, Lane, Reason, Sending, Sendings};
+pub use laws::{
+    contexts_are_ordered, queues_move_in_order, settled_visit_balance, step_balance, step_keeps,
+    visit_balance, visit_has_case, windows_only_close,
+};
 pub use link_window::Took;
 pub use network_plan::Event;
 pub use spelled_frame::What;

@@ -7,7 +7,7 @@ use Rattle.dv_routing.specs.Routing.{opening_routing}
 use Rattle.dv_routing.specs.Sorted.{sorted_into, HostsSmall}
 use Rattle.dv_routing.specs.Stands.{Stands}
 use Rattle.node_model.specs.Fits.{NetworkFits}
-use Rattle.node_laws.proofs.HostLaws.{sorted_fit}
+use Rattle.node_model.proofs.HostLaws.{sorted_fit}
 use Rattle.node_parts.specs.Heard.{IsHeard, TellsAll}
 use Rattle.std.proofs.Common.{sym}
 use Rattle.std.specs.Prelude.{Result, Ok, Err, IfOk}

@@ -65,7 +65,7 @@ impl<S: Services> Server<S> {
             (desk (F.state files.old) (K.state out.old) l)
             (desk (F.state files.new) (K.state out.new) l) result }
     {
-        match self.make(alloc, cfg, files, out, &Some(Event::Take(Dev(0)))) {
+        match self.take_frame(alloc, cfg, files, out, Dev(0)) {
             Ok(StepOutcome::Lost) => Ok(()),
             Ok(StepOutcome::Took(frame)) => self.come_back(alloc, cfg, files, out, frame),
             Err(fault) => Err(fault),

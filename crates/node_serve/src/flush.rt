@@ -9,7 +9,7 @@ ghost use Rattle.node_serve.specs.Steps.{SendsTaken};
 use crate::fault::ServeFault;
 use crate::server::Server;
 use crate::steps::StepOutcome;
-use network_plan::{Event, ServeConfig};
+use network_plan::ServeConfig;
 use node_io::{Files, Link, Sink};
 use plan_base::Dev;
 use service_api::Services;
@@ -72,7 +72,7 @@ impl<S: Services> Server<S> {
         if self.held {
             return Ok(());
         }
-        match self.make(alloc, cfg, files, out, &Some(Event::Take(dev))) {
+        match self.take_frame(alloc, cfg, files, out, dev) {
             Ok(StepOutcome::Lost) => {
                 self.held = true;
                 Ok(())

@@ -1,5 +1,6 @@
-ghost use Rattle.std.specs.Prelude.{◌≡◌, ◌+◌, IsTrue, IfSome, IfOk};
+ghost use Rattle.std.specs.Prelude.{◌≡◌, ◌+◌, ◌≤◌, IsTrue, IfSome, IfOk};
 ghost use Rattle.network_plan.specs.declared.event.Event.{Event as EventOf};
+ghost use Rattle.network_plan.specs.declared.event.Event.TheVariants as event;
 ghost use Rattle.node_core.specs.Stands.{version_of};
 ghost use Rattle.node_io.specs.Links.{LinkState};
 ghost use Rattle.serve_model.specs.Runs as spec;
@@ -13,18 +14,28 @@ use crate::steps::{StepOutcome, try_step};
 use network_plan::{Event, ServeConfig};
 use node_core::Node;
 use node_io::{Failed, Files, Sink, put_all, put_file};
-use plan_base::NoMemory;
+use plan_base::{Dev, NoMemory};
 use service_api::Services;
 use std::alloc::Global;
 
 /// A serving node: the node, the time of its last tick in milliseconds, whether a taking was refused in this turn, and the
 /// number of its steps so far.
-#[derive(Drop)]
 pub(crate) struct Server<S: Services> {
     pub(crate) node: Node<S>,
     pub(crate) last: u64,
     pub(crate) held: bool,
     pub(crate) steps: u64,
+}
+
+impl<S: Services + Drop> Drop for Server<S> {
+    fn drop(self) {
+        let Server {
+            node: _node,
+            last: _last,
+            held: _held,
+            steps: _steps,
+        } = self;
+    }
 }
 
 /// The number of the step after so many steps.
@@ -79,7 +90,25 @@ impl<S: Services> Server<S> {
             return Err(ServeFault::WriteFault);
         };
         self.steps = number;
-        Ok(texts.made)
+        Ok(texts.into_made())
+    }
+
+    /// Makes a step that takes the first frame of a device, and writes it.
+    pub(crate) fn take_frame<F: Files, K: Sink>(
+        &mut self,
+        alloc: Global,
+        cfg: &ServeConfig,
+        files: &mut F,
+        out: &mut K,
+        dev: Dev,
+    ) -> Result<StepOutcome, ServeFault>
+        requires writing { IsTrue (F.state files.old).writing }
+        requires device { dev.0 ≤ 8 }
+        ensures { (l : LinkState) → MakesStep S.stands cfg.now (event.Take dev) self.old self.new
+            (desk (F.state files.old) (K.state out.old) l)
+            (desk (F.state files.new) (K.state out.new) l) result }
+    {
+        self.make(alloc, cfg, files, out, &Some(Event::Take(dev)))
     }
 
     /// Makes a step that sends nothing, and writes it.

@@ -1,7 +1,7 @@
-ghost use Rattle.std.specs.Prelude.{◌≡◌, IfOk};
+ghost use Rattle.std.specs.Prelude.{◌≡◌, IfOk, length};
 ghost use Rattle.network_plan.specs.NodeRules.{KeepsServe};
 ghost use Rattle.node_core.specs.Turns.{IsResting};
-ghost use Rattle.node_model.specs.State.{new_node};
+ghost use Rattle.node_model.specs.State.{NodeState, new_node};
 ghost use Rattle.serve_model.specs.Runs.{opened_run};
 ghost use Rattle.node_serve.specs.Desks.{desk, serving};
 ghost use Rattle.node_serve.specs.Goes.{CanTurn};
@@ -15,12 +15,12 @@ use crate::opening::{begin, room};
 use crate::server::Server;
 use link_window::Version;
 use log_replay::{begin_node, config_again};
-use network_plan::{Inject, Injects, ServeConfig};
+use network_plan::{DevPorts, Inject, Injects, ServeConfig};
 use node_io::{Clock, Files, Link, Sink, put_all};
-use plan_base::NoMemory;
+use plan_base::{NoMemory, Text};
 use plan_copies::copy_handler;
 use plan_items::Items;
-use service_api::Services;
+use service_api::{Packages, Services};
 use std::alloc::Global;
 
 impl<S: Services> Server<S> {
@@ -50,6 +50,32 @@ impl<S: Services> Server<S> {
             Ok(()) => Ok(()),
             Err(_) => Err(ServeFault::WriteFault),
         }
+    }
+
+    /// All that a node does that was made, from the binding of its link on.
+    fn begin_and_run<L: Link, C: Clock, F: Files, K: Sink>(
+        &mut self,
+        alloc: Global,
+        cfg: &ServeConfig,
+        link: &mut L,
+        clock: &mut C,
+        files: &mut F,
+        out: &mut K,
+        room: &mut [u8],
+        turns: u32,
+    ) -> Result<(), ServeFault>
+        requires keeps { KeepsServe cfg.now }
+        requires room { length room.old ≡ 16513 }
+        ensures { (node : NodeState) → StandsFor S.stands self.old (opened_run node)
+            → Serves cfg.now node turns
+            (serving (F.state files.old) (K.state out.old) (L.state link.old) (C.state clock.old))
+            (serving (F.state files.new) (K.state out.new) (L.state link.new) (C.state clock.new))
+            result }
+    {
+        if let Err(fault) = begin(alloc, cfg, link, files, out) {
+            return Err(fault);
+        }
+        self.finish(alloc, cfg, link, clock, files, out, room, turns)
     }
 }
 
@@ -98,10 +124,21 @@ fn serve_as<S: Services + Drop, L: Link, C: Clock, F: Files, K: Sink>(
     let Ok(mut room) = room(alloc) else {
         return Err(ServeFault::NoMemory);
     };
-    if let Err(fault) = begin(alloc, cfg, link, files, out) {
-        return Err(fault);
-    }
-    server.finish(alloc, cfg, link, clock, files, out, &mut room, turns)
+    server.begin_and_run(alloc, cfg, link, clock, files, out, &mut room, turns)
+}
+
+/// An injection once more.
+fn inject_again(alloc: Global, inject: &Inject) -> Result<Inject, NoMemory>
+    ensures { IfOk result (λ copy. copy ≡ inject.now) }
+{
+    let chunk = inject.chunk.copy(alloc)?;
+    let handler = copy_handler(alloc, &inject.handler)?;
+    Ok(Inject {
+        turn: inject.turn,
+        bound: inject.bound,
+        chunk,
+        handler,
+    })
 }
 
 /// The injections of a configuration once more.
@@ -110,16 +147,21 @@ fn injects_again(alloc: Global, at: &[Inject]) -> Result<Injects, NoMemory>
 {
     let mut copy = Items::new(alloc);
     for inject in at {
-        let chunk = inject.chunk.copy(alloc)?;
-        let handler = copy_handler(alloc, &inject.handler)?;
-        copy.add(Inject {
-            turn: inject.turn,
-            bound: inject.bound,
-            chunk,
-            handler,
-        })?;
+        copy.add(inject_again(alloc, inject)?)?;
     }
     Ok(copy)
+}
+
+/// The packages that a configuration lacks, the name of its log, and the ports of its neighbours, once more.
+fn outside_again(alloc: Global, cfg: &ServeConfig) -> Result<(Packages, Text, DevPorts), NoMemory>
+    ensures missing { IfOk result (λ parts. parts.0 ≡ cfg.now.missing) }
+    ensures log { IfOk result (λ parts. parts.1 ≡ cfg.now.log) }
+    ensures devs { IfOk result (λ parts. parts.2 ≡ cfg.now.devs) }
+{
+    let missing = Items::from_slice(alloc, cfg.missing.as_slice())?;
+    let log = cfg.log.copy(alloc)?;
+    let devs = Items::from_slice(alloc, cfg.devs.as_slice())?;
+    Ok((missing, log, devs))
 }
 
 /// This configuration with another moment at which the node begins. Conditions: it keeps the rules, and is of version 2.
@@ -130,15 +172,17 @@ fn with_boot(alloc: Global, cfg: &ServeConfig, boot: u64) -> Result<ServeConfig,
 {
     let mut node = config_again(alloc, &cfg.node)?;
     node.boot = boot;
+    let (missing, log, devs) = outside_again(alloc, cfg)?;
+    let at = injects_again(alloc, cfg.at.as_slice())?;
     Ok(ServeConfig {
         node,
-        missing: Items::from_slice(alloc, cfg.missing.as_slice())?,
+        missing,
         port: cfg.port,
         control: cfg.control,
         period: cfg.period,
-        log: cfg.log.copy(alloc)?,
-        devs: Items::from_slice(alloc, cfg.devs.as_slice())?,
-        at: injects_again(alloc, cfg.at.as_slice())?,
+        log,
+        devs,
+        at,
     })
 }
 

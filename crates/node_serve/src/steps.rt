@@ -18,7 +18,7 @@ use log_replay::{lost_lines, step_lines};
 use network_plan::{Event, NodeConfig};
 use node_core::Node;
 use node_files::{put_log_line, put_lost_line};
-use node_model::Acts;
+use node_model::{Act, Acts};
 use plan_base::{Bytes, Host, NoMemory};
 use service_api::Services;
 use spelled_frame::SpelledFrame;
@@ -34,11 +34,34 @@ pub(crate) enum StepOutcome {
 }
 
 /// A step with its texts: its line of the log, and its lines of the trace.
-#[derive(Drop)]
 pub(crate) struct StepTexts {
     pub(crate) line: Bytes,
     pub(crate) lines: Bytes,
     pub(crate) made: StepOutcome,
+}
+
+impl Drop for StepTexts {
+    fn drop(self) {
+        let StepTexts {
+            line: _line,
+            lines: _lines,
+            made: _made,
+        } = self;
+    }
+}
+
+impl StepTexts {
+    /// What became of the step.
+    pub(crate) fn into_made(self) -> StepOutcome
+        ensures { result ≡ self.made }
+    {
+        let StepTexts {
+            line: _line,
+            lines: _lines,
+            made,
+        } = self;
+        made
+    }
 }
 
 /// The line of the log of an event.
@@ -77,6 +100,25 @@ fn lost_texts(alloc: Global, number: u64, here: Host) -> Result<StepTexts, NoMem
     })
 }
 
+/// The line of the log of an event, and the lines of the trace of its acts.
+fn made_texts(
+    alloc: Global,
+    number: u64,
+    config: &NodeConfig,
+    event: &Event,
+    acts: &[Act],
+) -> Result<(Bytes, Bytes), NoMemory>
+    ensures line { IfOk result (λ texts. texts.0 ≡ entry_text (entry.Step event.now)) }
+    ensures readable { (v : Version) → KeepsNodeEvent v event.now
+        → OnOk result (IsReadable v (entry.Step event.now)) }
+    ensures lines { IfOk result
+        (λ texts. texts.1 ≡ lines_text config.now.here (entries_at number acts.now)) }
+{
+    let line = event_text(alloc, event)?;
+    let lines = step_lines(alloc, number, config.here, acts)?;
+    Ok((line, lines))
+}
+
 /// The texts of a step that was made.
 fn took_texts(
     alloc: Global,
@@ -88,9 +130,8 @@ fn took_texts(
     requires { KeepsNodeEvent config.now.version event.now }
     ensures { IfOk result (λ texts. TookTexts config.now number event.now acts texts) }
 {
-    let Acts { list, frame } = acts;
-    let line = event_text(alloc, event)?;
-    let lines = step_lines(alloc, number, config.here, list.as_slice())?;
+    let (line, lines) = made_texts(alloc, number, config, event, acts.list.as_slice())?;
+    let Acts { list: _list, frame } = acts;
     Ok(StepTexts {
         line,
         lines,

@@ -54,6 +54,22 @@ fn injection(alloc: Global, version: Version, inject: &Inject) -> Option<Event>
 }
 
 impl<S: Services> Server<S> {
+    /// Makes a tick, and writes it.
+    fn step_tick<F: Files, K: Sink>(
+        &mut self,
+        alloc: Global,
+        cfg: &ServeConfig,
+        files: &mut F,
+        out: &mut K,
+    ) -> Result<(), ServeFault>
+        requires { IsTrue (F.state files.old).writing }
+        ensures { (l : LinkState) → Goes S.stands cfg.now (spec.make event.Tick) self.old self.new
+            (desk (F.state files.old) (K.state out.old) l)
+            (desk (F.state files.new) (K.state out.new) l) result }
+    {
+        self.step(alloc, cfg, files, out, &Some(Event::Tick))
+    }
+
     /// A tick, where the period is over.
     fn tick<F: Files, K: Sink>(
         &mut self,
@@ -72,7 +88,7 @@ impl<S: Services> Server<S> {
         if !is_over(self.last, cfg.period, now) {
             return Ok(());
         }
-        if let Err(fault) = self.step(alloc, cfg, files, out, &Some(Event::Tick)) {
+        if let Err(fault) = self.step_tick(alloc, cfg, files, out) {
             return Err(fault);
         }
         self.last = now;

@@ -4,7 +4,7 @@ use Rattle.plan_base.specs.Sizes.{chunk_weight}
 use Rattle.plan_base.specs.WellFormed.{IsWellFormedChunk, ChunkHasTypes}
 use Rattle.plan_base.specs.declared.tree.Chunk.{Chunk}
 use Rattle.chunk_spelling.specs.Spelling.{a_whole_chunk}
-use Rattle.spelling_sizes.proofs.SpelledForms.{chunk_is_well}
+use Rattle.chunk_spelling.proofs.SpelledForms.{chunk_is_well}
 use Rattle.plan_base.specs.declared.tree.Packet.{Packet}
 use Rattle.chunk_types.specs.declared.fault.Ill.{Ill}
 use Rattle.chunk_types.specs.Chunks.{illness}

@@ -1,6 +1,6 @@
 use Rattle.std.proofs.Common.{◌≡◌, ◌⊎◌, inl, inr, ℕ, List, [], ◌∷◌, Result, Ok, Err, refl, sym, ◌∙◌, ap, subst}
 use Rattle.wire_bytes.specs.Fields.{Front}
-use Rattle.read_laws.proofs.Agendas.{goes_ok, no_fault}
+use Rattle.plan_items.proofs.Agendas.{goes_ok, no_fault}
 use Rattle.plan_base.specs.declared.tree.Chunk.{Chunk}
 use Rattle.chunk_spelling.specs.declared.fault.SpellFault.{SpellFault}
 use Rattle.chunk_spelling.specs.Items.{a_name, a_chunk}

@@ -5,9 +5,9 @@ use Rattle.std.specs.Int.{Width, w16, w32, w64, to_be_bytes}
 use Rattle.std.proofs.lemmas.Bool.{leb-true, le-leb}
 use mir.Val.{bits}
 use Rattle.wire_bytes.specs.Fields.{IsBytes}
-use Rattle.read_laws.specs.Reading.{◌>>=◌}
-use Rattle.read_laws.proofs.Binds.{ok_inj, bind_ok, bind_is}
-use Rattle.read_laws.proofs.Agendas.{Goes, chain, one_step, making_goes_on, idle}
+use Rattle.plan_items.specs.Reading.{◌>>=◌}
+use Rattle.plan_items.proofs.Binds.{ok_inj, bind_ok, bind_is}
+use Rattle.plan_items.proofs.Agendas.{Goes, chain, one_step, making_goes_on, idle}
 use Rattle.plan_base.specs.declared.limit.Limit.{Limit}
 use Rattle.chunk_spelling.specs.declared.fault.SpellFault.{SpellFault}
 use Rattle.chunk_spelling.specs.Scan.{Scan, number_field}

@@ -1,7 +1,7 @@
 use Rattle.std.proofs.Common.{◌≡◌, ℕ, suc, ◌+◌, ◌-◌, ◌<◌, ◌≤◌, List, [], ◌∷◌, ◌++◌, append_assoc, append-nil, Option, Some, Result, Ok, Err, refl, sym, ◌∙◌, ap, arith}
-use Rattle.read_laws.specs.Reading.{◌>>=◌}
-use Rattle.read_laws.proofs.Binds.{bind_is, bind_err}
-use Rattle.read_laws.proofs.Lists.{with_front}
+use Rattle.plan_items.specs.Reading.{◌>>=◌}
+use Rattle.plan_items.proofs.Binds.{bind_is, bind_err}
+use Rattle.plan_items.proofs.ReadingLists.{with_front}
 use Rattle.chunk_spelling.specs.Scan.{Scan}
 use Rattle.packet_frame.specs.declared.fault.FrameFault.{FrameFault}
 use Rattle.service_api.specs.declared.advert.AdvertRow.{AdvertRow}

@@ -17,7 +17,7 @@ use Rattle.chunk_spelling.specs.Kept.{chunk_kept}
 use Rattle.chunk_spelling.specs.Spelling.{a_whole_chunk}
 use Rattle.chunk_spelling.proofs.FitsLaws.{chunk_fits_kept}
 use Rattle.chunk_writer.proofs.Puts.{Written}
-use Rattle.spelling_sizes.proofs.LengthLaws.{chunk_length}
+use Rattle.chunk_spelling.proofs.LengthLaws.{chunk_length}
 use Rattle.service_api.specs.declared.advert.AdvertRow.{AdvertRow}
 use Rattle.service_api.specs.declared.advert.Advert.{Advert}
 use Rattle.packet_frame.specs.declared.frame.PlainFrame.{PlainFrame}

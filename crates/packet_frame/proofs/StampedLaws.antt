@@ -6,8 +6,8 @@ use Rattle.std.proofs.lemmas.Bool.{eqb-true}
 use Rattle.wire_bytes.specs.Fields.{Front, IsBytes}
 use Rattle.chunk_spelling.specs.Spelling.{from_front}
 use Rattle.packet_frame.specs.Reading.{Fails}
-use Rattle.read_laws.proofs.Binds.{ok_inj, some_inj, bind_ok, bind_is}
-use Rattle.read_laws.proofs.Agendas.{Goes, chain, one_step}
+use Rattle.plan_items.proofs.Binds.{ok_inj, some_inj, bind_ok, bind_is}
+use Rattle.plan_items.proofs.Agendas.{Goes, chain, one_step}
 use Rattle.chunk_spelling.specs.Scan.{Scan, number_field}
 use Rattle.chunk_spelling.proofs.Took.{Took, Took-bytes, Took-then, Took-first, Took-second, Took-as, between}
 use Rattle.chunk_spelling.proofs.FieldLaws.{byte_takes, byte_again}

@@ -5,9 +5,9 @@ use Rattle.std.specs.Int.{w8, w32, w64, to_be_bytes}
 use Rattle.std.proofs.lemmas.Bool.{eqb-true, leb-true, leb-false}
 use Rattle.chunk_spelling.specs.Spelling.{from_front}
 use Rattle.wire_bytes.specs.Fields.{Front, IsBytes}
-use Rattle.read_laws.specs.Agenda.{FirstFault, here}
-use Rattle.read_laws.proofs.Binds.{ok_inj, some_inj, bind_ok, bind_is}
-use Rattle.read_laws.proofs.Agendas.{Goes, chain, one_step, goes_ok, goes_err, no_fault, one_first_fault}
+use Rattle.plan_items.specs.Agenda.{FirstFault, here}
+use Rattle.plan_items.proofs.Binds.{ok_inj, some_inj, bind_ok, bind_is}
+use Rattle.plan_items.proofs.Agendas.{Goes, chain, one_step, goes_ok, goes_err, no_fault, one_first_fault}
 use Rattle.chunk_spelling.specs.Scan.{Scan, number_field}
 use Rattle.chunk_spelling.proofs.Took.{Took, Took-bytes, Took-then, Took-first, Took-second, Took-as, between}
 use Rattle.chunk_spelling.proofs.FieldLaws.{byte_takes, byte_again, number_takes, number_again, wide32}

@@ -1,8 +1,8 @@
 -- When bytes are a frame, and the first fault of those that are none.
 use Rattle.std.specs.Prelude.{◌≡◌, ℕ, zero, suc, ◌≤◌, ◌<◌, List, [], ◌∷◌, length, Option, Some, None, Result, Ok, Err}
 use Rattle.std.specs.Int.{w32, w64}
-use Rattle.read_laws.specs.Reading.{◌>>=◌}
-use Rattle.read_laws.specs.Agenda.{FirstFault}
+use Rattle.plan_items.specs.Reading.{◌>>=◌}
+use Rattle.plan_items.specs.Agenda.{FirstFault}
 use Rattle.plan_base.specs.declared.tree.Chunk.{Chunk}
 use Rattle.chunk_spelling.specs.Scan.{Scan}
 use Rattle.packet_frame.specs.declared.fault.FrameFault.{FrameFault}

@@ -1,7 +1,7 @@
 -- Frames with stamps: the bytes of version 2, and what a node of that version reads.
 use Rattle.std.specs.Prelude.{◌≡◌, ℕ, ◌≤◌, ◌<◌, ◌^◌, ◌==◌, ◌||◌, List, [], ◌∷◌, ◌++◌, length, Option, Some, None, Result, Ok, Err, if◌then◌else◌}
 use Rattle.std.specs.Int.{w8, w32, w64, to_be_bytes}
-use Rattle.read_laws.specs.Reading.{◌>>=◌}
+use Rattle.plan_items.specs.Reading.{◌>>=◌}
 use Rattle.chunk_spelling.specs.Scan.{Scan}
 use Rattle.link_window.specs.declared.window.Stamp.{Stamp}
 use Rattle.link_window.specs.declared.window.Version.{Version}
@@ -19,7 +19,7 @@ use Rattle.packet_frame.specs.declared.kind.Form.{Form}
 use Rattle.packet_frame.specs.Bytes.{letters, packet_bytes, rows_bytes, frame_bytes}
 use Rattle.packet_frame.specs.Fields.{Reader, number, judged_field, magic_at}
 use Rattle.packet_frame.specs.Forms.{Fields, ◌&◌, FieldValues, reads, serial_field, forms, frame_of_fields, FrameFits, IsPlain}
-use Rattle.read_laws.specs.Agenda.{FirstFault}
+use Rattle.plan_items.specs.Agenda.{FirstFault}
 use Rattle.packet_frame.specs.Forms.{FrameItem, the_magic, the_end, either_version}
 use Rattle.packet_frame.specs.Frames.{frame_step, begins}
 use Rattle.packet_frame.specs.Typed.{plain_of, CarriesTyped, CarriesHandler, CarriesIll, CarriesNoHandler}

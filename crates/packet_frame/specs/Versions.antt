@@ -1,7 +1,7 @@
 -- What a node of version 2 reads, field by field.
 use Rattle.std.specs.Prelude.{◌≡◌, ℕ, ◌≤◌, ◌<◌, ◌^◌, ◌==◌, ◌||◌, List, [], ◌∷◌, ◌++◌, length, Option, Some, None, Result, Ok, Err, if◌then◌else◌}
 use Rattle.std.specs.Int.{w8, w32, w64, to_be_bytes}
-use Rattle.read_laws.specs.Reading.{◌>>=◌}
+use Rattle.plan_items.specs.Reading.{◌>>=◌}
 use Rattle.chunk_spelling.specs.Scan.{Scan}
 use Rattle.link_window.specs.declared.window.Stamp.{Stamp}
 use Rattle.link_window.specs.declared.window.Version.{Version}

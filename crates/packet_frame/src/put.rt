@@ -49,7 +49,7 @@ pub fn put_rows(rows: &[AdvertRow], out: &mut Out)
 }
 
 /// The number of bytes of a chunk. Condition: it keeps the limits of its spelling.
-#[tactic(auto, using(crate::proofs::Sizes::chunk_small, spelling_sizes::proofs::LengthLaws::chunk_length))]
+#[tactic(auto, using(crate::proofs::Sizes::chunk_small, chunk_spelling::proofs::LengthLaws::chunk_length))]
 pub fn size_of(c: &CheckedChunk) -> u32
     requires { a_whole_chunk.Fits c.now }
     ensures size { result ≡ length (chunk_bytes c.now) }

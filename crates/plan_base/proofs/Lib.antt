@@ -1,3 +1,4 @@
+pub mod Leaves
 pub mod FormLaws
 pub mod SameTypes
 pub mod SizeLaws

@@ -3,7 +3,7 @@ ghost use Rattle.plan_base.specs.declared.tree.Expr.{Expr};
 
 use crate::copied::Copied;
 use plan_base::{
-    Chunk, Clause, Clauses, Draft, Exn, Expr, Exprs, Fun, Funs, Name, Names, NoMemory, Op, Packet,
+    Chunk, Clause, Clauses, Draft, Exn, Expr, Exprs, Fun, Funs, Name, Names, NoMemory, Packet,
     Param, Params, Places, Program, Svc, Svcs, Ty, Tys, Value, Values,
 };
 use plan_items::{Boxed, Items};
@@ -94,6 +94,25 @@ fn copy_expr(alloc: Global, e: &Expr) -> Result<Expr, NoMemory>
     ensures { IfOk result (λ f. f ≡ e.now) }
 {
     match e {
+        Expr::Tuple(_) | Expr::Call(_, _) | Expr::ChunkOf(_, _) => copy_row(alloc, e),
+        Expr::Not(_) | Expr::Part(_, _) | Expr::Eval(_) => copy_row(alloc, e),
+        Expr::Then(_, _) | Expr::And(_, _) | Expr::Or(_, _) => copy_pair(alloc, e),
+        Expr::Binary(_, _, _) | Expr::Foldl(_, _, _) | Expr::Foldr(_, _, _) => copy_pair(alloc, e),
+        Expr::If(c, a, b) => copy_if(alloc, c, a, b),
+        Expr::Let(x, t, a, b) => copy_let(alloc, x, t, a, b),
+        Expr::Try(a, clauses) => copy_try(alloc, a, clauses),
+        Expr::OnRemote(c, h, n, r) => copy_on_remote(alloc, c, h, n, r),
+        Expr::OnNeighbor(c, h, n, d) => copy_on_neighbor(alloc, c, h, n, d),
+        _ => copy_leaf(alloc, e),
+    }
+}
+
+/// An expression without parts; the others have functions of their own.
+#[tactic(auto, using(plan_base::specs::Trees::trees))]
+fn copy_leaf(alloc: Global, e: &Expr) -> Result<Expr, NoMemory>
+    ensures { IfOk result (λ f. f ≡ e.now) }
+{
+    match e {
         Expr::Unit => Ok(Expr::Unit),
         Expr::Bool(b) => Ok(Expr::Bool(*b)),
         Expr::Int(n) => Ok(Expr::Int(*n)),
@@ -104,33 +123,74 @@ fn copy_expr(alloc: Global, e: &Expr) -> Result<Expr, NoMemory>
         Expr::Dev(d) => Ok(Expr::Dev(*d)),
         Expr::Nil(t) => Ok(Expr::Nil(copy_option_type(alloc, t)?)),
         Expr::Var(x) => Ok(Expr::Var(x.copy(alloc)?)),
-        Expr::Tuple(es) => Ok(Expr::Tuple(copy_exprs(alloc, es.as_slice())?)),
-        Expr::Call(f, es) => copy_call(alloc, f, es),
-        Expr::If(c, a, b) => copy_if(alloc, c, a, b),
-        Expr::Let(x, t, a, b) => copy_let(alloc, x, t, a, b),
-        Expr::Then(a, b) => copy_then(alloc, a, b),
-        Expr::And(a, b) => copy_and(alloc, a, b),
-        Expr::Or(a, b) => copy_or(alloc, a, b),
-        Expr::Not(a) => Ok(Expr::Not(copy_boxed(alloc, a)?)),
-        Expr::Binary(op, a, b) => copy_binary(alloc, *op, a, b),
-        Expr::Part(i, a) => Ok(Expr::Part(*i, copy_boxed(alloc, a)?)),
         Expr::Raise(x, t) => copy_raise(alloc, x, t),
-        Expr::Try(a, clauses) => copy_try(alloc, a, clauses),
-        Expr::Foldl(f, a, l) => copy_foldl(alloc, f, a, l),
-        Expr::Foldr(f, a, l) => copy_foldr(alloc, f, a, l),
-        Expr::ChunkOf(f, es) => copy_chunk_of(alloc, f, es),
-        Expr::Eval(c) => Ok(Expr::Eval(copy_boxed(alloc, c)?)),
-        Expr::OnRemote(c, h, n, r) => copy_on_remote(alloc, c, h, n, r),
-        Expr::OnNeighbor(c, h, n, d) => copy_on_neighbor(alloc, c, h, n, d),
+        _ => Err(NoMemory),
     }
 }
 
-#[cycle(copy_expr)]
 #[tactic(auto, using(plan_base::specs::Trees::trees))]
-fn copy_call(alloc: Global, f: &Name, args: &Exprs) -> Result<Expr, NoMemory>
-    ensures { IfOk result (λ copied. copied ≡ Expr.Call f.now args.now) }
+fn copy_raise(alloc: Global, x: &Name, t: &Option<Ty>) -> Result<Expr, NoMemory>
+    ensures { IfOk result (λ copied. copied ≡ Expr.Raise x.now t.now) }
 {
-    Ok(Expr::Call(f.copy(alloc)?, copy_exprs(alloc, args.as_slice())?))
+    Ok(Expr::Raise(x.copy(alloc)?, copy_option_type(alloc, t)?))
+}
+
+/// An expression with one part or a list of parts; the others have functions of their own.
+#[cycle(copy_expr)]
+#[tactic(auto, using(plan_base::specs::Trees::trees, plan_base::proofs::SizeLaws::expr_nodes_out))]
+fn copy_row(alloc: Global, e: &Expr) -> Result<Expr, NoMemory>
+    ensures { IfOk result (λ f. f ≡ e.now) }
+{
+    match e {
+        Expr::Tuple(es) => Ok(Expr::Tuple(copy_exprs(alloc, es.as_slice())?)),
+        Expr::Call(f, es) => {
+            let (f, es) = copy_call(alloc, f, es)?;
+            Ok(Expr::Call(f, es))
+        }
+        Expr::ChunkOf(f, es) => {
+            let (f, es) = copy_call(alloc, f, es)?;
+            Ok(Expr::ChunkOf(f, es))
+        }
+        Expr::Not(a) => Ok(Expr::Not(copy_boxed(alloc, a)?)),
+        Expr::Part(i, a) => Ok(Expr::Part(*i, copy_boxed(alloc, a)?)),
+        Expr::Eval(c) => Ok(Expr::Eval(copy_boxed(alloc, c)?)),
+        _ => Err(NoMemory),
+    }
+}
+
+/// An expression with two parts; the others have functions of their own.
+#[cycle(copy_expr)]
+#[tactic(auto, using(plan_base::specs::Trees::trees, plan_base::proofs::SizeLaws::expr_nodes_out))]
+fn copy_pair(alloc: Global, e: &Expr) -> Result<Expr, NoMemory>
+    ensures { IfOk result (λ f. f ≡ e.now) }
+{
+    match e {
+        Expr::Then(a, b) => {
+            let (a, b) = copy_two(alloc, a, b)?;
+            Ok(Expr::Then(a, b))
+        }
+        Expr::And(a, b) => {
+            let (a, b) = copy_two(alloc, a, b)?;
+            Ok(Expr::And(a, b))
+        }
+        Expr::Or(a, b) => {
+            let (a, b) = copy_two(alloc, a, b)?;
+            Ok(Expr::Or(a, b))
+        }
+        Expr::Binary(op, a, b) => {
+            let (a, b) = copy_two(alloc, a, b)?;
+            Ok(Expr::Binary(*op, a, b))
+        }
+        Expr::Foldl(f, a, l) => {
+            let (f, a, l) = copy_named(alloc, f, a, l)?;
+            Ok(Expr::Foldl(f, a, l))
+        }
+        Expr::Foldr(f, a, l) => {
+            let (f, a, l) = copy_named(alloc, f, a, l)?;
+            Ok(Expr::Foldr(f, a, l))
+        }
+        _ => Err(NoMemory),
+    }
 }
 
 #[cycle(copy_expr)]
@@ -143,11 +203,8 @@ fn copy_if(
 ) -> Result<Expr, NoMemory>
     ensures { IfOk result (λ copied. copied ≡ Expr.If c.now a.now b.now) }
 {
-    Ok(Expr::If(
-        copy_boxed(alloc, c)?,
-        copy_boxed(alloc, a)?,
-        copy_boxed(alloc, b)?,
-    ))
+    let (a, b) = copy_two(alloc, a, b)?;
+    Ok(Expr::If(copy_boxed(alloc, c)?, a, b))
 }
 
 #[cycle(copy_expr)]
@@ -161,51 +218,8 @@ fn copy_let(
 ) -> Result<Expr, NoMemory>
     ensures { IfOk result (λ copied. copied ≡ Expr.Let x.now t.now a.now b.now) }
 {
-    Ok(Expr::Let(
-        x.copy(alloc)?,
-        t.copy(alloc)?,
-        copy_boxed(alloc, a)?,
-        copy_boxed(alloc, b)?,
-    ))
-}
-
-#[cycle(copy_expr)]
-#[tactic(auto, using(plan_base::specs::Trees::trees))]
-fn copy_then(alloc: Global, a: &Boxed<Expr>, b: &Boxed<Expr>) -> Result<Expr, NoMemory>
-    ensures { IfOk result (λ copied. copied ≡ Expr.Then a.now b.now) }
-{
-    Ok(Expr::Then(copy_boxed(alloc, a)?, copy_boxed(alloc, b)?))
-}
-
-#[cycle(copy_expr)]
-#[tactic(auto, using(plan_base::specs::Trees::trees))]
-fn copy_and(alloc: Global, a: &Boxed<Expr>, b: &Boxed<Expr>) -> Result<Expr, NoMemory>
-    ensures { IfOk result (λ copied. copied ≡ Expr.And a.now b.now) }
-{
-    Ok(Expr::And(copy_boxed(alloc, a)?, copy_boxed(alloc, b)?))
-}
-
-#[cycle(copy_expr)]
-#[tactic(auto, using(plan_base::specs::Trees::trees))]
-fn copy_or(alloc: Global, a: &Boxed<Expr>, b: &Boxed<Expr>) -> Result<Expr, NoMemory>
-    ensures { IfOk result (λ copied. copied ≡ Expr.Or a.now b.now) }
-{
-    Ok(Expr::Or(copy_boxed(alloc, a)?, copy_boxed(alloc, b)?))
-}
-
-#[cycle(copy_expr)]
-#[tactic(auto, using(plan_base::specs::Trees::trees))]
-fn copy_binary(alloc: Global, op: Op, a: &Boxed<Expr>, b: &Boxed<Expr>) -> Result<Expr, NoMemory>
-    ensures { IfOk result (λ copied. copied ≡ Expr.Binary op a.now b.now) }
-{
-    Ok(Expr::Binary(op, copy_boxed(alloc, a)?, copy_boxed(alloc, b)?))
-}
-
-#[tactic(auto, using(plan_base::specs::Trees::trees))]
-fn copy_raise(alloc: Global, x: &Name, t: &Option<Ty>) -> Result<Expr, NoMemory>
-    ensures { IfOk result (λ copied. copied ≡ Expr.Raise x.now t.now) }
-{
-    Ok(Expr::Raise(x.copy(alloc)?, copy_option_type(alloc, t)?))
+    let (x, a, b) = copy_named(alloc, x, a, b)?;
+    Ok(Expr::Let(x, t.copy(alloc)?, a, b))
 }
 
 #[cycle(copy_expr)]
@@ -221,30 +235,6 @@ fn copy_try(alloc: Global, a: &Boxed<Expr>, clauses: &Clauses) -> Result<Expr, N
 
 #[cycle(copy_expr)]
 #[tactic(auto, using(plan_base::specs::Trees::trees))]
-fn copy_foldl(alloc: Global, f: &Name, a: &Boxed<Expr>, l: &Boxed<Expr>) -> Result<Expr, NoMemory>
-    ensures { IfOk result (λ copied. copied ≡ Expr.Foldl f.now a.now l.now) }
-{
-    Ok(Expr::Foldl(f.copy(alloc)?, copy_boxed(alloc, a)?, copy_boxed(alloc, l)?))
-}
-
-#[cycle(copy_expr)]
-#[tactic(auto, using(plan_base::specs::Trees::trees))]
-fn copy_foldr(alloc: Global, f: &Name, a: &Boxed<Expr>, l: &Boxed<Expr>) -> Result<Expr, NoMemory>
-    ensures { IfOk result (λ copied. copied ≡ Expr.Foldr f.now a.now l.now) }
-{
-    Ok(Expr::Foldr(f.copy(alloc)?, copy_boxed(alloc, a)?, copy_boxed(alloc, l)?))
-}
-
-#[cycle(copy_expr)]
-#[tactic(auto, using(plan_base::specs::Trees::trees))]
-fn copy_chunk_of(alloc: Global, f: &Name, args: &Exprs) -> Result<Expr, NoMemory>
-    ensures { IfOk result (λ copied. copied ≡ Expr.ChunkOf f.now args.now) }
-{
-    Ok(Expr::ChunkOf(f.copy(alloc)?, copy_exprs(alloc, args.as_slice())?))
-}
-
-#[cycle(copy_expr)]
-#[tactic(auto, using(plan_base::specs::Trees::trees))]
 fn copy_on_remote(
     alloc: Global,
     c: &Boxed<Expr>,
@@ -254,12 +244,8 @@ fn copy_on_remote(
 ) -> Result<Expr, NoMemory>
     ensures { IfOk result (λ copied. copied ≡ Expr.OnRemote c.now h.now n.now r.now) }
 {
-    Ok(Expr::OnRemote(
-        copy_boxed(alloc, c)?,
-        copy_boxed(alloc, h)?,
-        copy_boxed(alloc, n)?,
-        r.copy(alloc)?,
-    ))
+    let (r, h, n) = copy_named(alloc, r, h, n)?;
+    Ok(Expr::OnRemote(copy_boxed(alloc, c)?, h, n, r))
 }
 
 #[cycle(copy_expr)]
@@ -273,14 +259,46 @@ fn copy_on_neighbor(
 ) -> Result<Expr, NoMemory>
     ensures { IfOk result (λ copied. copied ≡ Expr.OnNeighbor c.now h.now n.now d.now) }
 {
-    Ok(Expr::OnNeighbor(
-        copy_boxed(alloc, c)?,
-        copy_boxed(alloc, h)?,
-        copy_boxed(alloc, n)?,
-        copy_boxed(alloc, d)?,
-    ))
+    let (c, h) = copy_two(alloc, c, h)?;
+    let (n, d) = copy_two(alloc, n, d)?;
+    Ok(Expr::OnNeighbor(c, h, n, d))
 }
 
+/// A name and a list of arguments.
+#[cycle(copy_expr)]
+fn copy_call(alloc: Global, f: &Name, args: &Exprs) -> Result<(Name, Exprs), NoMemory>
+    ensures { IfOk result (λ copied. copied ≡ (f.now, args.now)) }
+{
+    Ok((f.copy(alloc)?, copy_exprs(alloc, args.as_slice())?))
+}
+
+/// A name and two parts.
+#[cycle(copy_expr)]
+fn copy_named(
+    alloc: Global,
+    x: &Name,
+    a: &Boxed<Expr>,
+    b: &Boxed<Expr>,
+) -> Result<(Name, Boxed<Expr>, Boxed<Expr>), NoMemory>
+    ensures { IfOk result (λ copied. copied ≡ (x.now, a.now, b.now)) }
+{
+    let (a, b) = copy_two(alloc, a, b)?;
+    Ok((x.copy(alloc)?, a, b))
+}
+
+/// Two parts.
+#[cycle(copy_expr)]
+fn copy_two(
+    alloc: Global,
+    a: &Boxed<Expr>,
+    b: &Boxed<Expr>,
+) -> Result<(Boxed<Expr>, Boxed<Expr>), NoMemory>
+    ensures { IfOk result (λ copied. copied ≡ (a.now, b.now)) }
+{
+    Ok((copy_boxed(alloc, a)?, copy_boxed(alloc, b)?))
+}
+
+/// One part.
 #[cycle(copy_expr)]
 fn copy_boxed(alloc: Global, e: &Boxed<Expr>) -> Result<Boxed<Expr>, NoMemory>
     ensures { IfOk result (λ f. f ≡ e.now) }

@@ -1,8 +1,11 @@
-ghost use Rattle.std.specs.Prelude.{◌≡◌, ◌↔◌, IsTrue};
+ghost use Rattle.std.specs.Prelude.{◌≡◌, ◌↔◌, IsTrue, true};
 ghost use Rattle.plan_base.specs.SameTypes as spec;
+ghost use Rattle.plan_base.specs.declared.tree.Expr.{out-Expr};
+ghost use Rattle.plan_equality.specs.Groups.{is_leaf, is_pair, is_row, is_more};
 
 use crate::equal::Same;
 use plan_base::{Chunk, Clause, Exn, Expr, Fun, Name, Param, Program, Svc, Ty, Value};
+use plan_items::Boxed;
 
 impl Same for Ty {
     /// Whether the two types are the same. Takes no memory.
@@ -103,9 +106,29 @@ impl Same for Expr {
     }
 }
 
+/// Whether the two expressions are the same.
 #[cycle(same_expr)]
 #[tactic(auto, using(plan_base::specs::Trees::trees))]
 fn same_expr(e: &Expr, other: &Expr) -> bool
+    ensures { IsTrue result ↔ (e.now ≡ other.now) }
+{
+    match e {
+        Expr::Unit | Expr::Bool(_) | Expr::Int(_) | Expr::Char(_) => same_leaf(e, other),
+        Expr::Str(_) | Expr::Blob(_) | Expr::Host(_) | Expr::Dev(_) => same_leaf(e, other),
+        Expr::Nil(_) | Expr::Var(_) | Expr::Raise(_, _) => same_leaf(e, other),
+        Expr::Then(_, _) | Expr::And(_, _) | Expr::Or(_, _) => same_pair(e, other),
+        Expr::Binary(_, _, _) | Expr::Foldl(_, _, _) | Expr::Foldr(_, _, _) => same_pair(e, other),
+        Expr::Tuple(_) | Expr::Call(_, _) | Expr::ChunkOf(_, _) => same_row(e, other),
+        Expr::Not(_) | Expr::Part(_, _) | Expr::Eval(_) | Expr::Try(_, _) => same_row(e, other),
+        Expr::If(_, _, _) | Expr::Let(_, _, _, _) => same_more(e, other),
+        Expr::OnRemote(_, _, _, _) | Expr::OnNeighbor(_, _, _, _) => same_more(e, other),
+    }
+}
+
+/// Whether an expression without parts is the same as the other.
+#[tactic(auto, using(plan_base::specs::Trees::trees))]
+fn same_leaf(e: &Expr, other: &Expr) -> bool
+    requires leaf { is_leaf (out-Expr e.now) ≡ true }
     ensures { IsTrue result ↔ (e.now ≡ other.now) }
 {
     match e {
@@ -146,6 +169,58 @@ fn same_expr(e: &Expr, other: &Expr) -> bool
             Expr::Var(y) => x.is(y),
             _ => false,
         },
+        Expr::Raise(x, t) => match other {
+            Expr::Raise(y, t2) => x.is(y) && same_option_type(t, t2),
+            _ => false,
+        },
+        _ => false,
+    }
+}
+
+/// Whether an expression with two parts is the same as the other.
+#[cycle(same_expr)]
+#[tactic(auto, using(plan_base::specs::Trees::trees, plan_base::proofs::SizeLaws::expr_nodes_out))]
+fn same_pair(e: &Expr, other: &Expr) -> bool
+    requires pair { is_pair (out-Expr e.now) ≡ true }
+    ensures { IsTrue result ↔ (e.now ≡ other.now) }
+{
+    match e {
+        Expr::Then(a, b) => match other {
+            Expr::Then(a2, b2) => same_both(a, b, a2, b2),
+            _ => false,
+        },
+        Expr::And(a, b) => match other {
+            Expr::And(a2, b2) => same_both(a, b, a2, b2),
+            _ => false,
+        },
+        Expr::Or(a, b) => match other {
+            Expr::Or(a2, b2) => same_both(a, b, a2, b2),
+            _ => false,
+        },
+        Expr::Binary(op, a, b) => match other {
+            Expr::Binary(op2, a2, b2) => *op == *op2 && same_both(a, b, a2, b2),
+            _ => false,
+        },
+        Expr::Foldl(f, a, l) => match other {
+            Expr::Foldl(g, a2, l2) => f.is(g) && same_both(a, l, a2, l2),
+            _ => false,
+        },
+        Expr::Foldr(f, a, l) => match other {
+            Expr::Foldr(g, a2, l2) => f.is(g) && same_both(a, l, a2, l2),
+            _ => false,
+        },
+        _ => false,
+    }
+}
+
+/// Whether an expression with one part or a list of parts is the same as the other.
+#[cycle(same_expr)]
+#[tactic(auto, using(plan_base::specs::Trees::trees, plan_base::proofs::SizeLaws::expr_nodes_out))]
+fn same_row(e: &Expr, other: &Expr) -> bool
+    requires row { is_row (out-Expr e.now) ≡ true }
+    ensures { IsTrue result ↔ (e.now ≡ other.now) }
+{
+    match e {
         Expr::Tuple(es) => match other {
             Expr::Tuple(others) => same_exprs(es.as_slice(), others.as_slice()),
             _ => false,
@@ -154,47 +229,20 @@ fn same_expr(e: &Expr, other: &Expr) -> bool
             Expr::Call(g, others) => f.is(g) && same_exprs(es.as_slice(), others.as_slice()),
             _ => false,
         },
-        Expr::If(c, a, b) => match other {
-            Expr::If(c2, a2, b2) => same_expr(c.get(), c2.get())
-                && same_expr(a.get(), a2.get())
-                && same_expr(b.get(), b2.get()),
-            _ => false,
-        },
-        Expr::Let(x, t, a, b) => match other {
-            Expr::Let(y, t2, a2, b2) => x.is(y)
-                && t.is(t2)
-                && same_expr(a.get(), a2.get())
-                && same_expr(b.get(), b2.get()),
-            _ => false,
-        },
-        Expr::Then(a, b) => match other {
-            Expr::Then(a2, b2) => same_expr(a.get(), a2.get()) && same_expr(b.get(), b2.get()),
-            _ => false,
-        },
-        Expr::And(a, b) => match other {
-            Expr::And(a2, b2) => same_expr(a.get(), a2.get()) && same_expr(b.get(), b2.get()),
-            _ => false,
-        },
-        Expr::Or(a, b) => match other {
-            Expr::Or(a2, b2) => same_expr(a.get(), a2.get()) && same_expr(b.get(), b2.get()),
+        Expr::ChunkOf(f, es) => match other {
+            Expr::ChunkOf(g, others) => f.is(g) && same_exprs(es.as_slice(), others.as_slice()),
             _ => false,
         },
         Expr::Not(a) => match other {
             Expr::Not(a2) => same_expr(a.get(), a2.get()),
             _ => false,
         },
-        Expr::Binary(op, a, b) => match other {
-            Expr::Binary(op2, a2, b2) => *op == *op2
-                && same_expr(a.get(), a2.get())
-                && same_expr(b.get(), b2.get()),
-            _ => false,
-        },
         Expr::Part(i, a) => match other {
             Expr::Part(j, a2) => *i == *j && same_expr(a.get(), a2.get()),
             _ => false,
         },
-        Expr::Raise(x, t) => match other {
-            Expr::Raise(y, t2) => x.is(y) && same_option_type(t, t2),
+        Expr::Eval(c) => match other {
+            Expr::Eval(c2) => same_expr(c.get(), c2.get()),
             _ => false,
         },
         Expr::Try(a, cs) => match other {
@@ -202,41 +250,46 @@ fn same_expr(e: &Expr, other: &Expr) -> bool
                 && same_clauses(cs.as_slice(), cs2.as_slice()),
             _ => false,
         },
-        Expr::Foldl(f, a, l) => match other {
-            Expr::Foldl(g, a2, l2) => f.is(g)
-                && same_expr(a.get(), a2.get())
-                && same_expr(l.get(), l2.get()),
+        _ => false,
+    }
+}
+
+/// Whether a branch, a binding or a sending is the same as the other.
+#[cycle(same_expr)]
+#[tactic(auto, using(plan_base::specs::Trees::trees, plan_base::proofs::SizeLaws::expr_nodes_out))]
+fn same_more(e: &Expr, other: &Expr) -> bool
+    requires more { is_more (out-Expr e.now) ≡ true }
+    ensures { IsTrue result ↔ (e.now ≡ other.now) }
+{
+    match e {
+        Expr::If(c, a, b) => match other {
+            Expr::If(c2, a2, b2) => same_expr(c.get(), c2.get()) && same_both(a, b, a2, b2),
             _ => false,
         },
-        Expr::Foldr(f, a, l) => match other {
-            Expr::Foldr(g, a2, l2) => f.is(g)
-                && same_expr(a.get(), a2.get())
-                && same_expr(l.get(), l2.get()),
-            _ => false,
-        },
-        Expr::ChunkOf(f, es) => match other {
-            Expr::ChunkOf(g, others) => f.is(g) && same_exprs(es.as_slice(), others.as_slice()),
-            _ => false,
-        },
-        Expr::Eval(c) => match other {
-            Expr::Eval(c2) => same_expr(c.get(), c2.get()),
+        Expr::Let(x, t, a, b) => match other {
+            Expr::Let(y, t2, a2, b2) => x.is(y) && t.is(t2) && same_both(a, b, a2, b2),
             _ => false,
         },
         Expr::OnRemote(c, h, n, r) => match other {
-            Expr::OnRemote(c2, h2, n2, r2) => same_expr(c.get(), c2.get())
-                && same_expr(h.get(), h2.get())
-                && same_expr(n.get(), n2.get())
-                && r.is(r2),
+            Expr::OnRemote(c2, h2, n2, r2) => r.is(r2)
+                && same_expr(c.get(), c2.get())
+                && same_both(h, n, h2, n2),
             _ => false,
         },
         Expr::OnNeighbor(c, h, n, d) => match other {
-            Expr::OnNeighbor(c2, h2, n2, d2) => same_expr(c.get(), c2.get())
-                && same_expr(h.get(), h2.get())
-                && same_expr(n.get(), n2.get())
-                && same_expr(d.get(), d2.get()),
+            Expr::OnNeighbor(c2, h2, n2, d2) => same_both(c, h, c2, h2) && same_both(n, d, n2, d2),
             _ => false,
         },
+        _ => false,
     }
+}
+
+/// Whether two parts are the same as the other two.
+#[cycle(same_expr)]
+fn same_both(a: &Boxed<Expr>, b: &Boxed<Expr>, other_a: &Boxed<Expr>, other_b: &Boxed<Expr>) -> bool
+    ensures { IsTrue result ↔ ((a.now ≡ other_a.now) × (b.now ≡ other_b.now)) }
+{
+    same_expr(a.get(), other_a.get()) && same_expr(b.get(), other_b.get())
 }
 
 #[cycle(same_expr)]

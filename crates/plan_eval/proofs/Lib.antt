@@ -1,3 +1,4 @@
 mod First
+mod Idle
 mod Leaving
 mod Visits

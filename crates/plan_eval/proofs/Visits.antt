@@ -25,10 +25,10 @@ use Rattle.plan_meaning.specs.Run.{After, gave, stopped}
 use Rattle.plan_meaning.specs.Meaning.{meaning, visited_chunk}
 use Rattle.plan_meaning.specs.Safe.{IsSafe, AreGoodNotes, AreGoodPackets, IsGoodState, Holds, IsRight}
 use Rattle.plan_meaning.specs.Visit.{IsVisit, Ends, IsGoodEnd, NoteHasTypes, allowance, begun_state, ended_visit, spent_visit, bounds}
-use Rattle.meaning_laws.specs.Laws.{left_by, total}
-use Rattle.meaning_laws.proofs.Even.{visit_balance}
-use Rattle.meaning_laws.proofs.Full.{full_value}
-use Rattle.meaning_laws.proofs.Sound.{visit_soundness}
+use Rattle.plan_meaning.specs.Laws.{left_by, total}
+use Rattle.plan_meaning.proofs.Even.{visit_balance}
+use Rattle.plan_meaning.proofs.Full.{full_value}
+use Rattle.plan_meaning.proofs.Sound.{visit_soundness}
 
 balance_of : (s : VisitState) (bound : ℕ) → total s ≡ bound + 0 + 0 → s.evals + s.ctx.purse + bounds s.outbox ≡ bound
 balance_of s bound e = omega arith

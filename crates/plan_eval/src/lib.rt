@@ -3,6 +3,7 @@
 
 mod machine;
 mod task;
+mod top_code;
 mod visiting;
 
 pub use visiting::visit;

@@ -1,5 +1,5 @@
 //! The turns of a visit.
-ghost use Rattle.std.specs.Prelude.{◌≡◌, ◌≢◌, ◌+◌, ◌<◌, ◌≤◌, ◌∷◌, ◌++◌, [], ℕ, List, IfOk, IsSome, Some, min, slice_get};
+ghost use Rattle.std.specs.Prelude.{◌≡◌, ◌≢◌, ◌+◌, ◌<◌, ◌≤◌, ◌∷◌, ◌++◌, [], ℕ, List, IfErr, IfOk, IsSome, None, Ok, Some, min, reverse, slice_get};
 ghost use Rattle.plan_meaning.specs.State.{joined_state};
 ghost use Rattle.plan_meaning.specs.Safe.{IsSafe};
 ghost use Rattle.visit_state.specs.Meets.{Meets};
@@ -9,6 +9,7 @@ ghost use Rattle.plan_base.specs.declared.tree.Value.{Value as AValue};
 ghost use Rattle.plan_meaning.specs.State.{VisitState};
 ghost use Rattle.plan_meaning.specs.declared.stop.EvalStop.TheVariants.{Raised, NoMemory};
 ghost use Rattle.plan_meaning.specs.Run.{RunStep, stopped};
+ghost use Rattle.eval_flow.specs.declared.rest.Flow.TheVariants as flow;
 ghost use Rattle.eval_flow.specs.Direct.{Flows, Grows, IsProgramSize, Lasts, Spends};
 ghost use Rattle.plan_eval.specs.Tasks.{Performs, task_step};
 ghost use Rattle.eval_steps.specs.Stack.{Spot, spot_in, ended_frame, all_ended, AreLinked, stands_for};
@@ -17,16 +18,42 @@ ghost use Rattle.plan_base.specs.Sizes.{code_size};
 ghost use Rattle.plan_meaning.specs.Meaning.{meaning};
 
 use crate::task::{DEPTH, Task, passes_on, perform};
+use crate::top_code::top_code;
 use eval_direct::evaluate;
-use eval_flow::{Flow, Here, ProgramSize, size_of, stack_rest};
+use eval_flow::{Flow, Here, ProgramSize, Rest, size_of, stack_rest};
 use eval_steps::{Activation, Activations, Codes, Mode, expr_from};
-use plan_base::{Chunk, Exn, Value};
+use plan_base::{Chunk, Exn, Program, Value};
 use plan_copies::copy_values;
-use plan_items::Items;
+use plan_items::{Items, Shared};
 use plan_meaning::EvalStop;
 use service_api::Services;
 use std::alloc::Global;
 use visit_state::State;
+
+/// A value came of the innermost expression, on the stack.
+fn land_value(outer: &mut Activations, top: Activation, v: Value) -> Result<Mode, EvalStop>
+    ensures turned { (codes : List Code) (code : Code) (at : Spot) (want : RunStep AValue)
+        (s : VisitState) → Stands codes outer.old top code at
+        → Flows codes code top.fun at want (Ok (flow.Done v)) s → Turned
+        (all_ended codes outer.old (ended_frame codes top want)) result codes outer.new s }
+    ensures shrinks { (depth old new : ℕ) → 0 < depth → Spends depth old (Ok (flow.Done v)) new
+        → IfOk result (λ how. load how outer.new new < load mode.Run (outer.old ++ top ∷ []) old) }
+    ensures bounded { (old new : ℕ) → Lasts 3 old (Ok (flow.Done v)) new
+        → IfOk result (λ how. load how outer.new new ≤ load mode.Run
+        (outer.old ++ top ∷ []) old + 3) }
+{
+    if top.frames.is_empty() {
+        drop(top);
+        return Ok(Mode::Give(v));
+    }
+    match outer.add(top) {
+        Ok(()) => Ok(Mode::Give(v)),
+        Err(_) => {
+            drop(v);
+            Err(EvalStop::NoMemory)
+        }
+    }
+}
 
 /// What came of the innermost expression, on the stack.
 fn land_flow(
@@ -45,13 +72,7 @@ fn land_flow(
         (outer.old ++ top ∷ []) old + 3) }
 {
     match flow {
-        Ok(Flow::Done(v)) => {
-            if top.frames.is_empty() {
-                return Ok(Mode::Give(v));
-            }
-            outer.add(top)?;
-            Ok(Mode::Give(v))
-        }
+        Ok(Flow::Done(v)) => land_value(outer, top, v),
         Ok(Flow::Wait(rest)) => {
             stack_rest(outer, top, rest)?;
             Ok(Mode::Run)
@@ -60,9 +81,18 @@ fn land_flow(
             outer.add(top)?;
             Ok(Mode::Raise(x))
         }
-        Err(EvalStop::WorkSpent) => Err(EvalStop::WorkSpent),
-        Err(EvalStop::Wrong) => Err(EvalStop::Wrong),
-        Err(EvalStop::NoMemory) => Err(EvalStop::NoMemory),
+        Err(EvalStop::WorkSpent) => {
+            drop(top);
+            Err(EvalStop::WorkSpent)
+        }
+        Err(EvalStop::Wrong) => {
+            drop(top);
+            Err(EvalStop::Wrong)
+        }
+        Err(EvalStop::NoMemory) => {
+            drop(top);
+            Err(EvalStop::NoMemory)
+        }
     }
 }
 
@@ -77,14 +107,68 @@ fn leave(outer: &mut Activations, top: Activation, x: Exn) -> Result<Mode, EvalS
         ≤ load mode.Run (outer.old ++ top ∷ []) work + 3) }
 {
     if top.frames.is_empty() {
+        drop(top);
         return Ok(Mode::Raise(x));
     }
     outer.add(top)?;
     Ok(Mode::Raise(x))
 }
 
+/// How far the innermost expression of an activation of that program comes with a task on the native
+/// stack.
+#[tactic(auto, using(eval_flow::proofs::Naming::no_function, eval_flow::proofs::Naming::no_expression))]
+fn run_in<S: Services>(
+    alloc: Global,
+    codes: &mut Codes,
+    last: &mut ProgramSize,
+    top: &Activation,
+    code: &Shared<Program>,
+    task: Task,
+    state: &mut State,
+    svc: &mut S,
+) -> Result<Flow, EvalStop>
+    requires open { IsSome (S.stands svc.old).begun }
+    requires program { slice_get codes.old top.now.code ≡ Some code.now }
+    requires sized { IsProgramSize codes.old last.old }
+    requires linked { IsSome (spot_in codes.old top.now) }
+    requires safe { (code : Code) (at : Spot) → slice_get codes.old top.now.code ≡ Some code →
+        spot_in codes.old top.now ≡ Some at
+        → IsSafe (task_step code top.now.fun at task
+        (joined_state state.old (S.stands svc.old))).asks }
+    ensures flows { (code : Code) (at : Spot) → slice_get codes.old top.now.code ≡ Some code →
+        spot_in codes.old top.now ≡ Some at
+        → Flows codes.new code top.now.fun at (task_step code top.now.fun at task
+        (joined_state state.old (S.stands svc.old))) result
+        (joined_state state.new (S.stands svc.new)) }
+    ensures performs { Performs task state.old.work result state.new.work }
+    ensures grown { Grows codes.old codes.new }
+    ensures sized { IsProgramSize codes.new last.new }
+    ensures offer { (S.stands svc.new).offer ≡ (S.stands svc.old).offer }
+    ensures begun { (S.stands svc.new).begun ≡ (S.stands svc.old).begun }
+{
+    let Some(function) = code.get().funs.get(top.fun) else {
+        drop(task);
+        return Err(EvalStop::Wrong);
+    };
+    let Some(expr) = expr_from(&function.body, top.frames.as_slice()) else {
+        drop(task);
+        return Err(EvalStop::Wrong);
+    };
+    *last = size_of(code, top.code, *last);
+    let here = Here {
+        code,
+        number: top.code,
+        size: last.size,
+        fun: top.fun,
+        function,
+        args: top.args.as_slice(),
+        frames: top.frames.as_slice(),
+        bindings: &[],
+    };
+    perform(alloc, codes, &here, expr, task, state, svc)
+}
+
 /// How far the innermost expression of an activation comes with a task on the native stack.
-#[tactic(auto, using(eval_flow::proofs::Naming::no_code, eval_flow::proofs::Naming::no_function, eval_flow::proofs::Naming::no_expression))]
 fn run_top<S: Services>(
     alloc: Global,
     codes: &mut Codes,
@@ -112,29 +196,13 @@ fn run_top<S: Services>(
     ensures offer { (S.stands svc.new).offer ≡ (S.stands svc.old).offer }
     ensures begun { (S.stands svc.new).begun ≡ (S.stands svc.old).begun }
 {
-    let Some(shared) = codes.get(top.code) else {
-        return Err(EvalStop::Wrong);
-    };
-    let code = shared.share()?;
-    let Some(function) = code.get().funs.get(top.fun) else {
-        return Err(EvalStop::Wrong);
-    };
-    let Some(expr) = expr_from(&function.body, top.frames.as_slice()) else {
-        return Err(EvalStop::Wrong);
-    };
-    let none = Items::new(alloc);
-    *last = size_of(&code, top.code, *last);
-    let here = Here {
-        code: &code,
-        number: top.code,
-        size: last.size,
-        fun: top.fun,
-        function,
-        args: top.args.as_slice(),
-        frames: top.frames.as_slice(),
-        bindings: none.as_slice(),
-    };
-    perform(alloc, codes, &here, expr, task, state, svc)
+    match top_code(codes, top) {
+        Ok(code) => run_in(alloc, codes, last, top, &code, task, state, svc),
+        Err(stop) => {
+            drop(task);
+            Err(stop)
+        }
+    }
 }
 
 /// Evaluates the innermost expression of the innermost activation, which is off the stack.
@@ -192,6 +260,7 @@ fn give<S: Services>(
 {
     let mut below = top;
     let Some(frame) = below.frames.pop() else {
+        drop(below);
         return Ok(Mode::Give(v));
     };
     let task = Task::Give(frame, v);
@@ -226,9 +295,11 @@ fn raise<S: Services>(
 {
     let mut below = top;
     let Some(frame) = below.frames.pop() else {
+        drop(below);
         return Ok(Mode::Raise(x));
     };
     if passes_on(&frame) {
+        drop(frame);
         return leave(outer, below, x);
     }
     let task = Task::Raise(frame, x);
@@ -331,6 +402,29 @@ fn first_activation(
     })
 }
 
+/// The stack with which a visit goes on where the native stack is used up, as that function waits.
+fn first_stack(
+    alloc: Global,
+    chunk: &Chunk,
+    fun: usize,
+    rest: Rest,
+) -> Result<Activations, plan_base::NoMemory>
+    ensures { IfOk result (λ stack. stack ≡ (record (entry 0 fun chunk.now.args)
+        { frames = reverse rest.frames } ∷ []) ++ reverse rest.activations) }
+{
+    match first_activation(alloc, chunk, fun) {
+        Ok(top) => {
+            let mut stack = Items::new(alloc);
+            stack_rest(&mut stack, top, rest)?;
+            Ok(stack)
+        }
+        Err(refused) => {
+            drop(rest);
+            Err(refused)
+        }
+    }
+}
+
 /// How far the function with which a visit starts comes on the native stack, over the arguments as
 /// they stand in the chunk.
 fn run_first<S: Services>(
@@ -403,9 +497,7 @@ pub fn run_from<S: Services>(
     match run_first(alloc, &mut programs, first.size, chunk, fun, state, svc) {
         Ok(Flow::Done(v)) => Ok(v),
         Ok(Flow::Wait(rest)) => {
-            let top = first_activation(alloc, chunk, fun)?;
-            let mut stack = Items::new(alloc);
-            stack_rest(&mut stack, top, rest)?;
+            let stack = first_stack(alloc, chunk, fun, rest)?;
             run(alloc, programs, first, stack, Mode::Run, state, svc)
         }
         Err(stop) => Err(stop),

@@ -127,6 +127,10 @@ pub fn perform<S: Services>(
     match task {
         Task::Begin => evaluate(alloc, codes, here, e, DEPTH, state, svc),
         Task::Give(frame, v) => give(alloc, codes, here, e, frame, v, state, svc),
-        Task::Raise(frame, x) => raise(alloc, codes, here, e, &frame, x, state, svc),
+        Task::Raise(frame, x) => {
+            let flow = raise(alloc, codes, here, e, &frame, x, state, svc);
+            drop(frame);
+            flow
+        }
     }
 }

@@ -9,7 +9,7 @@ ghost use Rattle.plan_meaning.specs.declared.outcome.Outcome.TheVariants as outc
 ghost use Rattle.plan_meaning.specs.State.{joined_state};
 ghost use Rattle.plan_meaning.specs.Meaning.{meaning, visited_chunk};
 ghost use Rattle.plan_meaning.specs.Safe.{IsSafe, AreGoodNotes, AreGoodPackets};
-ghost use Rattle.meaning_laws.specs.Laws.{VisitEnds, VisitsAlike, NoneSuffices};
+ghost use Rattle.plan_meaning.specs.Laws.{VisitEnds, VisitsAlike, NoneSuffices};
 ghost use Rattle.visit_state.specs.Meets.{Meets};
 
 use crate::machine::run_from;
@@ -103,8 +103,14 @@ fn visit_chunk<S: Services>(
     match run_chunk(alloc, chunk, size, &mut state, svc) {
         Ok(v) => Ok(state.into_visit(Outcome::Value(v))),
         Err(EvalStop::Raised(x)) => Ok(state.into_visit(Outcome::Raised(x))),
-        Err(EvalStop::WorkSpent) => Ok(visit_without_effect(alloc, bound)),
-        Err(EvalStop::NoMemory) => Err(NoMemory),
+        Err(EvalStop::WorkSpent) => {
+            drop(state);
+            Ok(visit_without_effect(alloc, bound))
+        }
+        Err(EvalStop::NoMemory) => {
+            drop(state);
+            Err(NoMemory)
+        }
         Err(EvalStop::Wrong) => unreachable!(),
     }
 }

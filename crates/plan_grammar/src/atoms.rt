@@ -7,11 +7,11 @@ ghost use Rattle.plan_grammar.specs.Inside.{ReadsExprs};
 
 use crate::ahead::Ahead;
 use crate::begins::begins_expr;
-use crate::builder::{bracketed_items, keep_node, together};
+use crate::builder::{bracketed_items, call_of, chunk_of, tuple_of};
 use crate::fault::{ParseFault, Wanted};
 use crate::level::Level;
-use crate::node::{Node, leaf, over};
-use crate::reader::{ExprReader, name_at, need_open};
+use crate::node::{Node, leaf, one_node};
+use crate::reader::{ExprReader, closed, name_at, need_open};
 use crate::types::{MOST_PARTS, opens, type_to};
 use plan_base::{Dev, Expr, Host, Limit, Name};
 use plan_items::Items;
@@ -101,9 +101,10 @@ impl<F: Fn(Global, u32, Level, &mut Ahead<'_>) -> Result<Node, ParseFault>> Expr
         ensures { Gives (spec.call (expr_to self.now.room) self.now.room name at ahead.old)
             result ahead.new }
     {
-        let args = self.arguments(ahead)?;
-        let (args, below) = together(self.alloc, args)?;
-        Ok(over(self.alloc, Expr::Call(name, args), at, below))
+        match self.arguments(ahead) {
+            Ok(args) => call_of(self.alloc, at, name, args),
+            Err(fault) => Err(fault),
+        }
     }
 
     /// A name: a call where a bracket stands behind it, else a variable.
@@ -131,10 +132,13 @@ impl<F: Fn(Global, u32, Level, &mut Ahead<'_>) -> Result<Node, ParseFault>> Expr
         let at = ahead.place();
         ahead.skip();
         let name = name_at(self.alloc, ahead)?;
-        ahead.need_symbol(Symbol::Bar)?;
-        let args = self.arguments(ahead)?;
-        let (args, below) = together(self.alloc, args)?;
-        Ok(over(self.alloc, Expr::ChunkOf(name, args), at, below))
+        match ahead.need_symbol(Symbol::Bar) {
+            Ok(()) => match self.arguments(ahead) {
+                Ok(args) => chunk_of(self.alloc, at, name, args),
+                Err(fault) => Err(fault),
+            },
+            Err(fault) => Err(fault),
+        }
     }
 
     /// The further parts of a tuple.
@@ -144,12 +148,14 @@ impl<F: Fn(Global, u32, Level, &mut Ahead<'_>) -> Result<Node, ParseFault>> Expr
         ensures { Gives (spec.tuple (expr_to self.now.room) self.now.room at first ahead.old)
             result ahead.new }
     {
-        let mut parts = Items::new(self.alloc);
-        parts.add(first)?;
-        let parts = self.more(ahead, Limit::Parts, MOST_PARTS, parts)?;
-        ahead.need_symbol(Symbol::ParenClose)?;
-        let (parts, below) = together(self.alloc, parts)?;
-        Ok(over(self.alloc, Expr::Tuple(parts), at, below))
+        let parts = one_node(self.alloc, first)?;
+        match self.more(ahead, Limit::Parts, MOST_PARTS, parts) {
+            Ok(parts) => match ahead.need_symbol(Symbol::ParenClose) {
+                Ok(()) => tuple_of(self.alloc, at, parts),
+                Err(fault) => Err(fault),
+            },
+            Err(fault) => Err(fault),
+        }
     }
 
     #[tactic(auto, unfolding(crate::specs::Exprs::single))]
@@ -157,9 +163,7 @@ impl<F: Fn(Global, u32, Level, &mut Ahead<'_>) -> Result<Node, ParseFault>> Expr
         ensures { Gives (spec.single (expr_to self.now.room) self.now.room first ahead.old)
             result ahead.new }
     {
-        let first = keep_node(self.alloc, first)?;
-        ahead.need_symbol(Symbol::ParenClose)?;
-        Ok(first.into_inner())
+        closed(ahead, Symbol::ParenClose, first)
     }
 
     /// An expression in brackets, or a tuple.
@@ -212,9 +216,14 @@ impl<F: Fn(Global, u32, Level, &mut Ahead<'_>) -> Result<Node, ParseFault>> Expr
             result ahead.new }
     {
         ahead.skip();
-        let t = type_to(self.alloc, self.room, ahead)?;
-        ahead.need_symbol(Symbol::BracketClose)?;
-        Ok(leaf(self.alloc, Expr::Nil(Some(t)), at))
+        match type_to(self.alloc, self.room, ahead) {
+            Ok(t) => closed(
+                ahead,
+                Symbol::BracketClose,
+                leaf(self.alloc, Expr::Nil(Some(t)), at),
+            ),
+            Err(fault) => Err(fault),
+        }
     }
 
     /// Items in brackets; their empty list has the place of the closing bracket.
@@ -224,13 +233,21 @@ impl<F: Fn(Global, u32, Level, &mut Ahead<'_>) -> Result<Node, ParseFault>> Expr
         ensures { Gives (spec.listing (expr_to self.now.room) self.now.room ahead.old)
             result ahead.new }
     {
-        let mut items = Items::new(self.alloc);
-        items.add(self.inner(ahead, Level::Whole)?)?;
-        let items = self.more(ahead, Limit::Items, MOST_ITEMS, items)?;
-        let at = ahead.place();
-        ahead.need_symbol(Symbol::BracketClose)?;
-        let end = leaf(self.alloc, Expr::Nil(None), at);
-        bracketed_items(self.alloc, items, end)
+        let first = self.inner(ahead, Level::Whole)?;
+        let items = one_node(self.alloc, first)?;
+        match self.more(ahead, Limit::Items, MOST_ITEMS, items) {
+            Ok(items) => {
+                let at = ahead.place();
+                match ahead.need_symbol(Symbol::BracketClose) {
+                    Ok(()) => {
+                        let end = leaf(self.alloc, Expr::Nil(None), at);
+                        bracketed_items(self.alloc, items, end)
+                    }
+                    Err(fault) => Err(fault),
+                }
+            }
+            Err(fault) => Err(fault),
+        }
     }
 
     #[tactic(auto, unfolding(crate::specs::Exprs::brackets_behind))]

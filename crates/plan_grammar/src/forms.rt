@@ -1,18 +1,17 @@
 //! Reading the forms that a reserved word begins.
 ghost use Rattle.std.specs.Prelude.{◌≡◌, ◌≤◌, ◌-◌, ◌∷◌, [], length, Result, Ok, Err, Some, None};
-ghost use Rattle.plan_grammar.specs.Ahead.{Gives, Answers, next_kind};
+ghost use Rattle.plan_grammar.specs.Ahead.{Gives, Answers, ◌>>=◌ as and_then, next_kind, need_key, need_symbol};
 ghost use Rattle.plan_grammar.specs.Exprs as spec;
 ghost use Rattle.plan_grammar.specs.Exprs.{expr_to};
 ghost use Rattle.plan_grammar.specs.Inside.{ReadsExprs};
-ghost use Rattle.plan_grammar.specs.Types.{past};
+ghost use Rattle.plan_grammar.specs.Nodes as nodes;
+ghost use Rattle.plan_grammar.specs.Types.{past, type_to as read_type};
 
 use crate::ahead::Ahead;
-use crate::builder::{let_of, try_of};
+use crate::builder::{let_of, neighbor_of, remote_of, try_of};
 use crate::fault::{ParseFault, Wanted};
 use crate::level::Level;
-use crate::node::{
-    Bound, Caught, FoldParts, Node, SendParts, boxed_before, boxed_one, boxed_two, leaf, over,
-};
+use crate::node::{Bound, Caught, FoldParts, Node, SendParts, boxed_one, boxed_two, leaf, over};
 use crate::reader::{ExprReader, name_at, need_open};
 use crate::types::{opens, type_to};
 use plan_base::{Expr, Limit, Name};
@@ -23,6 +22,16 @@ use std::alloc::Global;
 /// The clauses that a `try` may have.
 const MOST_CLAUSES: usize = 8;
 
+/// One `val`, as a list.
+fn one_bound(alloc: Global, bound: Bound) -> Result<Items<Bound>, ParseFault>
+    ensures { Answers (Ok (bound ∷ [])) result }
+{
+    let mut bounds = Items::new(alloc);
+    bounds.add(bound)?;
+    Ok(bounds)
+}
+
+/// Whether a clause may begin here.
 #[tactic(auto, unfolding(crate::specs::Exprs::begins_clause))]
 fn begins_clause(ahead: &Ahead<'_>) -> bool
     ensures { result ≡ spec.begins_clause ahead.now }
@@ -69,10 +78,16 @@ fn raise_typed(alloc: Global, room: u32, ahead: &mut Ahead<'_>, at: u32) -> Resu
     opens(room, ahead)?;
     ahead.skip();
     ahead.need_symbol(Symbol::Colon)?;
-    let t = type_to(alloc, room, ahead)?;
-    ahead.need_symbol(Symbol::BracketClose)?;
-    let name = name_at(alloc, ahead)?;
-    Ok(leaf(alloc, Expr::Raise(name, Some(t)), at))
+    match type_to(alloc, room, ahead) {
+        Ok(t) => match ahead.need_symbol(Symbol::BracketClose) {
+            Ok(()) => match name_at(alloc, ahead) {
+                Ok(name) => Ok(leaf(alloc, Expr::Raise(name, Some(t)), at)),
+                Err(fault) => Err(fault),
+            },
+            Err(fault) => Err(fault),
+        },
+        Err(fault) => Err(fault),
+    }
 }
 
 #[tactic(auto, unfolding(crate::specs::Exprs::raise_plain))]
@@ -105,16 +120,36 @@ impl<F: Fn(Global, u32, Level, &mut Ahead<'_>) -> Result<Node, ParseFault>> Expr
     {
         ahead.need_key(Key::Val)?;
         let name = name_at(self.alloc, ahead)?;
-        ahead.need_symbol(Symbol::Colon)?;
-        let ty = type_to(self.alloc, self.room, ahead)?;
-        ahead.need_symbol(Symbol::Equal)?;
-        let value = self.inner(ahead, Level::Whole)?;
-        Ok(Bound {
-            at,
-            name,
-            ty,
-            value,
-        })
+        match ahead.need_symbol(Symbol::Colon) {
+            Ok(()) => self.named_binding(ahead, at, name),
+            Err(fault) => Err(fault),
+        }
+    }
+
+    /// What stands of a `val` behind its colon.
+    fn named_binding(&self, ahead: &mut Ahead<'_>, at: u32, name: Name) -> Result<Bound, ParseFault>
+        requires { ReadsExprs self.now.room (F.pre self.now.read) (F.post self.now.read) }
+        ensures { Gives (and_then (read_type self.now.room ahead.old)
+            (λ t. and_then (need_symbol Symbol.Equal t.1)
+            (λ equal. and_then (expr_to self.now.room Level.Whole equal.1)
+            (λ e. Ok (record { at = at; name = name; ty = t.0; value = e.0 }, e.1))))) result
+            ahead.new }
+    {
+        match type_to(self.alloc, self.room, ahead) {
+            Ok(ty) => match ahead.need_symbol(Symbol::Equal) {
+                Ok(()) => match self.inner(ahead, Level::Whole) {
+                    Ok(value) => Ok(Bound {
+                        at,
+                        name,
+                        ty,
+                        value,
+                    }),
+                    Err(fault) => Err(fault),
+                },
+                Err(fault) => Err(fault),
+            },
+            Err(fault) => Err(fault),
+        }
     }
 
     /// Further `val`, of which there are no more than tokens.
@@ -148,13 +183,32 @@ impl<F: Fn(Global, u32, Level, &mut Ahead<'_>) -> Result<Node, ParseFault>> Expr
         opens(self.room, ahead)?;
         let at = ahead.place();
         ahead.skip();
-        let mut bounds = Items::new(self.alloc);
-        bounds.add(self.binding(ahead, at)?)?;
-        let bounds = self.bindings_from(ahead, bounds)?;
-        ahead.need_key(Key::In)?;
-        let body = self.inner_kept(ahead, Level::Whole)?;
-        ahead.need_key(Key::End)?;
-        let_of(self.alloc, bounds, body.into_inner())
+        let first = self.binding(ahead, at)?;
+        let bounds = one_bound(self.alloc, first)?;
+        match self.bindings_from(ahead, bounds) {
+            Ok(bounds) => self.let_body(ahead, bounds),
+            Err(fault) => Err(fault),
+        }
+    }
+
+    /// What stands of a `let` behind its bindings.
+    fn let_body(&self, ahead: &mut Ahead<'_>, bounds: Items<Bound>) -> Result<Node, ParseFault>
+        requires { ReadsExprs self.now.room (F.pre self.now.read) (F.post self.now.read) }
+        ensures { Gives (and_then (need_key Key.In ahead.old)
+            (λ inside. and_then (expr_to self.now.room Level.Whole inside.1)
+            (λ body. and_then (need_key Key.End body.1)
+            (λ end. Ok (nodes.let_of bounds body.0, end.1))))) result ahead.new }
+    {
+        match ahead.need_key(Key::In) {
+            Ok(()) => match self.inner_kept(ahead, Level::Whole) {
+                Ok(body) => match ahead.need_key(Key::End) {
+                    Ok(()) => let_of(self.alloc, bounds, body.into_inner()),
+                    Err(fault) => Err(fault),
+                },
+                Err(fault) => Err(fault),
+            },
+            Err(fault) => Err(fault),
+        }
     }
 
     /// One clause.
@@ -165,9 +219,13 @@ impl<F: Fn(Global, u32, Level, &mut Ahead<'_>) -> Result<Node, ParseFault>> Expr
             result ahead.new }
     {
         let name = catch_at(self.alloc, ahead)?;
-        ahead.need_symbol(Symbol::FatArrow)?;
-        let body = self.inner(ahead, Level::Whole)?;
-        Ok(Caught { name, body })
+        match ahead.need_symbol(Symbol::FatArrow) {
+            Ok(()) => match self.inner(ahead, Level::Whole) {
+                Ok(body) => Ok(Caught { name, body }),
+                Err(fault) => Err(fault),
+            },
+            Err(fault) => Err(fault),
+        }
     }
 
     /// The clauses of a `try`, of which `_` is the last.
@@ -200,10 +258,16 @@ impl<F: Fn(Global, u32, Level, &mut Ahead<'_>) -> Result<Node, ParseFault>> Expr
         let at = ahead.place();
         ahead.skip();
         let body = self.inner_kept(ahead, Level::Whole)?;
-        ahead.need_key(Key::Handle)?;
-        let clauses = self.clauses(ahead)?;
-        ahead.need_key(Key::End)?;
-        try_of(self.alloc, at, body.into_inner(), clauses)
+        match ahead.need_key(Key::Handle) {
+            Ok(()) => match self.clauses(ahead) {
+                Ok(clauses) => match ahead.need_key(Key::End) {
+                    Ok(()) => try_of(self.alloc, at, body.into_inner(), clauses),
+                    Err(fault) => Err(fault),
+                },
+                Err(fault) => Err(fault),
+            },
+            Err(fault) => Err(fault),
+        }
     }
 
     #[tactic(auto, unfolding(crate::specs::Exprs::fold_parts))]
@@ -215,10 +279,16 @@ impl<F: Fn(Global, u32, Level, &mut Ahead<'_>) -> Result<Node, ParseFault>> Expr
         ahead.skip();
         need_open(self.room, ahead)?;
         let name = name_at(self.alloc, ahead)?;
-        ahead.need_symbol(Symbol::Comma)?;
-        let start = self.before_comma(ahead)?;
-        let list = self.before_close(ahead)?;
-        Ok(FoldParts { name, start, list })
+        match ahead.need_symbol(Symbol::Comma) {
+            Ok(()) => match self.before_comma(ahead) {
+                Ok(start) => match self.before_close(ahead) {
+                    Ok(list) => Ok(FoldParts { name, start, list }),
+                    Err(fault) => Err(fault),
+                },
+                Err(fault) => Err(fault),
+            },
+            Err(fault) => Err(fault),
+        }
     }
 
     #[tactic(auto, unfolding(crate::specs::Exprs::foldl_form))]
@@ -229,8 +299,15 @@ impl<F: Fn(Global, u32, Level, &mut Ahead<'_>) -> Result<Node, ParseFault>> Expr
     {
         let at = ahead.place();
         let FoldParts { name, start, list } = self.fold_parts(ahead)?;
-        let (start, list, below) = boxed_two(self.alloc, start.into_inner(), list.into_inner())?;
-        Ok(over(self.alloc, Expr::Foldl(name, start, list), at, below))
+        match boxed_two(self.alloc, start.into_inner(), list.into_inner()) {
+            Ok((start, list, below)) => Ok(over(
+                self.alloc,
+                Expr::Foldl(name, start, list),
+                at,
+                below,
+            )),
+            Err(fault) => Err(fault),
+        }
     }
 
     #[tactic(auto, unfolding(crate::specs::Exprs::foldr_form))]
@@ -241,8 +318,15 @@ impl<F: Fn(Global, u32, Level, &mut Ahead<'_>) -> Result<Node, ParseFault>> Expr
     {
         let at = ahead.place();
         let FoldParts { name, start, list } = self.fold_parts(ahead)?;
-        let (start, list, below) = boxed_two(self.alloc, start.into_inner(), list.into_inner())?;
-        Ok(over(self.alloc, Expr::Foldr(name, start, list), at, below))
+        match boxed_two(self.alloc, start.into_inner(), list.into_inner()) {
+            Ok((start, list, below)) => Ok(over(
+                self.alloc,
+                Expr::Foldr(name, start, list),
+                at,
+                below,
+            )),
+            Err(fault) => Err(fault),
+        }
     }
 
     #[tactic(auto, unfolding(crate::specs::Exprs::eval_form))]
@@ -268,9 +352,13 @@ impl<F: Fn(Global, u32, Level, &mut Ahead<'_>) -> Result<Node, ParseFault>> Expr
         ahead.skip();
         need_open(self.room, ahead)?;
         let chunk = self.before_comma(ahead)?;
-        let host = self.before_comma(ahead)?;
-        let bound = self.before_comma(ahead)?;
-        Ok(SendParts { chunk, host, bound })
+        match self.before_comma(ahead) {
+            Ok(host) => match self.before_comma(ahead) {
+                Ok(bound) => Ok(SendParts { chunk, host, bound }),
+                Err(fault) => Err(fault),
+            },
+            Err(fault) => Err(fault),
+        }
     }
 
     #[tactic(auto, unfolding(crate::specs::Exprs::remote_form))]
@@ -280,17 +368,14 @@ impl<F: Fn(Global, u32, Level, &mut Ahead<'_>) -> Result<Node, ParseFault>> Expr
             result ahead.new }
     {
         let at = ahead.place();
-        let SendParts { chunk, host, bound } = self.send_parts(ahead)?;
-        let route = name_at(self.alloc, ahead)?;
-        ahead.need_symbol(Symbol::ParenClose)?;
-        let (host, bound, below) = boxed_two(self.alloc, host.into_inner(), bound.into_inner())?;
-        let (chunk, below) = boxed_before(self.alloc, chunk.into_inner(), below)?;
-        Ok(over(
-            self.alloc,
-            Expr::OnRemote(chunk, host, bound, route),
-            at,
-            below,
-        ))
+        let parts = self.send_parts(ahead)?;
+        match name_at(self.alloc, ahead) {
+            Ok(route) => match ahead.need_symbol(Symbol::ParenClose) {
+                Ok(()) => remote_of(self.alloc, at, parts, route),
+                Err(fault) => Err(fault),
+            },
+            Err(fault) => Err(fault),
+        }
     }
 
     #[tactic(auto, unfolding(crate::specs::Exprs::neighbor_form))]
@@ -300,16 +385,10 @@ impl<F: Fn(Global, u32, Level, &mut Ahead<'_>) -> Result<Node, ParseFault>> Expr
             result ahead.new }
     {
         let at = ahead.place();
-        let SendParts { chunk, host, bound } = self.send_parts(ahead)?;
-        let dev = self.before_close(ahead)?;
-        let (bound, dev, below) = boxed_two(self.alloc, bound.into_inner(), dev.into_inner())?;
-        let (host, below) = boxed_before(self.alloc, host.into_inner(), below)?;
-        let (chunk, below) = boxed_before(self.alloc, chunk.into_inner(), below)?;
-        Ok(over(
-            self.alloc,
-            Expr::OnNeighbor(chunk, host, bound, dev),
-            at,
-            below,
-        ))
+        let parts = self.send_parts(ahead)?;
+        match self.before_close(ahead) {
+            Ok(dev) => neighbor_of(self.alloc, at, parts, dev),
+            Err(fault) => Err(fault),
+        }
     }
 }

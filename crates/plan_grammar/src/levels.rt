@@ -1,6 +1,8 @@
 //! Reading operands and what joins them, level by level.
 ghost use Rattle.std.specs.Prelude.{◌≡◌, ◌-◌, length, Result, Ok, Err, Some, None};
-ghost use Rattle.plan_grammar.specs.Ahead.{Gives, Answers, next_kind};
+ghost use Rattle.plan_grammar.specs.Ahead.{Gives, Answers, ◌>>=◌ as and_then, next_kind, need_key};
+ghost use Rattle.plan_grammar.specs.Nodes.{over_three};
+ghost use Rattle.plan_base.specs.declared.tree.Expr.TheVariants as x;
 ghost use Rattle.plan_grammar.specs.Exprs as spec;
 ghost use Rattle.plan_grammar.specs.Exprs.{expr_to};
 ghost use Rattle.plan_grammar.specs.Inside.{ReadsExprs};
@@ -9,16 +11,17 @@ ghost use Rattle.plan_grammar.specs.Starts.{start_at};
 
 use crate::ahead::Ahead;
 use crate::atoms::literal_at;
-use crate::builder::{join_nodes, joined_kept, keep_node, put_before};
+use crate::builder::{if_of, join_nodes, joined_kept, keep_node, put_before};
 use crate::fault::ParseFault;
 use crate::forms::raise_form;
 use crate::joint::{Chain, Joint, next_joint};
 use crate::level::Level;
-use crate::node::{Node, boxed_before, boxed_one, boxed_two, over};
+use crate::node::{Node, boxed_one, over};
 use crate::reader::{ExprReader, opens_expr, opens_operand};
 use crate::start::{Start, next_start};
 use crate::types::opens;
 use plan_base::{Expr, Op};
+use plan_items::Boxed;
 use plan_lexer::{Key, Symbol};
 use std::alloc::Global;
 
@@ -138,14 +141,18 @@ impl<F: Fn(Global, u32, Level, &mut Ahead<'_>) -> Result<Node, ParseFault>> Expr
             result ahead.new }
     {
         let item = keep_node(self.alloc, item)?;
-        opens_operand(self.room, ahead)?;
-        let rest = self.inner(ahead, Level::Listed)?;
-        join_nodes(
-            self.alloc,
-            Joint::Operator(Op::Cons),
-            item.into_inner(),
-            rest,
-        )
+        match opens_operand(self.room, ahead) {
+            Ok(()) => match self.inner(ahead, Level::Listed) {
+                Ok(rest) => join_nodes(
+                    self.alloc,
+                    Joint::Operator(Op::Cons),
+                    item.into_inner(),
+                    rest,
+                ),
+                Err(fault) => Err(fault),
+            },
+            Err(fault) => Err(fault),
+        }
     }
 
     #[tactic(auto, unfolding(crate::specs::Exprs::listed_operands))]
@@ -173,8 +180,10 @@ impl<F: Fn(Global, u32, Level, &mut Ahead<'_>) -> Result<Node, ParseFault>> Expr
         };
         ahead.skip();
         let left = keep_node(self.alloc, left)?;
-        let right = self.listed_level(ahead)?;
-        join_nodes(self.alloc, joint, left.into_inner(), right)
+        match self.listed_level(ahead) {
+            Ok(right) => join_nodes(self.alloc, joint, left.into_inner(), right),
+            Err(fault) => Err(fault),
+        }
     }
 
     #[tactic(auto, unfolding(crate::specs::Exprs::comparison))]
@@ -281,13 +290,36 @@ impl<F: Fn(Global, u32, Level, &mut Ahead<'_>) -> Result<Node, ParseFault>> Expr
         let at = ahead.place();
         ahead.skip();
         let test = self.inner_kept(ahead, Level::Whole)?;
-        ahead.need_key(Key::Then)?;
-        let first = self.inner_kept(ahead, Level::Low)?;
-        ahead.need_key(Key::Else)?;
-        let second = self.inner(ahead, Level::Low)?;
-        let (first, second, below) = boxed_two(self.alloc, first.into_inner(), second)?;
-        let (test, below) = boxed_before(self.alloc, test.into_inner(), below)?;
-        Ok(over(self.alloc, Expr::If(test, first, second), at, below))
+        match ahead.need_key(Key::Then) {
+            Ok(()) => self.branches(ahead, at, test),
+            Err(fault) => Err(fault),
+        }
+    }
+
+    /// What stands of an `if` behind `then`.
+    fn branches(
+        &self,
+        ahead: &mut Ahead<'_>,
+        at: u32,
+        test: Boxed<Node>,
+    ) -> Result<Node, ParseFault>
+        requires { ReadsExprs self.now.room (F.pre self.now.read) (F.post self.now.read) }
+        ensures { Gives (and_then (expr_to self.now.room Level.Low ahead.old)
+            (λ a. and_then (need_key Key.Else a.1)
+            (λ other. and_then (expr_to self.now.room Level.Low other.1)
+            (λ b. Ok (over_three (x.If test.tree a.0.tree b.0.tree) at test a.0 b.0, b.1)))))
+            result ahead.new }
+    {
+        match self.inner_kept(ahead, Level::Low) {
+            Ok(first) => match ahead.need_key(Key::Else) {
+                Ok(()) => match self.inner(ahead, Level::Low) {
+                    Ok(second) => if_of(self.alloc, at, test, first, second),
+                    Err(fault) => Err(fault),
+                },
+                Err(fault) => Err(fault),
+            },
+            Err(fault) => Err(fault),
+        }
     }
 
     #[tactic(auto, unfolding(crate::specs::Exprs::low))]
@@ -310,9 +342,13 @@ impl<F: Fn(Global, u32, Level, &mut Ahead<'_>) -> Result<Node, ParseFault>> Expr
             result ahead.new }
     {
         let first = keep_node(self.alloc, first)?;
-        opens_expr(self.room, ahead)?;
-        let second = self.inner(ahead, Level::Whole)?;
-        put_before(self.alloc, first.into_inner(), second)
+        match opens_expr(self.room, ahead) {
+            Ok(()) => match self.inner(ahead, Level::Whole) {
+                Ok(second) => put_before(self.alloc, first.into_inner(), second),
+                Err(fault) => Err(fault),
+            },
+            Err(fault) => Err(fault),
+        }
     }
 
     #[tactic(auto, unfolding(crate::specs::Exprs::whole))]

@@ -1,5 +1,5 @@
 //! An expression as it was read.
-ghost use Rattle.std.specs.Prelude.{◌≡◌, ◌++◌, ◌∷◌, ◌≤◌, max, Result, Ok, Err};
+ghost use Rattle.std.specs.Prelude.{◌≡◌, ◌++◌, ◌∷◌, [], ◌≤◌, max, Result, Ok, Err};
 ghost use Rattle.plan_grammar.specs.Ahead.{Answers};
 ghost use Rattle.plan_grammar.specs.Nodes as spec;
 ghost use Rattle.plan_grammar.specs.Nodes.{leaf, over};
@@ -82,6 +82,7 @@ pub fn over(alloc: Global, tree: Expr, at: u32, below: Below) -> Node
     ensures { result ≡ over tree at below }
 {
     if below.depth >= MOST_DEPTH {
+        drop(tree);
         return Node {
             tree: Expr::Unit,
             at,
@@ -107,11 +108,23 @@ pub fn boxed_one(alloc: Global, node: Node) -> Result<(Boxed<Expr>, Below), Pars
         below,
         depth,
     } = node;
-    let tree = Boxed::new(alloc, tree)?;
+    match Boxed::new(alloc, tree) {
+        Ok(tree) => match all_at(alloc, at, below) {
+            Ok(places) => Ok((tree, Below { places, depth })),
+            Err(fault) => Err(fault),
+        },
+        Err(_refused) => Err(ParseFault::NoMemory),
+    }
+}
+
+/// The place of an expression and those below it.
+fn all_at(alloc: Global, at: u32, below: Places) -> Result<Places, ParseFault>
+    ensures { Answers (Ok (at ∷ below)) result }
+{
     let mut places = Items::new(alloc);
     places.add(at)?;
     places.append(below)?;
-    Ok((tree, Below { places, depth }))
+    Ok(places)
 }
 
 /// Two expressions on the heap, and what they add together.
@@ -122,11 +135,16 @@ pub fn boxed_two(
 ) -> Result<(Boxed<Expr>, Boxed<Expr>, Below), ParseFault>
     ensures { Answers (Ok (a.tree, b.tree, spec.both (spec.below_of a) (spec.below_of b))) result }
 {
-    let a = boxed_one(alloc, a);
-    let b = boxed_one(alloc, b);
-    let (a, below_a) = a?;
-    let (b, below_b) = b?;
-    Ok((a, b, both(below_a, below_b)?))
+    match boxed_one(alloc, b) {
+        Ok((b, behind)) => match boxed_before(alloc, a, behind) {
+            Ok((a, below)) => Ok((a, b, below)),
+            Err(fault) => Err(fault),
+        },
+        Err(fault) => {
+            drop(a);
+            Err(fault)
+        }
+    }
 }
 
 /// An expression on the heap, and what it and those behind it add.
@@ -137,8 +155,22 @@ pub fn boxed_before(
 ) -> Result<(Boxed<Expr>, Below), ParseFault>
     ensures { Answers (Ok (node.tree, spec.both (spec.below_of node) behind)) result }
 {
-    let (tree, below) = boxed_one(alloc, node)?;
-    Ok((tree, both(below, behind)?))
+    match boxed_one(alloc, node) {
+        Ok((tree, below)) => match both(below, behind) {
+            Ok(below) => Ok((tree, below)),
+            Err(fault) => Err(fault),
+        },
+        Err(fault) => Err(fault),
+    }
+}
+
+/// One expression, as a list.
+pub fn one_node(alloc: Global, node: Node) -> Result<Items<Node>, ParseFault>
+    ensures { Answers (Ok (node ∷ [])) result }
+{
+    let mut nodes = Items::new(alloc);
+    nodes.add(node)?;
+    Ok(nodes)
 }
 
 /// What two parts add.

@@ -1,6 +1,6 @@
 //! What reads expressions, with the function that reads those inside one more open construct.
 ghost use Rattle.std.specs.Prelude.{◌≡◌, ◌+◌, ◌-◌, ◌≤◌, ◌<◌, [], ◌∷◌, ◌++◌, length, Result, Ok, Err, Some, None};
-ghost use Rattle.plan_grammar.specs.Ahead.{Gives, Answers, next_kind, name_at};
+ghost use Rattle.plan_grammar.specs.Ahead.{Gives, Answers, ◌>>=◌ as and_then, next_kind, name_at, need_symbol};
 ghost use Rattle.plan_grammar.specs.Exprs as spec;
 ghost use Rattle.plan_grammar.specs.Exprs.{expr_to};
 ghost use Rattle.plan_grammar.specs.Inside.{ReadsExprs};
@@ -12,7 +12,7 @@ use crate::begins::{begins_expr, begins_operand};
 use crate::builder::keep_node;
 use crate::fault::{ParseFault, Wanted};
 use crate::level::Level;
-use crate::node::Node;
+use crate::node::{Node, one_node};
 use crate::types::opens;
 use plan_base::{Limit, Name};
 use plan_items::{Boxed, Items};
@@ -46,9 +46,13 @@ pub fn name_at(alloc: Global, ahead: &mut Ahead<'_>) -> Result<Name, ParseFault>
     let Some(TokenKind::Word(name)) = ahead.next() else {
         return Err(ParseFault::Expected(Wanted::AName, ahead.place()));
     };
-    let name = name.copy(alloc)?;
-    ahead.skip();
-    Ok(name)
+    match name.copy(alloc) {
+        Ok(name) => {
+            ahead.skip();
+            Ok(name)
+        }
+        Err(_refused) => Err(ParseFault::NoMemory),
+    }
 }
 
 /// Refuses where no expression begins, or where no further construct may open.
@@ -71,6 +75,20 @@ pub fn opens_operand(room: u32, ahead: &Ahead<'_>) -> Result<(), ParseFault>
         return Err(ParseFault::Expected(Wanted::AnExpr, ahead.place()));
     }
     opens(room, ahead)
+}
+
+/// Takes the symbol that must stand behind an expression.
+pub fn closed(ahead: &mut Ahead<'_>, wanted: Symbol, node: Node) -> Result<Node, ParseFault>
+    ensures { Gives (and_then (need_symbol wanted ahead.old) (λ shut. Ok (node, shut.1))) result
+        ahead.new }
+{
+    match ahead.need_symbol(wanted) {
+        Ok(()) => Ok(node),
+        Err(fault) => {
+            drop(node);
+            Err(fault)
+        }
+    }
 }
 
 /// Takes the opening bracket that must stand next.
@@ -100,8 +118,10 @@ impl<F: Fn(Global, u32, Level, &mut Ahead<'_>) -> Result<Node, ParseFault>> Expr
         requires { ReadsExprs self.now.room (F.pre self.now.read) (F.post self.now.read) }
         ensures { Gives (expr_to self.now.room level ahead.old) result ahead.new }
     {
-        let node = self.inner(ahead, level)?;
-        keep_node(self.alloc, node)
+        match self.inner(ahead, level) {
+            Ok(node) => keep_node(self.alloc, node),
+            Err(fault) => Err(fault),
+        }
     }
 
     /// Further expressions behind commas, until there are `most` of them.
@@ -143,11 +163,15 @@ impl<F: Fn(Global, u32, Level, &mut Ahead<'_>) -> Result<Node, ParseFault>> Expr
         ensures { Gives (spec.items_from (expr_to self.now.room) self.now.room close limit most
             ahead.old) result ahead.new }
     {
-        let mut nodes = Items::new(self.alloc);
-        nodes.add(self.inner(ahead, Level::Whole)?)?;
-        let nodes = self.more(ahead, limit, most + 1, nodes)?;
-        ahead.need_symbol(close)?;
-        Ok(nodes)
+        let first = self.inner(ahead, Level::Whole)?;
+        let nodes = one_node(self.alloc, first)?;
+        match self.more(ahead, limit, most + 1, nodes) {
+            Ok(nodes) => match ahead.need_symbol(close) {
+                Ok(()) => Ok(nodes),
+                Err(fault) => Err(fault),
+            },
+            Err(fault) => Err(fault),
+        }
     }
 
     /// An expression and the comma behind it.
@@ -157,9 +181,13 @@ impl<F: Fn(Global, u32, Level, &mut Ahead<'_>) -> Result<Node, ParseFault>> Expr
         ensures { Gives (spec.before_comma (expr_to self.now.room) self.now.room ahead.old)
             result ahead.new }
     {
-        let node = self.inner_kept(ahead, Level::Whole)?;
-        ahead.need_symbol(Symbol::Comma)?;
-        Ok(node)
+        match self.inner_kept(ahead, Level::Whole) {
+            Ok(node) => match ahead.need_symbol(Symbol::Comma) {
+                Ok(()) => Ok(node),
+                Err(fault) => Err(fault),
+            },
+            Err(fault) => Err(fault),
+        }
     }
 
     /// An expression and the bracket behind it.
@@ -169,8 +197,12 @@ impl<F: Fn(Global, u32, Level, &mut Ahead<'_>) -> Result<Node, ParseFault>> Expr
         ensures { Gives (spec.before_close (expr_to self.now.room) self.now.room ahead.old)
             result ahead.new }
     {
-        let node = self.inner_kept(ahead, Level::Whole)?;
-        ahead.need_symbol(Symbol::ParenClose)?;
-        Ok(node)
+        match self.inner_kept(ahead, Level::Whole) {
+            Ok(node) => match ahead.need_symbol(Symbol::ParenClose) {
+                Ok(()) => Ok(node),
+                Err(fault) => Err(fault),
+            },
+            Err(fault) => Err(fault),
+        }
     }
 }

@@ -138,6 +138,15 @@ fn judge_type(alloc: Global, start: u32, words: usize, base: Ty) -> Result<Ty, P
     lists_of(alloc, words as u32, base)
 }
 
+/// One type, as a list.
+fn one_type(alloc: Global, ty: Ty) -> Result<Tys, ParseFault>
+    ensures { Answers (Ok (ty ∷ [])) result }
+{
+    let mut types = Items::new(alloc);
+    types.add(ty)?;
+    Ok(types)
+}
+
 /// What reads types, with the function that reads those inside one more open construct.
 #[derive(Clone, Copy)]
 pub struct TypeReader<F> {
@@ -186,11 +195,14 @@ impl<F: Fn(Global, u32, &mut Ahead<'_>) -> Result<Ty, ParseFault>> TypeReader<F>
         ensures { Gives (spec.tuple_type (type_to self.now.room) self.now.room first ahead.old)
             result ahead.new }
     {
-        let mut types = Items::new(self.alloc);
-        types.add(first)?;
-        let types = self.more(ahead, Symbol::Star, Limit::Parts, MOST_PARTS, types)?;
-        ahead.need_symbol(Symbol::ParenClose)?;
-        Ok(Ty::Tuple(types))
+        let types = one_type(self.alloc, first)?;
+        match self.more(ahead, Symbol::Star, Limit::Parts, MOST_PARTS, types) {
+            Ok(types) => match ahead.need_symbol(Symbol::ParenClose) {
+                Ok(()) => Ok(Ty::Tuple(types)),
+                Err(fault) => Err(fault),
+            },
+            Err(fault) => Err(fault),
+        }
     }
 
     #[tactic(auto, unfolding(crate::specs::Types::single_type))]
@@ -198,8 +210,10 @@ impl<F: Fn(Global, u32, &mut Ahead<'_>) -> Result<Ty, ParseFault>> TypeReader<F>
         ensures { Gives (spec.single_type (type_to self.now.room) self.now.room first ahead.old)
             result ahead.new }
     {
-        ahead.need_symbol(Symbol::ParenClose)?;
-        Ok(first)
+        match ahead.need_symbol(Symbol::ParenClose) {
+            Ok(()) => Ok(first),
+            Err(fault) => Err(fault),
+        }
     }
 
     #[tactic(auto, unfolding(crate::specs::Types::group_type))]

@@ -4,11 +4,16 @@
 #![tactic(auto)]
 
 mod binding;
+mod laws;
 mod outcome;
 mod sent;
 mod stop;
 
 pub use binding::{Binding, Env};
+pub use laws::{
+    allowance, balance, depth, endings, fixed, growth, soundness, steadiness, types_are_there,
+    visits_by_allowance,
+};
 pub use outcome::{Outcome, Visit};
 pub use sent::{Outbox, Sent};
 pub use stop::EvalStop;

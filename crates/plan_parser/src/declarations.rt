@@ -6,7 +6,7 @@ ghost use Rattle.plan_parser.specs.Programs as spec;
 
 use crate::program::Gathered;
 use crate::signature::{Head, MOST_OPEN, head_at, service_at};
-use plan_base::{Draft, Expr, Fun, Limit, Places, Program};
+use plan_base::{Draft, Expr, Fun, Limit, Name, Places, Svc};
 use plan_grammar::{Ahead, Level, MOST_DEPTH, Node, ParseFault, Wanted, expr_to, name_at};
 use plan_items::Items;
 use plan_lexer::{Key, Token};
@@ -40,9 +40,26 @@ fn with_service(
     one_more(gathered.svcs.len(), Limit::Services, ahead)?;
     let at = ahead.place();
     ahead.skip();
-    gathered.svcs.add(service_at(alloc, ahead)?)?;
+    match service_at(alloc, ahead) {
+        Ok(svc) => match add_service(&mut gathered, at, svc) {
+            Ok(()) => Ok(gathered),
+            Err(fault) => Err(fault),
+        },
+        Err(fault) => Err(fault),
+    }
+}
+
+/// Adds a service that was read, whose word stands at `at`.
+fn add_service(gathered: &mut Gathered, at: u32, svc: Svc) -> Result<(), ParseFault>
+    ensures whole { OnOk result (gathered.new ≡ record gathered.old {
+      svcs = gathered.old.svcs ++ svc ∷ [];
+      svc_at = gathered.old.svc_at ++ at ∷ [];
+    }) }
+    ensures fault { IfErr result (λ e. e ≡ ParseFault.NoMemory) }
+{
+    gathered.svcs.add(svc)?;
     gathered.svc_at.add(at)?;
-    Ok(gathered)
+    Ok(())
 }
 
 #[tactic(auto, unfolding(crate::specs::Programs::with_exception))]
@@ -57,9 +74,26 @@ fn with_exception(
     one_more(gathered.exns.len(), Limit::Exceptions, ahead)?;
     let at = ahead.place();
     ahead.skip();
-    gathered.exns.add(name_at(alloc, ahead)?)?;
+    match name_at(alloc, ahead) {
+        Ok(name) => match add_exception(&mut gathered, at, name) {
+            Ok(()) => Ok(gathered),
+            Err(fault) => Err(fault),
+        },
+        Err(fault) => Err(fault),
+    }
+}
+
+/// Adds an exception that was read, whose word stands at `at`.
+fn add_exception(gathered: &mut Gathered, at: u32, name: Name) -> Result<(), ParseFault>
+    ensures whole { OnOk result (gathered.new ≡ record gathered.old {
+      exns = gathered.old.exns ++ name ∷ [];
+      exn_at = gathered.old.exn_at ++ at ∷ [];
+    }) }
+    ensures fault { IfErr result (λ e. e ≡ ParseFault.NoMemory) }
+{
+    gathered.exns.add(name)?;
     gathered.exn_at.add(at)?;
-    Ok(gathered)
+    Ok(())
 }
 
 /// Judges a function that was read: its depth, and then the number of all expressions.
@@ -139,9 +173,9 @@ fn with_body(
         depth,
     } = body;
     let mut gathered = gathered;
+    add_function(&mut gathered, start, function_of(head, tree))?;
     add_places(&mut gathered.node_at, at, below)?;
     judge_function(start, depth, gathered.node_at.len(), ahead)?;
-    add_function(&mut gathered, start, function_of(head, tree))?;
     Ok(gathered)
 }
 
@@ -213,28 +247,6 @@ pub fn declarations(alloc: Global, tokens: &[Token], end: u32) -> Result<Gathere
     Ok(gathered)
 }
 
-fn draft_of(gathered: Gathered) -> Result<Draft, ParseFault>
-    ensures { Answers (Ok (spec.draft_of gathered)) result }
-{
-    let Gathered {
-        svcs,
-        exns,
-        funs,
-        svc_at,
-        mut exn_at,
-        fun_at,
-        node_at,
-    } = gathered;
-    let mut decl_at = svc_at;
-    exn_at.append(fun_at)?;
-    decl_at.append(exn_at)?;
-    Ok(Draft {
-        program: Program { svcs, exns, funs },
-        decl_at,
-        node_at,
-    })
-}
-
 /// The whole draft; at the end there must be a function.
 #[tactic(auto, unfolding(crate::specs::Programs::finished_draft))]
 pub fn finish_draft(end: u32, gathered: Gathered) -> Result<Draft, ParseFault>
@@ -243,5 +255,5 @@ pub fn finish_draft(end: u32, gathered: Gathered) -> Result<Draft, ParseFault>
     if gathered.funs.is_empty() {
         return Err(ParseFault::Expected(Wanted::Key(Key::Fun), end));
     }
-    draft_of(gathered)
+    gathered.into_draft()
 }

@@ -1,9 +1,9 @@
 //! Values with their types.
-ghost use Rattle.std.specs.Prelude.{◌≡◌, [], ◌∷◌, ◌++◌, Result, Ok, Err, Some, None, is_some};
+ghost use Rattle.std.specs.Prelude.{◌≡◌, [], ◌∷◌, ◌++◌, Result, Ok, Err, Some, None, is_some, IfErr, OnOk};
 ghost use Rattle.plan_grammar.specs.Ahead.{Gives, Answers, next_kind};
 ghost use Rattle.plan_parser.specs.Values as spec;
 
-use plan_base::{Dev, Host, Ty, Value, Values};
+use plan_base::{Dev, Host, Ty, Tys, Value, Values};
 use plan_copies::Copied;
 use plan_grammar::{Ahead, ParseFault, Wanted};
 use plan_items::{Boxed, Items};
@@ -52,6 +52,16 @@ fn literal(alloc: Global, ahead: &Ahead<'_>) -> Result<Option<TypedValue>, Parse
     }
 }
 
+/// Whether a reserved word is a value by itself.
+fn is_literal_key(key: Key) -> bool
+    ensures { result ≡ is_some (spec.literal_key key) }
+{
+    match key {
+        Key::True | Key::False => true,
+        _ => false,
+    }
+}
+
 /// Whether the next token is a value by itself.
 fn is_literal(ahead: &Ahead<'_>) -> bool
     ensures { result ≡ is_some (spec.literal (next_kind ahead.now)) }
@@ -63,7 +73,7 @@ fn is_literal(ahead: &Ahead<'_>) -> bool
         Some(TokenKind::Char(_)) => true,
         Some(TokenKind::Str(_)) => true,
         Some(TokenKind::Blob(_)) => true,
-        Some(TokenKind::Key(key)) => literal_key(*key).is_some(),
+        Some(TokenKind::Key(key)) => is_literal_key(*key),
         _ => false,
     }
 }
@@ -89,6 +99,19 @@ pub fn literal_at(alloc: Global, ahead: &mut Ahead<'_>) -> Result<TypedValue, Pa
     Ok(item)
 }
 
+/// Adds a value and its type.
+fn add_item(values: &mut Values, types: &mut Tys, item: TypedValue) -> Result<(), ParseFault>
+    ensures whole { OnOk result ((values.new ≡ values.old ++ item.value ∷ []) × (types.new ≡
+        types.old ++ item.ty ∷ [])) }
+    ensures fault { IfErr result (λ e. e ≡ ParseFault.NoMemory) }
+{
+    let TypedValue { value, ty } = item;
+    match values.add(value) {
+        Ok(()) => Ok(types.add(ty)?),
+        Err(_refused) => Err(ParseFault::NoMemory),
+    }
+}
+
 /// Several values as a tuple.
 #[tactic(auto, using(crate::proofs::Items::values_last, crate::proofs::Items::types_last))]
 pub fn tuple_of(alloc: Global, items: Items<TypedValue>) -> Result<TypedValue, ParseFault>
@@ -97,8 +120,7 @@ pub fn tuple_of(alloc: Global, items: Items<TypedValue>) -> Result<TypedValue, P
     let mut values = Items::new(alloc);
     let mut types = Items::new(alloc);
     for item in items.into_vec() {
-        values.add(item.value)?;
-        types.add(item.ty)?;
+        add_item(&mut values, &mut types, item)?;
     }
     Ok(TypedValue {
         value: Value::Tuple(values),
@@ -110,9 +132,36 @@ pub fn tuple_of(alloc: Global, items: Items<TypedValue>) -> Result<TypedValue, P
 pub fn list_of(alloc: Global, ty: Ty, values: Values) -> Result<TypedValue, ParseFault>
     ensures { Answers (Ok (spec.list_of ty values)) result }
 {
-    let of = Boxed::new(alloc, ty.copy(alloc)?)?;
-    Ok(TypedValue {
-        value: Value::List(of, values),
-        ty: Ty::List(Boxed::new(alloc, ty)?),
-    })
+    match boxed_twice(alloc, ty) {
+        Ok((of, item)) => Ok(TypedValue {
+            value: Value::List(of, values),
+            ty: Ty::List(item),
+        }),
+        Err(fault) => Err(fault),
+    }
+}
+
+/// A type and a copy of it, in boxes.
+fn boxed_twice(alloc: Global, ty: Ty) -> Result<(Boxed<Ty>, Boxed<Ty>), ParseFault>
+    ensures { Answers (Ok (ty, ty)) result }
+{
+    match ty.copy(alloc) {
+        Ok(copy) => match Boxed::new(alloc, copy) {
+            Ok(copy) => match Boxed::new(alloc, ty) {
+                Ok(ty) => Ok((copy, ty)),
+                Err(_refused) => Err(ParseFault::NoMemory),
+            },
+            Err(_refused) => Err(ParseFault::NoMemory),
+        },
+        Err(_refused) => Err(ParseFault::NoMemory),
+    }
+}
+
+/// One value, as a list.
+pub fn one_value(alloc: Global, value: Value) -> Result<Values, ParseFault>
+    ensures { Answers (Ok (value ∷ [])) result }
+{
+    let mut values = Items::new(alloc);
+    values.add(value)?;
+    Ok(values)
 }

@@ -1,8 +1,12 @@
 //! What has been read of a program.
-use plan_base::{Funs, Names, Places, Svcs};
+ghost use Rattle.std.specs.Prelude.{Result, Ok, Err};
+ghost use Rattle.plan_grammar.specs.Ahead.{Answers};
+ghost use Rattle.plan_parser.specs.Programs as spec;
+
+use plan_base::{Draft, Funs, Names, Places, Program, Svcs};
+use plan_grammar::ParseFault;
 
 /// The declarations that were read, with their places and those of the expressions.
-#[derive(Drop)]
 pub struct Gathered {
     pub svcs: Svcs,
     pub exns: Names,
@@ -11,4 +15,51 @@ pub struct Gathered {
     pub exn_at: Places,
     pub fun_at: Places,
     pub node_at: Places,
+}
+
+// (with a drop of its own, so that a function which stops on its way lets it go by one call)
+impl Drop for Gathered {
+    fn drop(self) {
+        let Gathered {
+            svcs: _svcs,
+            exns: _exns,
+            funs: _funs,
+            svc_at: _svc_at,
+            exn_at: _exn_at,
+            fun_at: _fun_at,
+            node_at: _node_at,
+        } = self;
+    }
+}
+
+impl Gathered {
+    /// The draft that these declarations are.
+    pub fn into_draft(self) -> Result<Draft, ParseFault>
+        ensures { Answers (Ok (spec.draft_of self)) result }
+    {
+        let Gathered {
+            svcs,
+            exns,
+            funs,
+            svc_at,
+            mut exn_at,
+            fun_at,
+            node_at,
+        } = self;
+        let program = Program { svcs, exns, funs };
+        match exn_at.append(fun_at) {
+            Ok(()) => {
+                let mut decl_at = svc_at;
+                match decl_at.append(exn_at) {
+                    Ok(()) => Ok(Draft {
+                        program,
+                        decl_at,
+                        node_at,
+                    }),
+                    Err(_refused) => Err(ParseFault::NoMemory),
+                }
+            }
+            Err(_refused) => Err(ParseFault::NoMemory),
+        }
+    }
 }

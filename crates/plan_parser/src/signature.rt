@@ -1,6 +1,6 @@
 //! Reading the head of a declaration.
 ghost use Rattle.std.specs.Prelude.{◌≡◌, ◌≤◌, ◌-◌, ◌∷◌, [], length, Result, Ok, Err};
-ghost use Rattle.plan_grammar.specs.Ahead.{Gives};
+ghost use Rattle.plan_grammar.specs.Ahead.{Gives, Answers, ◌>>=◌ as and_then, need_symbol};
 ghost use Rattle.plan_grammar.specs.Types.{past, more};
 ghost use Rattle.plan_grammar.specs.Begins as begins;
 ghost use Rattle.plan_parser.specs.Signatures as spec;
@@ -57,15 +57,29 @@ fn more_types(alloc: Global, ahead: &mut Ahead<'_>, types: Tys) -> Result<Tys, P
     Ok(types)
 }
 
+/// One type, as a list.
+fn one_type(alloc: Global, ty: Ty) -> Result<Tys, ParseFault>
+    ensures { Answers (Ok (ty ∷ [])) result }
+{
+    let mut types = Items::new(alloc);
+    types.add(ty)?;
+    Ok(types)
+}
+
+/// The types of a service's arguments, up to the bracket.
 #[tactic(auto, unfolding(crate::specs::Signatures::arguments_from))]
 fn arguments_from(alloc: Global, ahead: &mut Ahead<'_>) -> Result<Tys, ParseFault>
     ensures { Gives (spec.arguments_from ahead.old) result ahead.new }
 {
-    let mut types = Items::new(alloc);
-    types.add(inner_type(alloc, ahead)?)?;
-    let types = more_types(alloc, ahead, types)?;
-    ahead.need_symbol(Symbol::ParenClose)?;
-    Ok(types)
+    let first = inner_type(alloc, ahead)?;
+    let types = one_type(alloc, first)?;
+    match more_types(alloc, ahead, types) {
+        Ok(types) => match ahead.need_symbol(Symbol::ParenClose) {
+            Ok(()) => Ok(types),
+            Err(fault) => Err(fault),
+        },
+        Err(fault) => Err(fault),
+    }
 }
 
 #[tactic(auto, unfolding(crate::specs::Signatures::arguments_behind))]
@@ -88,16 +102,37 @@ pub fn service_at(alloc: Global, ahead: &mut Ahead<'_>) -> Result<Svc, ParseFaul
     ensures { Gives (spec.service_at ahead.old) result ahead.new }
 {
     let name = name_at(alloc, ahead)?;
-    ahead.need_symbol(Symbol::Colon)?;
-    ahead.need_symbol(Symbol::ParenOpen)?;
-    let params = arguments_behind(alloc, ahead)?;
-    ahead.need_symbol(Symbol::Arrow)?;
-    let result = outer_type(alloc, ahead)?;
-    Ok(Svc {
-        name,
-        params,
-        result,
-    })
+    match ahead.need_symbol(Symbol::Colon) {
+        Ok(()) => match ahead.need_symbol(Symbol::ParenOpen) {
+            Ok(()) => service_of(alloc, ahead, name),
+            Err(fault) => Err(fault),
+        },
+        Err(fault) => Err(fault),
+    }
+}
+
+/// A service of that name, behind the bracket of its arguments.
+fn service_of(alloc: Global, ahead: &mut Ahead<'_>, name: Name) -> Result<Svc, ParseFault>
+    ensures { Gives (and_then (spec.arguments_behind ahead.old)
+        (λ params. and_then (need_symbol Symbol.Arrow params.1)
+        (λ arrow. and_then (spec.outer_type arrow.1)
+        (λ t. Ok (record { name = name; params = params.0; result = t.0 }, t.1))))) result
+        ahead.new }
+{
+    match arguments_behind(alloc, ahead) {
+        Ok(params) => match ahead.need_symbol(Symbol::Arrow) {
+            Ok(()) => match outer_type(alloc, ahead) {
+                Ok(result) => Ok(Svc {
+                    name,
+                    params,
+                    result,
+                }),
+                Err(fault) => Err(fault),
+            },
+            Err(fault) => Err(fault),
+        },
+        Err(fault) => Err(fault),
+    }
 }
 
 #[tactic(auto, unfolding(plan_grammar::specs::Begins::begins_name))]
@@ -124,9 +159,13 @@ fn param_at(alloc: Global, ahead: &mut Ahead<'_>) -> Result<Param, ParseFault>
     ensures { Gives (spec.param_at ahead.old) result ahead.new }
 {
     let name = name_at(alloc, ahead)?;
-    ahead.need_symbol(Symbol::Colon)?;
-    let ty = inner_type(alloc, ahead)?;
-    Ok(Param { name, ty })
+    match ahead.need_symbol(Symbol::Colon) {
+        Ok(()) => match inner_type(alloc, ahead) {
+            Ok(ty) => Ok(Param { name, ty }),
+            Err(fault) => Err(fault),
+        },
+        Err(fault) => Err(fault),
+    }
 }
 
 /// Further parameters behind commas.
@@ -147,15 +186,29 @@ fn more_params(alloc: Global, ahead: &mut Ahead<'_>, params: Params) -> Result<P
     Ok(params)
 }
 
+/// One parameter, as a list.
+fn one_param(alloc: Global, param: Param) -> Result<Params, ParseFault>
+    ensures { Answers (Ok (param ∷ [])) result }
+{
+    let mut params = Items::new(alloc);
+    params.add(param)?;
+    Ok(params)
+}
+
+/// The parameters of a function, up to the bracket.
 #[tactic(auto, unfolding(crate::specs::Signatures::params_from))]
 fn params_from(alloc: Global, ahead: &mut Ahead<'_>) -> Result<Params, ParseFault>
     ensures { Gives (spec.params_from ahead.old) result ahead.new }
 {
-    let mut params = Items::new(alloc);
-    params.add(param_at(alloc, ahead)?)?;
-    let params = more_params(alloc, ahead, params)?;
-    ahead.need_symbol(Symbol::ParenClose)?;
-    Ok(params)
+    let first = param_at(alloc, ahead)?;
+    let params = one_param(alloc, first)?;
+    match more_params(alloc, ahead, params) {
+        Ok(params) => match ahead.need_symbol(Symbol::ParenClose) {
+            Ok(()) => Ok(params),
+            Err(fault) => Err(fault),
+        },
+        Err(fault) => Err(fault),
+    }
 }
 
 #[tactic(auto, unfolding(crate::specs::Signatures::params_behind))]
@@ -178,14 +231,40 @@ pub fn head_at(alloc: Global, ahead: &mut Ahead<'_>) -> Result<Head, ParseFault>
     ensures { Gives (spec.head_at ahead.old) result ahead.new }
 {
     let name = name_at(alloc, ahead)?;
-    ahead.need_symbol(Symbol::ParenOpen)?;
-    let params = params_behind(alloc, ahead)?;
-    ahead.need_symbol(Symbol::Colon)?;
-    let result = outer_type(alloc, ahead)?;
-    ahead.need_symbol(Symbol::Equal)?;
-    Ok(Head {
-        name,
-        params,
-        result,
-    })
+    match ahead.need_symbol(Symbol::ParenOpen) {
+        Ok(()) => match params_behind(alloc, ahead) {
+            Ok(params) => head_of(alloc, ahead, name, params),
+            Err(fault) => Err(fault),
+        },
+        Err(fault) => Err(fault),
+    }
+}
+
+/// A head of that name and with those parameters, behind their bracket.
+fn head_of(
+    alloc: Global,
+    ahead: &mut Ahead<'_>,
+    name: Name,
+    params: Params,
+) -> Result<Head, ParseFault>
+    ensures { Gives (and_then (need_symbol Symbol.Colon ahead.old)
+        (λ colon. and_then (spec.outer_type colon.1)
+        (λ t. and_then (need_symbol Symbol.Equal t.1)
+        (λ equal. Ok (record { name = name; params = params; result = t.0 }, equal.1)))))
+        result ahead.new }
+{
+    match ahead.need_symbol(Symbol::Colon) {
+        Ok(()) => match outer_type(alloc, ahead) {
+            Ok(result) => match ahead.need_symbol(Symbol::Equal) {
+                Ok(()) => Ok(Head {
+                    name,
+                    params,
+                    result,
+                }),
+                Err(fault) => Err(fault),
+            },
+            Err(fault) => Err(fault),
+        },
+        Err(fault) => Err(fault),
+    }
 }

@@ -8,7 +8,7 @@ ghost use Rattle.plan_parser.specs.Values as spec;
 ghost use Rattle.plan_parser.specs.Values.{value_of, args_of};
 ghost use Rattle.plan_parser.specs.ReadTexts.{Reads, Fails};
 
-use crate::item::{TypedValue, begins_value};
+use crate::item::{TypedValue, begins_value, one_value};
 use crate::value_fault::ValueFault;
 use crate::values::{MOST_NESTED, past_value, value_to};
 use plan_base::{Limit, Value, Values};
@@ -32,8 +32,13 @@ fn need_end(ahead: &Ahead<'_>) -> Result<(), ParseFault>
 fn argument_at(alloc: Global, ahead: &mut Ahead<'_>) -> Result<Value, ParseFault>
     ensures { Gives (spec.argument_at ahead.old) result ahead.new }
 {
-    let TypedValue { value, ty: _ } = value_to(alloc, 1, MOST_NESTED + 1, ahead)?;
-    Ok(value)
+    match value_to(alloc, 1, MOST_NESTED + 1, ahead) {
+        Ok(item) => {
+            let TypedValue { value, ty: _ty } = item;
+            Ok(value)
+        }
+        Err(fault) => Err(fault),
+    }
 }
 
 /// Further arguments behind commas.
@@ -58,11 +63,15 @@ fn more_arguments(alloc: Global, ahead: &mut Ahead<'_>, args: Values) -> Result<
 fn arguments_from(alloc: Global, ahead: &mut Ahead<'_>) -> Result<Values, ParseFault>
     ensures { Gives (spec.arguments_from ahead.old) result ahead.new }
 {
-    let mut args = Items::new(alloc);
-    args.add(argument_at(alloc, ahead)?)?;
-    let args = more_arguments(alloc, ahead, args)?;
-    ahead.need_symbol(Symbol::ParenClose)?;
-    Ok(args)
+    let first = argument_at(alloc, ahead)?;
+    let args = one_value(alloc, first)?;
+    match more_arguments(alloc, ahead, args) {
+        Ok(args) => match ahead.need_symbol(Symbol::ParenClose) {
+            Ok(()) => Ok(args),
+            Err(fault) => Err(fault),
+        },
+        Err(fault) => Err(fault),
+    }
 }
 
 #[tactic(auto, unfolding(crate::specs::Values::arguments_behind))]
@@ -84,9 +93,17 @@ fn value_of(alloc: Global, tokens: &[Token], end: u32) -> Result<Value, ParseFau
     ensures { Answers (value_of tokens.now end) result }
 {
     let mut ahead = Ahead::over(tokens, end);
-    let TypedValue { value, ty: _ } = value_to(alloc, 0, MOST_NESTED + 1, &mut ahead)?;
-    need_end(&ahead)?;
-    Ok(value)
+    let item = value_to(alloc, 0, MOST_NESTED + 1, &mut ahead)?;
+    match need_end(&ahead) {
+        Ok(()) => {
+            let TypedValue { value, ty: _ty } = item;
+            Ok(value)
+        }
+        Err(fault) => {
+            drop(item);
+            Err(fault)
+        }
+    }
 }
 
 #[tactic(auto, unfolding(crate::specs::Values::args_of))]
@@ -96,8 +113,10 @@ fn args_of(alloc: Global, tokens: &[Token], end: u32) -> Result<Values, ParseFau
     let mut ahead = Ahead::over(tokens, end);
     ahead.need_symbol(Symbol::ParenOpen)?;
     let args = arguments_behind(alloc, &mut ahead)?;
-    need_end(&ahead)?;
-    Ok(args)
+    match need_end(&ahead) {
+        Ok(()) => Ok(args),
+        Err(fault) => Err(fault),
+    }
 }
 
 /// The value that a text of at most 65,536 bytes is: a literal, `()`, a tuple, `[:t]`, or items of one type in

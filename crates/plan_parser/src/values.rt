@@ -7,7 +7,7 @@ ghost use Rattle.plan_parser.specs.Values as spec;
 ghost use Rattle.plan_parser.specs.Values.{value_to};
 ghost use Rattle.plan_parser.specs.InsideValues.{ReadsValues};
 
-use crate::item::{TypedValue, begins_value, list_of, literal_at, tuple_of, with_type};
+use crate::item::{TypedValue, begins_value, list_of, literal_at, one_value, tuple_of, with_type};
 use plan_base::{Limit, Ty, Value, Values};
 use plan_equality::Same;
 use plan_grammar::{Ahead, MOST_ITEMS, MOST_PARTS, ParseFault, Wanted, opens, type_to};
@@ -47,9 +47,11 @@ fn judge_item(t: &Ty, at: u32, item: TypedValue, ahead: &Ahead<'_>) -> Result<Va
     ensures { Gives (spec.judged_item t.now at item ahead.now) result ahead.now }
 {
     if !item.ty.is(t) {
+        drop(item);
         return Err(ParseFault::Expected(Wanted::AValue, at));
     }
-    Ok(item.value)
+    let TypedValue { value, ty: _ty } = item;
+    Ok(value)
 }
 
 /// Refuses an empty list of such a type where it is too deep.
@@ -108,9 +110,13 @@ impl<F: Fn(Global, u32, u32, &mut Ahead<'_>) -> Result<TypedValue, ParseFault>> 
     {
         let mut parts = Items::new(self.alloc);
         parts.add(first)?;
-        let parts = self.more_parts(ahead, parts)?;
-        ahead.need_symbol(Symbol::ParenClose)?;
-        tuple_of(self.alloc, parts)
+        match self.more_parts(ahead, parts) {
+            Ok(parts) => match ahead.need_symbol(Symbol::ParenClose) {
+                Ok(()) => tuple_of(self.alloc, parts),
+                Err(fault) => Err(fault),
+            },
+            Err(fault) => Err(fault),
+        }
     }
 
     /// There must be a second part.
@@ -122,6 +128,7 @@ impl<F: Fn(Global, u32, u32, &mut Ahead<'_>) -> Result<TypedValue, ParseFault>> 
             self.now.room first ahead.old) result ahead.new }
     {
         if !ahead.is_symbol(Symbol::Comma) {
+            drop(first);
             return Err(ParseFault::Expected(Wanted::Symbol(Symbol::Comma), ahead.place()));
         }
         self.tuple_from(ahead, first)
@@ -205,11 +212,16 @@ impl<F: Fn(Global, u32, u32, &mut Ahead<'_>) -> Result<TypedValue, ParseFault>> 
             self.now.room ahead.old) result ahead.new }
     {
         let TypedValue { value, ty } = self.inner(ahead)?;
-        let mut items = Items::new(self.alloc);
-        items.add(value)?;
-        let items = self.more_items(ahead, &ty, items)?;
-        ahead.need_symbol(Symbol::BracketClose)?;
-        list_of(self.alloc, ty, items)
+        match one_value(self.alloc, value) {
+            Ok(items) => match self.more_items(ahead, &ty, items) {
+                Ok(items) => match ahead.need_symbol(Symbol::BracketClose) {
+                    Ok(()) => list_of(self.alloc, ty, items),
+                    Err(fault) => Err(fault),
+                },
+                Err(fault) => Err(fault),
+            },
+            Err(fault) => Err(fault),
+        }
     }
 
     /// An empty list with its element type, where 160 constructs may be open.
@@ -221,9 +233,13 @@ impl<F: Fn(Global, u32, u32, &mut Ahead<'_>) -> Result<TypedValue, ParseFault>> 
     {
         ahead.skip();
         let t = type_to(self.alloc, 153 + self.room - self.outside, ahead)?;
-        fits(self.room, at, &t)?;
-        ahead.need_symbol(Symbol::BracketClose)?;
-        list_of(self.alloc, t, Items::new(self.alloc))
+        match fits(self.room, at, &t) {
+            Ok(()) => match ahead.need_symbol(Symbol::BracketClose) {
+                Ok(()) => list_of(self.alloc, t, Items::new(self.alloc)),
+                Err(fault) => Err(fault),
+            },
+            Err(fault) => Err(fault),
+        }
     }
 
     /// What a square bracket begins.

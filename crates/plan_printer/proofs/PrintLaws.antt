@@ -3,7 +3,6 @@ use Rattle.std.proofs.Common.{◌≡◌, ℕ, refl, sym, ap, ◌∙◌, ◌<◌,
 use Rattle.std.specs.Prelude.{map, codes}
 use Rattle.plan_base.specs.declared.tree.Ty.{Ty, Ty-F, out-Ty, map-Ty, fold_out-Ty}
 use Rattle.plan_base.specs.declared.tree.Expr.{Expr, Expr-F, out-Expr, map-Expr, fold_out-Expr}
-use Rattle.plan_base.specs.declared.tree.Expr.TheVariants as x
 use Rattle.plan_base.specs.declared.tree.Clause.{Clause, fold-Clause, fold_out-Clause}
 use Rattle.printed_forms.specs.Pieces.{listed_pieces, commas}
 use Rattle.printed_forms.specs.Printed.{empty_text, values_text, type_text_level, type_text, expr_text_level, expr_text, clause_text_level, clause_text}
@@ -46,26 +45,8 @@ pub values_text_some : {X : Type 0} (print : X → List ℕ) (t : Ty) (vs : List
 values_text_some print t [] h = absurd (omega arith)
 values_text_some print t (v ∷ vs) h = refl
 
-four_more : (a s t u v : List ℕ) → (((a ++ s) ++ t) ++ u) ++ v ≡ a ++ (s ++ (t ++ (u ++ v)))
-four_more a s t u v = append_assoc ((a ++ s) ++ t) u v ∙ (append_assoc (a ++ s) t (u ++ v) ∙ append_assoc a s (t ++ (u ++ v)))
-
-two_more : (a s t u : List ℕ) → a ++ ((s ++ t) ++ u) ≡ ((a ++ s) ++ t) ++ u
-two_more a s t u = ap (λ z. a ++ z) (append_assoc s t u) ∙ sym (append_assoc (a ++ s) t u ∙ append_assoc a s (t ++ u))
-
-neighbor_parts : (first h n d sep close : List ℕ) → first ++ ((h ++ sep) ++ ((n ++ sep) ++ (d ++ close))) ≡ (((((first ++ h) ++ sep) ++ n) ++ sep) ++ d) ++ close
-neighbor_parts first h n d sep close =
-    two_more first h sep ((n ++ sep) ++ (d ++ close)) ∙ (two_more ((first ++ h) ++ sep) n sep (d ++ close)
-    ∙ sym (append_assoc ((((first ++ h) ++ sep) ++ n) ++ sep) d close))
-
--- the four steps in which an `OnNeighbor` is put
-pub neighbor_put : (e c h n d c' h' n' d' : Expr) (a p q r s : List ℕ) → e ≡ x.OnNeighbor c h n d → c' ≡ c → h' ≡ h → n' ≡ n → d' ≡ d
-    → p ≡ a ++ (codes "OnNeighbor(" ++ expr_text c' ++ codes ", ") → q ≡ p ++ (codes "" ++ expr_text h' ++ codes ", ") → r ≡ q ++ (codes "" ++ expr_text n' ++ codes ", ")
-    → s ≡ r ++ (codes "" ++ expr_text d' ++ codes ")") → s ≡ a ++ expr_text e
-neighbor_put e c h n d c' h' n' d' a p q r s is ec eh en ed ep eq er es =
-    let put : List ℕ → Expr → List ℕ → List ℕ = λ before v after. before ++ expr_text v ++ after in
-    let o : out-Expr e ≡ Expr-F.OnNeighbor c h n d = ap out-Expr is ∙ x.outs-OnNeighbor c h n d in
-    es ∙ (ap (λ z. z ++ put [] d' (codes ")")) (er ∙ ap (λ z. z ++ put [] n' (codes ", ")) (eq ∙ ap (λ z. z ++ put [] h' (codes ", ")) ep))
-    ∙ ((λ i. (((a ++ put (codes "OnNeighbor(") (ec i) (codes ", ")) ++ put [] (eh i) (codes ", ")) ++ put [] (en i) (codes ", ")) ++ put [] (ed i) (codes ")"))
-    ∙ (four_more a (put (codes "OnNeighbor(") c (codes ", ")) (put [] h (codes ", ")) (put [] n (codes ", ")) (put [] d (codes ")"))
-    ∙ ap (λ z. a ++ z) (neighbor_parts (put (codes "OnNeighbor(") c (codes ", ")) (expr_text h) (expr_text n) (expr_text d) (codes ", ") (codes ")")
-    ∙ sym (expr_text_out e ∙ ap (expr_text_level expr_text clause_text) o)))))
+-- two pieces put behind one another, of which the second has four parts
+pub pieces_put : (a x n k d e p s : List ℕ) → p ≡ a ++ x → s ≡ p ++ (((n ++ k) ++ d) ++ e) → s ≡ a ++ ((((x ++ n) ++ k) ++ d) ++ e)
+pieces_put a x n k d e p s first second =
+    second ∙ (ap (λ z. z ++ (((n ++ k) ++ d) ++ e)) first ∙ (append_assoc a x (((n ++ k) ++ d) ++ e)
+    ∙ ap (λ z. a ++ z) (sym (append_assoc x ((n ++ k) ++ d) e) ∙ (ap (λ z. z ++ e) (sym (append_assoc x (n ++ k) d)) ∙ ap (λ z. (z ++ d) ++ e) (sym (append_assoc x n k))))))

@@ -5,7 +5,7 @@ ghost use Rattle.printed_forms.specs.Literals.{int_text, host_text, dev_text, he
 ghost use Rattle.printed_forms.specs.Pieces.{scalar_text};
 ghost use Rattle.printed_forms.specs.Printed.{bool_text};
 
-use plan_base::{Bytes, NoMemory};
+use plan_base::{Bytes, Name, NoMemory};
 use std::alloc::Global;
 
 /// Adds bytes at the end, or none where memory is refused.
@@ -14,6 +14,21 @@ pub fn put(out: &mut Bytes, more: &[u8]) -> Result<(), NoMemory>
 {
     out.add_all(more)?;
     Ok(())
+}
+
+/// A name between two texts.
+#[tactic(auto, using(std::proofs::Common::append_assoc))]
+pub(crate) fn put_named(
+    before: &[u8],
+    name: &Name,
+    after: &[u8],
+    out: &mut Bytes,
+) -> Result<(), NoMemory>
+    ensures { OnOk result (out.new ≡ out.old ++ (before.now ++ name.now ++ after.now)) }
+{
+    put(out, before)?;
+    put(out, name.as_slice())?;
+    put(out, after)
 }
 
 /// A number in decimal digits.

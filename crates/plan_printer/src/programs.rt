@@ -5,9 +5,10 @@ ghost use Rattle.printed_forms.specs.Pieces.{listed_pieces, commas};
 ghost use Rattle.printed_forms.specs.Printed.{type_text, op_text, nil_text, raise_text, expr_text, catch_text, clause_text, svc_text, exn_text, param_text, fun_text, program_text};
 
 use crate::pieces::{
-    put, put_blob, put_bool, put_char, put_decimal, put_dev, put_host, put_int, put_string,
+    put, put_blob, put_bool, put_char, put_decimal, put_dev, put_host, put_int, put_named,
+    put_string,
 };
-use crate::types::{put_empty, put_type, put_types};
+use crate::types::{put_empty, put_type, put_typed, put_types};
 use plan_base::{Bytes, Clause, Expr, Fun, Name, NoMemory, Op, Param, Program, Svc, Ty};
 use std::alloc::Global;
 
@@ -73,19 +74,9 @@ fn put_raise(name: &Name, t: &Option<Ty>, out: &mut Bytes) -> Result<(), NoMemor
     }
 }
 
-/// A name between two texts.
-#[tactic(auto, using(std::proofs::Common::append_assoc))]
-fn put_named(before: &[u8], name: &Name, after: &[u8], out: &mut Bytes) -> Result<(), NoMemory>
-    ensures { OnOk result (out.new ≡ out.old ++ (before.now ++ name.now ++ after.now)) }
-{
-    put(out, before)?;
-    put(out, name.as_slice())?;
-    put(out, after)
-}
-
 /// An expression.
 #[cycle(put_expr)]
-#[tactic(auto, using(crate::proofs::PrintLaws::expr_text_out, plan_base::specs::Trees::trees, std::proofs::Common::append_assoc))]
+#[tactic(auto, using(crate::proofs::PrintLaws::expr_text_out, plan_base::proofs::SizeLaws::expr_nodes_out, plan_base::specs::Trees::trees))]
 fn put_expr(alloc: Global, e: &Expr, out: &mut Bytes) -> Result<(), NoMemory>
     ensures { OnOk result (out.new ≡ out.old ++ expr_text e.now) }
 {
@@ -100,80 +91,25 @@ fn put_expr(alloc: Global, e: &Expr, out: &mut Bytes) -> Result<(), NoMemory>
         Expr::Dev(d) => put_dev(alloc, d.0, out),
         Expr::Nil(t) => put_nil(t, out),
         Expr::Var(x) => put(out, x.as_slice()),
-        Expr::Tuple(es) => {
-            put(out, b"(")?;
-            put_args(alloc, es.as_slice(), out)
-        }
-        Expr::Call(f, es) => {
-            put_named(b"", f, b"(", out)?;
-            put_args(alloc, es.as_slice(), out)
-        }
-        Expr::ChunkOf(f, es) => {
-            put_named(b"|", f, b"|(", out)?;
-            put_args(alloc, es.as_slice(), out)
-        }
-        Expr::If(c, a, b) => {
-            put_around(alloc, b"(if ", c.get(), b" then ", out)?;
-            put_around(alloc, b"", a.get(), b" else ", out)?;
-            put_around(alloc, b"", b.get(), b")", out)
-        }
-        Expr::Let(x, t, a, b) => {
-            put_named(b"let val ", x, b" : ", out)?;
-            put_type(t, out)?;
-            put_around(alloc, b" = ", a.get(), b" in ", out)?;
-            put_around(alloc, b"", b.get(), b" end", out)
-        }
-        Expr::Then(a, b) => {
-            put_around(alloc, b"(", a.get(), b"; ", out)?;
-            put_around(alloc, b"", b.get(), b")", out)
-        }
-        Expr::And(a, b) => {
-            put_around(alloc, b"(", a.get(), b" and ", out)?;
-            put_around(alloc, b"", b.get(), b")", out)
-        }
-        Expr::Or(a, b) => {
-            put_around(alloc, b"(", a.get(), b" or ", out)?;
-            put_around(alloc, b"", b.get(), b")", out)
-        }
+        Expr::Tuple(es) => put_args(alloc, b"(", es.as_slice(), out),
+        Expr::Call(f, es) => put_call(alloc, b"", f, b"(", es.as_slice(), out),
+        Expr::ChunkOf(f, es) => put_call(alloc, b"|", f, b"|(", es.as_slice(), out),
+        Expr::If(c, a, b) => put_choice(alloc, c.get(), a.get(), b.get(), out),
+        Expr::Let(x, t, a, b) => put_binding(alloc, x, t, a.get(), b.get(), out),
+        Expr::Then(a, b) => put_both(alloc, b"(", a.get(), b"; ", b.get(), b")", out),
+        Expr::And(a, b) => put_both(alloc, b"(", a.get(), b" and ", b.get(), b")", out),
+        Expr::Or(a, b) => put_both(alloc, b"(", a.get(), b" or ", b.get(), b")", out),
         Expr::Not(a) => put_around(alloc, b"(not ", a.get(), b")", out),
-        Expr::Binary(op, a, b) => {
-            put_around(alloc, b"(", a.get(), b" ", out)?;
-            put(out, op_spelling(*op))?;
-            put_around(alloc, b" ", b.get(), b")", out)
-        }
-        Expr::Part(i, a) => {
-            put(out, b"(#")?;
-            put_decimal(alloc, u64::from(*i), out)?;
-            put_around(alloc, b" ", a.get(), b")", out)
-        }
+        Expr::Binary(op, a, b) => put_operation(alloc, *op, a.get(), b.get(), out),
+        Expr::Part(i, a) => put_part(alloc, *i, a.get(), out),
         Expr::Raise(x, t) => put_raise(x, t, out),
-        Expr::Try(a, clauses) => {
-            put_around(alloc, b"try ", a.get(), b" handle ", out)?;
-            put_clauses(alloc, clauses.as_slice(), out)?;
-            put(out, b" end")
-        }
-        Expr::Foldl(f, a, l) => {
-            put_named(b"foldl(", f, b", ", out)?;
-            put_around(alloc, b"", a.get(), b", ", out)?;
-            put_around(alloc, b"", l.get(), b")", out)
-        }
-        Expr::Foldr(f, a, l) => {
-            put_named(b"foldr(", f, b", ", out)?;
-            put_around(alloc, b"", a.get(), b", ", out)?;
-            put_around(alloc, b"", l.get(), b")", out)
-        }
+        Expr::Try(a, clauses) => put_try(alloc, a.get(), clauses.as_slice(), out),
+        Expr::Foldl(f, a, l) => put_fold(alloc, b"foldl(", f, a.get(), l.get(), out),
+        Expr::Foldr(f, a, l) => put_fold(alloc, b"foldr(", f, a.get(), l.get(), out),
         Expr::Eval(c) => put_around(alloc, b"eval(", c.get(), b")", out),
-        Expr::OnRemote(c, h, n, r) => {
-            put_around(alloc, b"OnRemote(", c.get(), b", ", out)?;
-            put_around(alloc, b"", h.get(), b", ", out)?;
-            put_around(alloc, b"", n.get(), b", ", out)?;
-            put_named(b"", r, b")", out)
-        }
+        Expr::OnRemote(c, h, n, r) => put_remote(alloc, c.get(), h.get(), n.get(), r, out),
         Expr::OnNeighbor(c, h, n, d) => {
-            put_around(alloc, b"OnNeighbor(", c.get(), b", ", out)?;
-            put_around(alloc, b"", h.get(), b", ", out)?;
-            put_around(alloc, b"", n.get(), b", ", out)?;
-            put_around(alloc, b"", d.get(), b")", out)
+            put_neighbour(alloc, c.get(), h.get(), n.get(), d.get(), out)
         }
     }
 }
@@ -195,12 +131,187 @@ fn put_around(
     put(out, after)
 }
 
-/// Expressions up to their closing bracket.
+/// Two expressions with a text before, between and behind them.
 #[cycle(put_expr)]
 #[tactic(auto, using(std::proofs::Common::append_assoc))]
-fn put_args(alloc: Global, args: &[Expr], out: &mut Bytes) -> Result<(), NoMemory>
-    ensures { OnOk result (out.new ≡ out.old ++ (commas expr_text args.now ++ codes ")")) }
+fn put_both(
+    alloc: Global,
+    before: &[u8],
+    first: &Expr,
+    between: &[u8],
+    second: &Expr,
+    after: &[u8],
+    out: &mut Bytes,
+) -> Result<(), NoMemory>
+    ensures { OnOk result (out.new ≡ out.old ++ (before.now ++ expr_text first.now ++ between.now ++
+        expr_text second.now ++ after.now)) }
 {
+    put_around(alloc, before, first, between, out)?;
+    put_around(alloc, b"", second, after, out)
+}
+
+/// An `if`.
+#[cycle(put_expr)]
+#[tactic(auto, using(std::proofs::Common::append_assoc))]
+fn put_choice(
+    alloc: Global,
+    condition: &Expr,
+    first: &Expr,
+    second: &Expr,
+    out: &mut Bytes,
+) -> Result<(), NoMemory>
+    ensures { OnOk result (out.new ≡ out.old ++ (codes "(if " ++ expr_text condition.now ++ codes " then "
+        ++ expr_text first.now ++ codes " else " ++ expr_text second.now ++ codes ")")) }
+{
+    put_around(alloc, b"(if ", condition, b" then ", out)?;
+    put_both(alloc, b"", first, b" else ", second, b")", out)
+}
+
+/// A `let`.
+#[cycle(put_expr)]
+#[tactic(auto, using(std::proofs::Common::append_assoc))]
+fn put_binding(
+    alloc: Global,
+    name: &Name,
+    ty: &Ty,
+    value: &Expr,
+    body: &Expr,
+    out: &mut Bytes,
+) -> Result<(), NoMemory>
+    ensures { OnOk result (out.new ≡ out.old ++ (codes "let val " ++ name.now ++ codes " : " ++
+        type_text ty.now ++ codes " = " ++ expr_text value.now ++ codes " in " ++ expr_text body.now ++
+        codes " end")) }
+{
+    put_named(b"let val ", name, b" : ", out)?;
+    put_typed(b"", ty, b" = ", out)?;
+    put_both(alloc, b"", value, b" in ", body, b" end", out)
+}
+
+/// Two operands with an operator between them.
+#[cycle(put_expr)]
+#[tactic(auto, using(std::proofs::Common::append_assoc))]
+fn put_operation(
+    alloc: Global,
+    op: Op,
+    first: &Expr,
+    second: &Expr,
+    out: &mut Bytes,
+) -> Result<(), NoMemory>
+    ensures { OnOk result (out.new ≡ out.old ++ (codes "(" ++ expr_text first.now ++ codes " " ++
+        op_text op ++ codes " " ++ expr_text second.now ++ codes ")")) }
+{
+    put_around(alloc, b"(", first, b" ", out)?;
+    put(out, op_spelling(op))?;
+    put_around(alloc, b" ", second, b")", out)
+}
+
+/// The part of a tuple with a number.
+#[cycle(put_expr)]
+#[tactic(auto, using(std::proofs::Common::append_assoc))]
+fn put_part(alloc: Global, number: u8, tuple: &Expr, out: &mut Bytes) -> Result<(), NoMemory>
+    ensures { OnOk result (out.new ≡ out.old ++ (codes "(#" ++ decimal number ++ codes " " ++
+        expr_text tuple.now ++ codes ")")) }
+{
+    put(out, b"(#")?;
+    put_decimal(alloc, u64::from(number), out)?;
+    put_around(alloc, b" ", tuple, b")", out)
+}
+
+/// A `try` with its clauses.
+#[cycle(put_expr)]
+#[tactic(auto, using(std::proofs::Common::append_assoc))]
+fn put_try(alloc: Global, body: &Expr, clauses: &[Clause], out: &mut Bytes) -> Result<(), NoMemory>
+    ensures { OnOk result (out.new ≡ out.old ++ (codes "try " ++ expr_text body.now ++
+        codes " handle " ++ listed_pieces (codes " | ") [] clause_text clauses.now ++
+        codes " end")) }
+{
+    put_around(alloc, b"try ", body, b" handle ", out)?;
+    put_clauses(alloc, clauses, out)?;
+    put(out, b" end")
+}
+
+/// A fold over a list, behind the text that begins it.
+#[cycle(put_expr)]
+#[tactic(auto, using(std::proofs::Common::append_assoc))]
+fn put_fold(
+    alloc: Global,
+    before: &[u8],
+    name: &Name,
+    start: &Expr,
+    list: &Expr,
+    out: &mut Bytes,
+) -> Result<(), NoMemory>
+    ensures { OnOk result (out.new ≡ out.old ++ (before.now ++ name.now ++ codes ", " ++
+        expr_text start.now ++ codes ", " ++ expr_text list.now ++ codes ")")) }
+{
+    put_named(before, name, b", ", out)?;
+    put_both(alloc, b"", start, b", ", list, b")", out)
+}
+
+/// An `OnRemote`.
+#[cycle(put_expr)]
+#[tactic(auto, using(std::proofs::Common::append_assoc))]
+fn put_remote(
+    alloc: Global,
+    chunk: &Expr,
+    host: &Expr,
+    bound: &Expr,
+    route: &Name,
+    out: &mut Bytes,
+) -> Result<(), NoMemory>
+    ensures { OnOk result (out.new ≡ out.old ++ (codes "OnRemote(" ++ expr_text chunk.now ++ codes ", "
+        ++ expr_text host.now ++ codes ", " ++ expr_text bound.now ++ codes ", " ++ route.now ++ codes ")")) }
+{
+    put_both(alloc, b"OnRemote(", chunk, b", ", host, b", ", out)?;
+    put_around(alloc, b"", bound, b", ", out)?;
+    put_named(b"", route, b")", out)
+}
+
+/// An `OnNeighbor`.
+#[cycle(put_expr)]
+#[tactic(auto, using(std::proofs::Common::append_assoc))]
+fn put_neighbour(
+    alloc: Global,
+    chunk: &Expr,
+    host: &Expr,
+    bound: &Expr,
+    device: &Expr,
+    out: &mut Bytes,
+) -> Result<(), NoMemory>
+    ensures { OnOk result (out.new ≡ out.old ++ (codes "OnNeighbor(" ++ expr_text chunk.now ++
+        codes ", " ++ expr_text host.now ++ codes ", " ++ expr_text bound.now ++ codes ", " ++
+        expr_text device.now ++ codes ")")) }
+{
+    put_both(alloc, b"OnNeighbor(", chunk, b", ", host, b", ", out)?;
+    put_both(alloc, b"", bound, b", ", device, b")", out)
+}
+
+/// A call: a name between two texts, and arguments.
+#[cycle(put_expr)]
+#[tactic(auto, using(std::proofs::Common::append_assoc))]
+fn put_call(
+    alloc: Global,
+    before: &[u8],
+    name: &Name,
+    after: &[u8],
+    args: &[Expr],
+    out: &mut Bytes,
+) -> Result<(), NoMemory>
+    ensures { OnOk result (out.new ≡ out.old ++ (before.now ++ name.now ++ after.now ++
+        commas expr_text args.now ++ codes ")")) }
+{
+    put_named(before, name, after, out)?;
+    put_args(alloc, b"", args, out)
+}
+
+/// Expressions behind a text, up to their closing bracket.
+#[cycle(put_expr)]
+#[tactic(auto, using(std::proofs::Common::append_assoc))]
+fn put_args(alloc: Global, before: &[u8], args: &[Expr], out: &mut Bytes) -> Result<(), NoMemory>
+    ensures { OnOk result (out.new ≡ out.old ++ (before.now ++ commas expr_text args.now ++
+        codes ")")) }
+{
+    put(out, before)?;
     put_exprs(alloc, args, out)?;
     put(out, b")")
 }
@@ -260,13 +371,9 @@ fn put_clause(alloc: Global, clause: &Clause, out: &mut Bytes) -> Result<(), NoM
 fn put_svc(svc: &Svc, out: &mut Bytes) -> Result<(), NoMemory>
     ensures { OnOk result (out.new ≡ out.old ++ svc_text svc.now) }
 {
-    put(out, b"svc ")?;
-    put(out, svc.name.as_slice())?;
-    put(out, b" : (")?;
+    put_named(b"svc ", &svc.name, b" : (", out)?;
     put_types(b", ", svc.params.as_slice(), out)?;
-    put(out, b") -> ")?;
-    put_type(&svc.result, out)?;
-    put(out, b"\n")
+    put_typed(b") -> ", &svc.result, b"\n", out)
 }
 
 /// The declared services.
@@ -284,9 +391,7 @@ fn put_svcs(svcs: &[Svc], out: &mut Bytes) -> Result<(), NoMemory>
 fn put_exn(name: &Name, out: &mut Bytes) -> Result<(), NoMemory>
     ensures { OnOk result (out.new ≡ out.old ++ exn_text name.now) }
 {
-    put(out, b"exception ")?;
-    put(out, name.as_slice())?;
-    put(out, b"\n")
+    put_named(b"exception ", name, b"\n", out)
 }
 
 /// The declared exceptions.
@@ -304,8 +409,7 @@ fn put_exns(names: &[Name], out: &mut Bytes) -> Result<(), NoMemory>
 fn put_param(param: &Param, out: &mut Bytes) -> Result<(), NoMemory>
     ensures { OnOk result (out.new ≡ out.old ++ param_text param.now) }
 {
-    put(out, param.name.as_slice())?;
-    put(out, b" : ")?;
+    put_named(b"", &param.name, b" : ", out)?;
     put_type(&param.ty, out)
 }
 
@@ -327,15 +431,10 @@ fn put_params(params: &[Param], out: &mut Bytes) -> Result<(), NoMemory>
 fn put_fun(alloc: Global, fun: &Fun, out: &mut Bytes) -> Result<(), NoMemory>
     ensures { OnOk result (out.new ≡ out.old ++ fun_text fun.now) }
 {
-    put(out, b"fun ")?;
-    put(out, fun.name.as_slice())?;
-    put(out, b"(")?;
+    put_named(b"fun ", &fun.name, b"(", out)?;
     put_params(fun.params.as_slice(), out)?;
-    put(out, b") : ")?;
-    put_type(&fun.result, out)?;
-    put(out, b" = ")?;
-    put_expr(alloc, &fun.body, out)?;
-    put(out, b"\n")
+    put_typed(b") : ", &fun.result, b" = ", out)?;
+    put_around(alloc, b"", &fun.body, b"\n", out)
 }
 
 /// The functions.

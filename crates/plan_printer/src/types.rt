@@ -59,12 +59,24 @@ pub(crate) fn put_types(between: &[u8], types: &[Ty], out: &mut Bytes) -> Result
     Ok(())
 }
 
-/// The empty list with an element type.
+/// A type between two texts.
 #[tactic(auto, using(std::proofs::Common::append_assoc))]
+pub(crate) fn put_typed(
+    before: &[u8],
+    t: &Ty,
+    after: &[u8],
+    out: &mut Bytes,
+) -> Result<(), NoMemory>
+    ensures { OnOk result (out.new ≡ out.old ++ (before.now ++ type_text t.now ++ after.now)) }
+{
+    put(out, before)?;
+    put_type(t, out)?;
+    put(out, after)
+}
+
+/// The empty list with an element type.
 pub(crate) fn put_empty(t: &Ty, out: &mut Bytes) -> Result<(), NoMemory>
     ensures { OnOk result (out.new ≡ out.old ++ empty_text t.now) }
 {
-    put(out, b"[:")?;
-    put_type(t, out)?;
-    put(out, b"]")
+    put_typed(b"[:", t, b"]", out)
 }

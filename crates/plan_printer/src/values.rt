@@ -3,7 +3,8 @@ ghost use Rattle.printed_forms.specs.Pieces.{commas};
 ghost use Rattle.printed_forms.specs.Printed.{value_text, chunk_text};
 
 use crate::pieces::{
-    put, put_blob, put_bool, put_char, put_decimal, put_dev, put_host, put_int, put_string,
+    put, put_blob, put_bool, put_char, put_decimal, put_dev, put_host, put_int, put_named,
+    put_string,
 };
 use crate::types::put_empty;
 use plan_base::{Bytes, Chunk, NoMemory, Value};
@@ -41,16 +42,28 @@ fn put_value(alloc: Global, v: &Value, out: &mut Bytes) -> Result<(), NoMemory>
             if vs.len() == 0 {
                 return put_empty(t.get(), out);
             }
-            put(out, b"[")?;
-            put_values(alloc, vs.as_slice(), out)?;
-            put(out, b"]")
+            put_between(alloc, b"[", vs.as_slice(), b"]", out)
         }
-        Value::Tuple(vs) => {
-            put(out, b"(")?;
-            put_values(alloc, vs.as_slice(), out)?;
-            put(out, b")")
-        }
+        Value::Tuple(vs) => put_between(alloc, b"(", vs.as_slice(), b")", out),
     }
+}
+
+/// Values with commas, between two texts.
+#[cycle(put_value)]
+#[tactic(auto, using(std::proofs::Common::append_assoc))]
+fn put_between(
+    alloc: Global,
+    before: &[u8],
+    values: &[Value],
+    after: &[u8],
+    out: &mut Bytes,
+) -> Result<(), NoMemory>
+    ensures { OnOk result (out.new ≡ out.old ++ (before.now ++ commas value_text values.now ++
+        after.now)) }
+{
+    put(out, before)?;
+    put_values(alloc, values, out)?;
+    put(out, after)
 }
 
 /// Adds values with commas between them. Bytes may stand behind `out` where memory is refused.
@@ -73,9 +86,7 @@ fn put_chunk(alloc: Global, c: &Chunk, out: &mut Bytes) -> Result<(), NoMemory>
     ensures { OnOk result (out.new ≡ out.old ++ chunk_text c.now) }
 {
     let weight = chunk_weight(c).saturating_add(1);
-    put(out, b"<chunk ")?;
-    put(out, c.entry.as_slice())?;
-    put(out, b" ")?;
+    put_named(b"<chunk ", &c.entry, b" ", out)?;
     put_decimal(alloc, weight, out)?;
     put(out, b">")
 }

@@ -1,5 +1,7 @@
 ghost use Rattle.std.specs.Prelude.{◌≡◌, ◌+◌, length, min};
 ghost use Rattle.std.specs.List.{sum_by};
+ghost use Rattle.plan_base.specs.declared.tree.Expr.{out-Expr};
+ghost use Rattle.plan_sizes.specs.Own.{own_size};
 ghost use Rattle.plan_base.specs.Sizes.{name_size, type_size, option_type_size, expr_size, catch_size, clause_size, svc_size, param_size, fun_size, code_size, weight, chunk_weight};
 
 use plan_base::{Chunk, Clause, Expr, Fun, Name, Param, Program, Svc, Ty, Value};
@@ -68,54 +70,75 @@ fn expr_size(e: &Expr) -> u64
     ensures { result ≡ min (expr_size e.now) 18446744073709551615 }
 {
     match e {
-        Expr::Unit => 1,
-        Expr::Bool(_) => 2,
+        Expr::Tuple(es) | Expr::Call(_, es) | Expr::ChunkOf(_, es) => exprs_size(
+            es.as_slice(),
+        ).saturating_add(own_size(e)),
+        Expr::If(c, a, b) | Expr::OnRemote(c, a, b, _) => expr_size(c.get())
+            .saturating_add(expr_size(a.get()))
+            .saturating_add(expr_size(b.get()))
+            .saturating_add(own_size(e)),
+        Expr::Let(_, _, a, b)
+        | Expr::Then(a, b)
+        | Expr::And(a, b)
+        | Expr::Or(a, b)
+        | Expr::Binary(_, a, b)
+        | Expr::Foldl(_, a, b)
+        | Expr::Foldr(_, a, b) => expr_size(a.get())
+            .saturating_add(expr_size(b.get()))
+            .saturating_add(own_size(e)),
+        Expr::Not(a) | Expr::Part(_, a) | Expr::Eval(a) => expr_size(a.get()).saturating_add(
+            own_size(e),
+        ),
+        Expr::Try(a, clauses) => expr_size(a.get())
+            .saturating_add(clauses_size(clauses.as_slice()))
+            .saturating_add(own_size(e)),
+        Expr::OnNeighbor(c, h, n, d) => expr_size(c.get())
+            .saturating_add(expr_size(h.get()))
+            .saturating_add(expr_size(n.get()).saturating_add(expr_size(d.get())))
+            .saturating_add(own_size(e)),
+        Expr::Unit
+        | Expr::Bool(_)
+        | Expr::Int(_)
+        | Expr::Char(_)
+        | Expr::Str(_)
+        | Expr::Blob(_)
+        | Expr::Host(_)
+        | Expr::Dev(_)
+        | Expr::Nil(_)
+        | Expr::Var(_)
+        | Expr::Raise(_, _) => own_size(e),
+    }
+}
+
+/// What an expression takes beside its parts.
+#[tactic(auto, using(plan_base::specs::Trees::trees))]
+fn own_size(e: &Expr) -> u64
+    ensures { result ≡ min (own_size (out-Expr e.now)) 18446744073709551615 }
+{
+    match e {
+        Expr::Bool(_) | Expr::Tuple(_) | Expr::Binary(_, _, _) | Expr::Part(_, _) => 2,
+        Expr::Try(_, _) => 2,
         Expr::Int(_) => 9,
         Expr::Char(_) | Expr::Host(_) | Expr::Dev(_) => 5,
         Expr::Str(s) => bytes_size(s.as_slice(), 3),
         Expr::Blob(b) => bytes_size(b.as_slice(), 3),
         Expr::Nil(t) => option_type_size(t).saturating_add(1),
-        Expr::Var(x) => name_size(x).saturating_add(1),
-        Expr::Tuple(es) => exprs_size(es.as_slice()).saturating_add(2),
-        Expr::Call(f, es) | Expr::ChunkOf(f, es) => name_size(f)
-            .saturating_add(exprs_size(es.as_slice()))
-            .saturating_add(2),
-        Expr::If(c, a, b) => expr_size(a.get())
-            .saturating_add(expr_size(b.get()))
-            .saturating_add(expr_size(c.get()))
-            .saturating_add(1),
-        Expr::Let(x, t, a, b) => expr_size(a.get())
-            .saturating_add(expr_size(b.get()))
-            .saturating_add(name_size(x))
-            .saturating_add(type_size(t))
-            .saturating_add(1),
-        Expr::Then(a, b) | Expr::And(a, b) | Expr::Or(a, b) => expr_size(a.get())
-            .saturating_add(expr_size(b.get()))
-            .saturating_add(1),
-        Expr::Not(a) | Expr::Eval(a) => expr_size(a.get()).saturating_add(1),
-        Expr::Binary(_, a, b) => expr_size(a.get())
-            .saturating_add(expr_size(b.get()))
-            .saturating_add(2),
-        Expr::Part(_, a) => expr_size(a.get()).saturating_add(2),
         Expr::Raise(x, t) => option_type_size(t)
             .saturating_add(name_size(x))
             .saturating_add(1),
-        Expr::Try(a, clauses) => expr_size(a.get())
-            .saturating_add(clauses_size(clauses.as_slice()))
-            .saturating_add(2),
-        Expr::Foldl(f, a, l) | Expr::Foldr(f, a, l) => expr_size(a.get())
-            .saturating_add(expr_size(l.get()))
-            .saturating_add(name_size(f))
-            .saturating_add(1),
-        Expr::OnRemote(c, h, n, r) => expr_size(c.get())
-            .saturating_add(expr_size(h.get()))
-            .saturating_add(expr_size(n.get()))
-            .saturating_add(name_size(r))
-            .saturating_add(1),
-        Expr::OnNeighbor(c, h, n, d) => expr_size(c.get())
-            .saturating_add(expr_size(h.get()))
-            .saturating_add(expr_size(n.get()).saturating_add(expr_size(d.get())))
-            .saturating_add(1),
+        Expr::Let(x, t, _, _) => type_size(t).saturating_add(name_size(x)).saturating_add(1),
+        Expr::Var(x) | Expr::Foldl(x, _, _) | Expr::Foldr(x, _, _) | Expr::OnRemote(_, _, _, x) => {
+            name_size(x).saturating_add(1)
+        }
+        Expr::Call(f, _) | Expr::ChunkOf(f, _) => name_size(f).saturating_add(2),
+        Expr::Unit
+        | Expr::If(_, _, _)
+        | Expr::Then(_, _)
+        | Expr::And(_, _)
+        | Expr::Or(_, _)
+        | Expr::Not(_)
+        | Expr::Eval(_)
+        | Expr::OnNeighbor(_, _, _, _) => 1,
     }
 }
 

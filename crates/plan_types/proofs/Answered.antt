@@ -12,7 +12,7 @@ use Rattle.plan_types.specs.Checks.{Gives}
 use Rattle.plan_types.specs.Kept.{IsChecked}
 use Rattle.plan_types.proofs.Formed.{filled_formed}
 use Rattle.plan_types.proofs.Whole.{program_whole}
-use Rattle.typing_laws.proofs.Programs.{annotated_sound, annotated_complete, fills_itself, fills_full, depths_kept}
+use Rattle.typing_rules.proofs.Programs.{annotated_sound, annotated_complete, fills_itself, fills_full, depths_kept}
 
 -- an answer fills the draft in, and keeps what a checked program keeps
 pub checked_by : (d k : Program) → annotated_program d ≡ Ok k → IsWellFormedProgram d → Fills d k × IsChecked k

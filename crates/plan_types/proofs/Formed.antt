@@ -32,7 +32,7 @@ use Rattle.typing_rules.specs.TypingNames.{service_of, place_of, binds, binding,
 use Rattle.typing_rules.specs.TypingOrder.{items_of_layer, items_of, parts_of_layer, parts_of, want_at, fun_of, earlier}
 use Rattle.typing_rules.specs.TypingFills.{Suits, Becomes, PartsBecome, ClausesBecome, FunFills, Fills}
 use Rattle.typing_rules.specs.TypingFills.{Becomes as B, PartsBecome as P, ClausesBecome as C}
-use Rattle.typing_laws.proofs.Layers.{and_then_some}
+use Rattle.typing_rules.proofs.Layers.{and_then_some}
 
 -- ---- types
 

@@ -19,8 +19,13 @@ use typing_rules::TypeFault;
 fn copies(alloc: Global, e: &Expr, ty: &Ty) -> Result<(Expr, Ty), NoMemory>
     ensures { IfOk result (λ r. r ≡ (e.now, ty.now)) }
 {
-    let ty = ty.copy(alloc)?;
-    Ok((e.copy(alloc)?, ty))
+    match ty.copy(alloc) {
+        Ok(ty) => match e.copy(alloc) {
+            Ok(e) => Ok((e, ty)),
+            Err(NoMemory) => Err(NoMemory),
+        },
+        Err(NoMemory) => Err(NoMemory),
+    }
 }
 
 /// A literal, which has a type of its own.
@@ -51,10 +56,10 @@ fn variable(
     ensures { Meets (spec.variable ctx.now at (option_copied want.entry) e.now name.now node) result node }
 {
     match binding(name, ctx) {
-        Some(ty) => {
-            let (e, ty) = copies(alloc, e, ty)?;
-            settle_type(alloc, at, node, want, e, ty)
-        }
+        Some(ty) => match copies(alloc, e, ty) {
+            Ok((e, ty)) => settle_type(alloc, at, node, want, e, ty),
+            Err(NoMemory) => Err(TypeFault::NoMemory),
+        },
         None => Err(TypeFault::UnknownName(Place::Node(at))),
     }
 }
@@ -73,17 +78,33 @@ fn item_type(alloc: Global, at: u32, want: Option<&Ty>) -> Result<Ty, TypeFault>
 fn empty_as_written(alloc: Global, e: &Expr, item: &Ty) -> Result<(Expr, Ty), NoMemory>
     ensures { IfOk result (λ r. r ≡ (e.now, Ty.List item.now)) }
 {
-    let ty = list_of(alloc, item.copy(alloc)?)?;
-    Ok((e.copy(alloc)?, ty))
+    let item = item.copy(alloc)?;
+    match list_of(alloc, item) {
+        Ok(ty) => match e.copy(alloc) {
+            Ok(e) => Ok((e, ty)),
+            Err(NoMemory) => Err(NoMemory),
+        },
+        Err(NoMemory) => Err(NoMemory),
+    }
 }
 
-/// An empty list of such items, and its type.
-fn empty_of_items(alloc: Global, item: Ty) -> Result<(Expr, Ty), NoMemory>
-    ensures { IfOk result (λ r. r ≡ (Expr.Nil (Some item), Ty.List item)) }
+/// An empty list of such items.
+fn empty_of_items(
+    alloc: Global,
+    at: u32,
+    node: u32,
+    want: Option<&Ty>,
+    item: Ty,
+) -> Result<(Expr, Ty), TypeFault>
+    ensures { Meets (spec.shallow at (option_copied want.entry) (Expr.Nil (Some item)) (Ty.List item) node) result node }
 {
-    let given = item.copy(alloc)?;
-    let ty = list_of(alloc, item)?;
-    Ok((Expr::Nil(Some(given)), ty))
+    match item.copy(alloc) {
+        Ok(given) => match list_of(alloc, item) {
+            Ok(ty) => shallow(alloc, at, node, want, Expr::Nil(Some(given)), ty),
+            Err(NoMemory) => Err(TypeFault::NoMemory),
+        },
+        Err(NoMemory) => Err(TypeFault::NoMemory),
+    }
 }
 
 /// An empty list.
@@ -98,13 +119,16 @@ fn empty(
 ) -> Result<(Expr, Ty), TypeFault>
     ensures { Meets (spec.empty at (option_copied want.entry) e.now item.now node) result node }
 {
-    if let Some(item) = item {
-        let (whole, ty) = empty_as_written(alloc, e, item)?;
-        return shallow(alloc, at, node, want, whole, ty);
+    match item {
+        Some(item) => match empty_as_written(alloc, e, item) {
+            Ok((whole, ty)) => shallow(alloc, at, node, want, whole, ty),
+            Err(NoMemory) => Err(TypeFault::NoMemory),
+        },
+        None => match item_type(alloc, at, want) {
+            Ok(item) => empty_of_items(alloc, at, node, want, item),
+            Err(fault) => Err(fault),
+        },
     }
-    let item = item_type(alloc, at, want)?;
-    let (whole, ty) = empty_of_items(alloc, item)?;
-    shallow(alloc, at, node, want, whole, ty)
 }
 
 /// An exception raised where that type is wanted, and its type.
@@ -112,9 +136,13 @@ fn raise_of_type(alloc: Global, name: &Name, ty: &Ty) -> Result<(Expr, Ty), NoMe
     ensures { IfOk result (λ r. r ≡ (Expr.Raise name.now (Some ty.now), ty.now)) }
 {
     let name = name.copy(alloc)?;
-    let given = ty.copy(alloc)?;
-    let ty = ty.copy(alloc)?;
-    Ok((Expr::Raise(name, Some(given)), ty))
+    match ty.copy(alloc) {
+        Ok(given) => match ty.copy(alloc) {
+            Ok(ty) => Ok((Expr::Raise(name, Some(given)), ty)),
+            Err(NoMemory) => Err(NoMemory),
+        },
+        Err(NoMemory) => Err(NoMemory),
+    }
 }
 
 /// An exception raised.
@@ -134,15 +162,17 @@ fn raising(
     if !is_exception(scope.code, name) {
         return Err(TypeFault::UnknownName(Place::Node(at)));
     }
-    if let Some(ty) = ty {
-        let (e, ty) = copies(alloc, e, ty)?;
-        return shallow(alloc, at, node, want, e, ty);
-    }
-    let Some(ty) = want else {
-        return Err(TypeFault::NeedsType(Place::Node(at)));
+    let found = match ty {
+        Some(ty) => copies(alloc, e, ty),
+        None => match want {
+            Some(ty) => raise_of_type(alloc, name, ty),
+            None => return Err(TypeFault::NeedsType(Place::Node(at))),
+        },
     };
-    let (whole, ty) = raise_of_type(alloc, name, ty)?;
-    shallow(alloc, at, node, want, whole, ty)
+    match found {
+        Ok((whole, ty)) => shallow(alloc, at, node, want, whole, ty),
+        Err(NoMemory) => Err(TypeFault::NoMemory),
+    }
 }
 
 impl<
@@ -191,47 +221,21 @@ impl<
             Expr::Raise(name, ty) => raising(self.alloc, scope, at, state.node, want, e, name, ty),
             Expr::Tuple(es) => self.tuple(scope, state, at, want, es),
             Expr::Call(f, es) => self.call(scope, state, at, want, f, es),
-            Expr::If(a, b, c) => self.choice(scope, state, want, a.get(), b.get(), c.get()),
-            Expr::Let(name, ty, a, b) => self.binder(
-                scope,
-                state,
-                want,
-                name,
-                ty,
-                a.get(),
-                b.get(),
-            ),
-            Expr::Then(a, b) => self.sequence(scope, state, want, a.get(), b.get()),
-            Expr::And(a, b) => self.both(scope, state, at, want, a.get(), b.get()),
-            Expr::Or(a, b) => self.either(scope, state, at, want, a.get(), b.get()),
-            Expr::Not(a) => self.negation(scope, state, at, want, a.get()),
-            Expr::Binary(op, a, b) => self.operation(scope, state, at, want, *op, a.get(), b.get()),
-            Expr::Part(number, a) => self.part(scope, state, at, want, *number, a.get()),
-            Expr::Try(a, clauses) => self.handling(scope, state, at, want, a.get(), clauses),
-            Expr::Foldl(f, a, l) => self.fold_left(scope, state, at, want, f, a.get(), l.get()),
-            Expr::Foldr(f, a, l) => self.fold_right(scope, state, at, want, f, a.get(), l.get()),
+            Expr::If(a, b, c) => self.choice(scope, state, want, a, b, c),
+            Expr::Let(name, ty, a, b) => self.binder(scope, state, want, name, ty, a, b),
+            Expr::Then(a, b) => self.sequence(scope, state, want, a, b),
+            Expr::And(a, b) => self.both(scope, state, at, want, a, b),
+            Expr::Or(a, b) => self.either(scope, state, at, want, a, b),
+            Expr::Not(a) => self.negation(scope, state, at, want, a),
+            Expr::Binary(op, a, b) => self.operation(scope, state, at, want, *op, a, b),
+            Expr::Part(number, a) => self.part(scope, state, at, want, *number, a),
+            Expr::Try(a, clauses) => self.handling(scope, state, at, want, a, clauses),
+            Expr::Foldl(f, a, l) => self.fold_left(scope, state, at, want, f, a, l),
+            Expr::Foldr(f, a, l) => self.fold_right(scope, state, at, want, f, a, l),
             Expr::ChunkOf(f, es) => self.packing(scope, state, at, want, f, es),
-            Expr::Eval(a) => self.evaluation(scope, state, at, want, a.get()),
-            Expr::OnRemote(a, h, n, route) => self.remote(
-                scope,
-                state,
-                at,
-                want,
-                a.get(),
-                h.get(),
-                n.get(),
-                route,
-            ),
-            Expr::OnNeighbor(a, h, n, d) => self.neighbour(
-                scope,
-                state,
-                at,
-                want,
-                a.get(),
-                h.get(),
-                n.get(),
-                d.get(),
-            ),
+            Expr::Eval(a) => self.evaluation(scope, state, at, want, a),
+            Expr::OnRemote(a, h, n, route) => self.remote(scope, state, at, want, a, h, n, route),
+            Expr::OnNeighbor(a, h, n, d) => self.neighbour(scope, state, at, want, a, h, n, d),
         }
     }
 

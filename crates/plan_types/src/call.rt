@@ -1,7 +1,8 @@
 //! The rules of calls, folds and chunk literals.
 
-ghost use Rattle.std.specs.Prelude.{◌≡◌, IfOk};
+ghost use Rattle.std.specs.Prelude.{ℕ, ◌≡◌, ◌∷◌, [], if◌then◌else◌, Some, IfOk};
 ghost use Rattle.std.specs.Option.{option_copied};
+ghost use Rattle.plan_base.specs.SameTypes.{same_type};
 ghost use Rattle.typing_rules.specs.TypingOrder as spec;
 ghost use Rattle.typing_rules.specs.TypingNames as names;
 ghost use Rattle.plan_types.specs.Checks.{Meets, Nests, below};
@@ -28,24 +29,38 @@ fn param_types(alloc: Global, params: &[Param]) -> Result<Tys, NoMemory>
     Ok(types)
 }
 
+/// One type, as a list.
+fn one_type(alloc: Global, ty: Ty) -> Result<Option<Tys>, NoMemory>
+    ensures { IfOk result (λ types. types ≡ Some (ty ∷ [])) }
+{
+    let mut types = Items::new(alloc);
+    types.add(ty)?;
+    Ok(Some(types))
+}
+
+/// The types of a blob, of a place in it and of a length.
+fn blob_and_numbers(alloc: Global) -> Result<Option<Tys>, NoMemory>
+    ensures { IfOk result (λ types. types ≡ Some (Ty.Blob ∷ Ty.Int ∷ Ty.Int ∷ [])) }
+{
+    let mut types = Items::new(alloc);
+    types.add(Ty::Blob)?;
+    types.add(Ty::Int)?;
+    types.add(Ty::Int)?;
+    Ok(Some(types))
+}
+
 /// The types that a primitive takes, or `None` for one that takes a list of any type.
 fn takes(alloc: Global, prim: Primitive) -> Result<Option<Tys>, NoMemory>
     ensures { IfOk result (λ types. types ≡ names.takes prim) }
 {
-    let mut types = Items::new(alloc);
     match prim {
-        Primitive::Hd | Primitive::Tl | Primitive::Length => return Ok(None),
-        Primitive::IntToString => types.add(Ty::Int)?,
-        Primitive::HostToString => types.add(Ty::Host)?,
-        Primitive::StringToBlob => types.add(Ty::Str)?,
-        Primitive::BlobLength => types.add(Ty::Blob)?,
-        Primitive::BlobPart => {
-            types.add(Ty::Blob)?;
-            types.add(Ty::Int)?;
-            types.add(Ty::Int)?;
-        }
+        Primitive::Hd | Primitive::Tl | Primitive::Length => Ok(None),
+        Primitive::IntToString => one_type(alloc, Ty::Int),
+        Primitive::HostToString => one_type(alloc, Ty::Host),
+        Primitive::StringToBlob => one_type(alloc, Ty::Str),
+        Primitive::BlobLength => one_type(alloc, Ty::Blob),
+        Primitive::BlobPart => blob_and_numbers(alloc),
     }
-    Ok(Some(types))
 }
 
 /// The type that such a primitive gives.
@@ -81,6 +96,87 @@ fn given_of(alloc: Global, prim: Primitive, types: &[Ty]) -> Result<Option<Ty>, 
             None => Ok(None),
         },
         _ => Ok(None),
+    }
+}
+
+/// The same, where there must be one.
+fn type_given(alloc: Global, at: u32, prim: Primitive, types: &[Ty]) -> Result<Ty, TypeFault>
+    ensures { (node : ℕ) → Meets (spec.or_refuse (spec.given_of prim types.now) (TypeFault.WrongShape (Place.Node at)) node) result node }
+{
+    match given_of(alloc, prim, types) {
+        Ok(Some(ty)) => Ok(ty),
+        Ok(None) => Err(TypeFault::WrongShape(Place::Node(at))),
+        Err(NoMemory) => Err(TypeFault::NoMemory),
+    }
+}
+
+/// A call of that name with those arguments, of that type.
+fn call_of(
+    alloc: Global,
+    at: u32,
+    node: u32,
+    want: Option<&Ty>,
+    f: &Name,
+    given: Exprs,
+    ty: Ty,
+) -> Result<(Expr, Ty), TypeFault>
+    ensures { Meets (spec.settled_type at (option_copied want.entry) (Expr.Call f.now given) ty node) result node }
+{
+    match f.copy(alloc) {
+        Ok(f) => settle_type(alloc, at, node, want, Expr::Call(f, given), ty),
+        Err(NoMemory) => Err(TypeFault::NoMemory),
+    }
+}
+
+/// `foldl` over those, where the function gives what it begins with.
+fn left_fold(
+    alloc: Global,
+    at: u32,
+    node: u32,
+    want: Option<&Ty>,
+    f: &Name,
+    start: Boxed<Expr>,
+    items: Boxed<Expr>,
+    begun: &Ty,
+    gives: &Ty,
+) -> Result<(Expr, Ty), TypeFault>
+    ensures { Meets ((if same_type gives.now begun.now then spec.settled_type at (option_copied want.entry) (Expr.Foldl f.now start items) begun.now else spec.refuse (TypeFault.WrongShape (Place.Node at))) node) result node }
+{
+    if !gives.is(begun) {
+        return Err(TypeFault::WrongShape(Place::Node(at)));
+    }
+    match begun.copy(alloc) {
+        Ok(ty) => match f.copy(alloc) {
+            Ok(f) => settle_type(alloc, at, node, want, Expr::Foldl(f, start, items), ty),
+            Err(NoMemory) => Err(TypeFault::NoMemory),
+        },
+        Err(NoMemory) => Err(TypeFault::NoMemory),
+    }
+}
+
+/// `foldr` over those, where the function gives what it begins with.
+fn right_fold(
+    alloc: Global,
+    at: u32,
+    node: u32,
+    want: Option<&Ty>,
+    f: &Name,
+    start: Boxed<Expr>,
+    items: Boxed<Expr>,
+    begun: &Ty,
+    gives: &Ty,
+) -> Result<(Expr, Ty), TypeFault>
+    ensures { Meets ((if same_type gives.now begun.now then spec.settled_type at (option_copied want.entry) (Expr.Foldr f.now start items) begun.now else spec.refuse (TypeFault.WrongShape (Place.Node at))) node) result node }
+{
+    if !gives.is(begun) {
+        return Err(TypeFault::WrongShape(Place::Node(at)));
+    }
+    match begun.copy(alloc) {
+        Ok(ty) => match f.copy(alloc) {
+            Ok(f) => settle_type(alloc, at, node, want, Expr::Foldr(f, start, items), ty),
+            Err(NoMemory) => Err(TypeFault::NoMemory),
+        },
+        Err(NoMemory) => Err(TypeFault::NoMemory),
     }
 }
 
@@ -122,8 +218,10 @@ impl<
         if es.len() != wants.len() {
             return Err(TypeFault::Arity(Place::Node(at)));
         }
-        let (given, _types) = self.parts(scope, state, Some(wants), es.as_slice())?;
-        Ok(given)
+        match self.parts(scope, state, Some(wants), es.as_slice()) {
+            Ok((given, _types)) => Ok(given),
+            Err(fault) => Err(fault),
+        }
     }
 
     /// A call by its parameters' types and its result's.
@@ -143,10 +241,13 @@ impl<
         ensures meets { Meets (spec.applied_call scope.now.code.now scope.now.seen (below scope.now self.now.depth) state.old.ctx at (option_copied want.entry) f.now es.now wants.now ty.now state.old.node) result state.new.node }
         ensures keeps { state.new.ctx ≡ state.old.ctx }
     {
-        let given = self.arguments(scope, state, at, wants, es)?;
-        let ty = ty.copy(self.alloc)?;
-        let whole = Expr::Call(f.copy(self.alloc)?, given);
-        settle_type(self.alloc, at, state.node, want, whole, ty)
+        match self.arguments(scope, state, at, wants, es) {
+            Ok(given) => match ty.copy(self.alloc) {
+                Ok(ty) => call_of(self.alloc, at, state.node, want, f, given, ty),
+                Err(NoMemory) => Err(TypeFault::NoMemory),
+            },
+            Err(fault) => Err(fault),
+        }
     }
 
     /// A primitive that takes one list of any type.
@@ -168,13 +269,13 @@ impl<
         if es.len() != 1 {
             return Err(TypeFault::Arity(Place::Node(at)));
         }
-        let (given, types) = self.parts(scope, state, None, es.as_slice())?;
-        let ty = match given_of(self.alloc, prim, types.as_slice())? {
-            Some(ty) => ty,
-            None => return Err(TypeFault::WrongShape(Place::Node(at))),
-        };
-        let whole = Expr::Call(f.copy(self.alloc)?, given);
-        settle_type(self.alloc, at, state.node, want, whole, ty)
+        match self.parts(scope, state, None, es.as_slice()) {
+            Ok((given, types)) => match type_given(self.alloc, at, prim, types.as_slice()) {
+                Ok(ty) => call_of(self.alloc, at, state.node, want, f, given, ty),
+                Err(fault) => Err(fault),
+            },
+            Err(fault) => Err(fault),
+        }
     }
 
     /// A primitive.
@@ -193,9 +294,10 @@ impl<
         ensures meets { Meets (spec.primitive scope.now.code.now scope.now.seen (below scope.now self.now.depth) state.old.ctx at (option_copied want.entry) f.now prim es.now state.old.node) result state.new.node }
         ensures keeps { state.new.ctx ≡ state.old.ctx }
     {
-        match takes(self.alloc, prim)? {
-            Some(wants) => self.check_call(scope, state, at, want, f, es, &wants, &makes(prim)),
-            None => self.of_items(scope, state, at, want, f, prim, es),
+        match takes(self.alloc, prim) {
+            Ok(Some(wants)) => self.check_call(scope, state, at, want, f, es, &wants, &makes(prim)),
+            Ok(None) => self.of_items(scope, state, at, want, f, prim, es),
+            Err(NoMemory) => Err(TypeFault::NoMemory),
         }
     }
 
@@ -218,8 +320,10 @@ impl<
             Some(fun) => fun,
             None => return Err(not_earlier(scope.code, f, at)),
         };
-        let wants = param_types(self.alloc, fun.params.as_slice())?;
-        self.check_call(scope, state, at, want, f, es, &wants, &fun.result)
+        match param_types(self.alloc, fun.params.as_slice()) {
+            Ok(wants) => self.check_call(scope, state, at, want, f, es, &wants, &fun.result),
+            Err(NoMemory) => Err(TypeFault::NoMemory),
+        }
     }
 
     /// A call of a primitive, a service or a function.
@@ -246,49 +350,27 @@ impl<
         }
     }
 
-    /// The types of an earlier function with two parameters, and the type that it gives.
-    #[tactic(auto, unfolding(typing_rules::specs::TypingOrder::folding))]
-    fn folding(
-        &self,
-        scope: &Scope<'_>,
-        node: u32,
-        at: u32,
-        f: &Name,
-    ) -> Result<(Ty, Ty, Ty), TypeFault>
-        ensures { Meets (spec.folding scope.now.code.now scope.now.seen (below scope.now self.now.depth) at f.now node) result node }
-    {
-        let fun = match earlier(scope.code, scope.seen, f) {
-            Some(fun) => fun,
-            None => return Err(not_earlier(scope.code, f, at)),
-        };
-        match fun.params.as_slice() {
-            [first, second] => Ok((
-                first.ty.copy(self.alloc)?,
-                second.ty.copy(self.alloc)?,
-                fun.result.copy(self.alloc)?,
-            )),
-            _ => Err(TypeFault::Arity(Place::Node(at))),
-        }
-    }
-
     /// A list of such items in a box.
     fn wanting_list(
         &self,
         scope: &Scope<'_>,
         state: &mut State,
         item: &Ty,
-        e: &Expr,
+        e: &Boxed<Expr>,
     ) -> Result<Boxed<Expr>, TypeFault>
         requires { Nests self.now.depth (F.pre self.now.run) (F.post self.now.run) }
         ensures meets { Meets (spec.wanting scope.now.code.now scope.now.seen (below scope.now self.now.depth) state.old.ctx (Ty.List item.now) e.now state.old.node) result state.new.node }
         ensures keeps { state.new.ctx ≡ state.old.ctx }
     {
-        let list = list_of(self.alloc, item.copy(self.alloc)?)?;
-        self.wanting_boxed(scope, state, &list, e)
+        let item = item.copy(self.alloc)?;
+        match list_of(self.alloc, item) {
+            Ok(list) => self.wanting_boxed(scope, state, &list, e),
+            Err(NoMemory) => Err(TypeFault::NoMemory),
+        }
     }
 
     /// `foldl`.
-    #[tactic(auto, unfolding(typing_rules::specs::TypingOrder::fold_left))]
+    #[tactic(auto, unfolding(typing_rules::specs::TypingOrder::fold_left, typing_rules::specs::TypingOrder::folding))]
     pub fn fold_left(
         &self,
         scope: &Scope<'_>,
@@ -296,27 +378,41 @@ impl<
         at: u32,
         want: Option<&Ty>,
         f: &Name,
-        a: &Expr,
-        l: &Expr,
+        a: &Boxed<Expr>,
+        l: &Boxed<Expr>,
     ) -> Result<(Expr, Ty), TypeFault>
         requires { Nests self.now.depth (F.pre self.now.run) (F.post self.now.run) }
         ensures meets { Meets (spec.fold_left scope.now.code.now scope.now.seen (below scope.now self.now.depth) state.old.ctx at (option_copied want.entry) f.now a.now l.now state.old.node) result state.new.node }
         ensures keeps { state.new.ctx ≡ state.old.ctx }
     {
-        let types = Boxed::new(self.alloc, self.folding(scope, state.node, at, f)?)?;
-        let (first, second, result) = types.get();
-        let start = self.wanting_boxed(scope, state, first, a)?;
-        let items = self.wanting_list(scope, state, second, l)?;
-        if !result.is(first) {
-            return Err(TypeFault::WrongShape(Place::Node(at)));
+        let fun = match earlier(scope.code, scope.seen, f) {
+            Some(fun) => fun,
+            None => return Err(not_earlier(scope.code, f, at)),
+        };
+        match fun.params.as_slice() {
+            [first, second] => {
+                let start = self.wanting_boxed(scope, state, &first.ty, a)?;
+                match self.wanting_list(scope, state, &second.ty, l) {
+                    Ok(items) => left_fold(
+                        self.alloc,
+                        at,
+                        state.node,
+                        want,
+                        f,
+                        start,
+                        items,
+                        &first.ty,
+                        &fun.result,
+                    ),
+                    Err(fault) => Err(fault),
+                }
+            }
+            _ => Err(TypeFault::Arity(Place::Node(at))),
         }
-        let ty = first.copy(self.alloc)?;
-        let whole = Expr::Foldl(f.copy(self.alloc)?, start, items);
-        settle_type(self.alloc, at, state.node, want, whole, ty)
     }
 
     /// `foldr`.
-    #[tactic(auto, unfolding(typing_rules::specs::TypingOrder::fold_right))]
+    #[tactic(auto, unfolding(typing_rules::specs::TypingOrder::fold_right, typing_rules::specs::TypingOrder::folding))]
     pub fn fold_right(
         &self,
         scope: &Scope<'_>,
@@ -324,23 +420,37 @@ impl<
         at: u32,
         want: Option<&Ty>,
         f: &Name,
-        a: &Expr,
-        l: &Expr,
+        a: &Boxed<Expr>,
+        l: &Boxed<Expr>,
     ) -> Result<(Expr, Ty), TypeFault>
         requires { Nests self.now.depth (F.pre self.now.run) (F.post self.now.run) }
         ensures meets { Meets (spec.fold_right scope.now.code.now scope.now.seen (below scope.now self.now.depth) state.old.ctx at (option_copied want.entry) f.now a.now l.now state.old.node) result state.new.node }
         ensures keeps { state.new.ctx ≡ state.old.ctx }
     {
-        let types = Boxed::new(self.alloc, self.folding(scope, state.node, at, f)?)?;
-        let (first, second, result) = types.get();
-        let start = self.wanting_boxed(scope, state, second, a)?;
-        let items = self.wanting_list(scope, state, first, l)?;
-        if !result.is(second) {
-            return Err(TypeFault::WrongShape(Place::Node(at)));
+        let fun = match earlier(scope.code, scope.seen, f) {
+            Some(fun) => fun,
+            None => return Err(not_earlier(scope.code, f, at)),
+        };
+        match fun.params.as_slice() {
+            [first, second] => {
+                let start = self.wanting_boxed(scope, state, &second.ty, a)?;
+                match self.wanting_list(scope, state, &first.ty, l) {
+                    Ok(items) => right_fold(
+                        self.alloc,
+                        at,
+                        state.node,
+                        want,
+                        f,
+                        start,
+                        items,
+                        &second.ty,
+                        &fun.result,
+                    ),
+                    Err(fault) => Err(fault),
+                }
+            }
+            _ => Err(TypeFault::Arity(Place::Node(at))),
         }
-        let ty = second.copy(self.alloc)?;
-        let whole = Expr::Foldr(f.copy(self.alloc)?, start, items);
-        settle_type(self.alloc, at, state.node, want, whole, ty)
     }
 
     /// A chunk literal, whose entry is any function of the program.
@@ -363,8 +473,19 @@ impl<
             None => return Err(TypeFault::UnknownName(Place::Node(at))),
         };
         let wants = param_types(self.alloc, fun.params.as_slice())?;
-        let given = self.arguments(scope, state, at, &wants, es)?;
-        let whole = Expr::ChunkOf(f.copy(self.alloc)?, given);
-        settle_type(self.alloc, at, state.node, want, whole, Ty::Chunk)
+        match self.arguments(scope, state, at, &wants, es) {
+            Ok(given) => match f.copy(self.alloc) {
+                Ok(f) => settle_type(
+                    self.alloc,
+                    at,
+                    state.node,
+                    want,
+                    Expr::ChunkOf(f, given),
+                    Ty::Chunk,
+                ),
+                Err(NoMemory) => Err(TypeFault::NoMemory),
+            },
+            Err(fault) => Err(fault),
+        }
     }
 }

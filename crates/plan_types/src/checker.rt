@@ -1,7 +1,7 @@
 //! The checking of parts. The function that checks a whole expression is taken as a parameter, so that
 //! each rule is proved by itself.
 
-ghost use Rattle.std.specs.Prelude.{◌≡◌, ◌++◌, ◌∷◌, [], ◌≤◌, length, Some};
+ghost use Rattle.std.specs.Prelude.{◌≡◌, ◌≢◌, ◌++◌, ◌∷◌, [], ◌≤◌, length, Some, Ok, Err, OnOk, MatchResult};
 ghost use Rattle.std.specs.Option.{option_copied};
 ghost use Rattle.typing_rules.specs.TypingOrder as spec;
 ghost use Rattle.plan_types.specs.Checks.{Meets, Nests, below};
@@ -59,8 +59,10 @@ impl<
         ensures meets { Meets (spec.wanting scope.now.code.now scope.now.seen (below scope.now self.now.depth) state.old.ctx ty.now e.now state.old.node) result state.new.node }
         ensures keeps { state.new.ctx ≡ state.old.ctx }
     {
-        let found = self.run(scope, state, Some(ty), e)?;
-        Ok(found.0)
+        match self.run(scope, state, Some(ty), e) {
+            Ok((found, _ty)) => Ok(found),
+            Err(fault) => Err(fault),
+        }
     }
 
     /// The same in a box.
@@ -69,14 +71,16 @@ impl<
         scope: &Scope<'_>,
         state: &mut State,
         ty: &Ty,
-        e: &Expr,
+        e: &Boxed<Expr>,
     ) -> Result<Boxed<Expr>, TypeFault>
         requires { Nests self.now.depth (F.pre self.now.run) (F.post self.now.run) }
         ensures meets { Meets (spec.wanting scope.now.code.now scope.now.seen (below scope.now self.now.depth) state.old.ctx ty.now e.now state.old.node) result state.new.node }
         ensures keeps { state.new.ctx ≡ state.old.ctx }
     {
-        let found = self.wanting(scope, state, ty, e)?;
-        Ok(Boxed::new(self.alloc, found)?)
+        match self.wanting(scope, state, ty, e.get()) {
+            Ok(found) => Ok(Boxed::new(self.alloc, found)?),
+            Err(fault) => Err(fault),
+        }
     }
 
     /// An expression in a box, of which a type may be wanted.
@@ -85,14 +89,19 @@ impl<
         scope: &Scope<'_>,
         state: &mut State,
         want: Option<&Ty>,
-        e: &Expr,
+        e: &Boxed<Expr>,
     ) -> Result<(Boxed<Expr>, Ty), TypeFault>
         requires { Nests self.now.depth (F.pre self.now.run) (F.post self.now.run) }
         ensures meets { Meets (below scope.now self.now.depth state.old.ctx (option_copied want.entry) e.now state.old.node) result state.new.node }
         ensures keeps { state.new.ctx ≡ state.old.ctx }
     {
-        let (found, ty) = self.run(scope, state, want, e)?;
-        Ok((Boxed::new(self.alloc, found)?, ty))
+        match self.run(scope, state, want, e.get()) {
+            Ok((found, ty)) => match Boxed::new(self.alloc, found) {
+                Ok(found) => Ok((found, ty)),
+                Err(_refused) => Err(TypeFault::NoMemory),
+            },
+            Err(fault) => Err(fault),
+        }
     }
 
     /// Parts from the left.
@@ -111,12 +120,30 @@ impl<
         let mut done = Items::new(self.alloc);
         let mut types = Items::new(self.alloc);
         while let [e, rest @ ..] = all {
-            let (part, ty) = self.run(scope, state, want_at(wants, types.len()), e)?;
-            done.add(part)?;
-            types.add(ty)?;
+            let found = self.run(scope, state, want_at(wants, types.len()), e)?;
+            add_part(&mut done, &mut types, found)?;
             all = rest;
         }
         Ok((done, types))
+    }
+
+    /// A clause with the wanted type.
+    fn clause(
+        &self,
+        scope: &Scope<'_>,
+        state: &mut State,
+        ty: &Ty,
+        clause: &Clause,
+    ) -> Result<Clause, TypeFault>
+        requires { Nests self.now.depth (F.pre self.now.run) (F.post self.now.run) }
+        ensures meets { MatchResult result (λ k. (spec.wanting scope.now.code.now scope.now.seen (below scope.now self.now.depth) state.old.ctx ty.now clause.now.body state.old.node ≡ Ok (k.body, state.new.node)) × (k.name ≡ clause.now.name)) (λ f. f ≢ TypeFault.NoMemory → spec.wanting scope.now.code.now scope.now.seen (below scope.now self.now.depth) state.old.ctx ty.now clause.now.body state.old.node ≡ Err f) }
+        ensures keeps { state.new.ctx ≡ state.old.ctx }
+    {
+        let name = copy_name(self.alloc, &clause.name)?;
+        match self.wanting(scope, state, ty, &clause.body) {
+            Ok(body) => Ok(Clause { name, body }),
+            Err(fault) => Err(fault),
+        }
     }
 
     /// Clauses from the first, each with the wanted type.
@@ -134,15 +161,25 @@ impl<
     {
         let mut done = Items::new(self.alloc);
         while let [clause, rest @ ..] = all {
-            let name = copy_name(self.alloc, &clause.name)?;
-            let body = self.wanting(scope, state, ty, &clause.body)?;
-            done.add(Clause { name, body })?;
+            let clause = self.clause(scope, state, ty, clause)?;
+            done.add(clause)?;
             all = rest;
         }
         Ok(done)
     }
 }
 
+/// Adds a part that was found, and its type.
+fn add_part(done: &mut Exprs, types: &mut Tys, found: (Expr, Ty)) -> Result<(), NoMemory>
+    ensures { OnOk result ((done.new ≡ done.old ++ found.0 ∷ []) × (types.new ≡ types.old ++ found.1 ∷ [])) }
+{
+    let (part, ty) = found;
+    done.add(part)?;
+    types.add(ty)?;
+    Ok(())
+}
+
+/// What a clause catches, copied.
 fn copy_name(alloc: Global, name: &Option<Name>) -> Result<Option<Name>, NoMemory>
     ensures { Rattle.std.specs.Prelude.IfOk result (λ n. n ≡ name.now) }
 {

@@ -1,6 +1,6 @@
 //! The rules of the forms that hold expressions, other than operators and calls.
 
-ghost use Rattle.std.specs.Prelude.{◌≡◌, ◌++◌, ◌∷◌, [], IfOk};
+ghost use Rattle.std.specs.Prelude.{ℕ, ◌≡◌, ◌++◌, ◌∷◌, [], IfOk, OnOk, OnErr};
 ghost use Rattle.std.specs.Option.{option_copied};
 ghost use Rattle.typing_rules.specs.TypingNames.{binds};
 ghost use Rattle.typing_rules.specs.TypingOrder as spec;
@@ -10,7 +10,7 @@ use crate::checker::Checker;
 use crate::names::any_unknown;
 use crate::settle::{part_in, parts_of, settle_type, shallow};
 use crate::state::{Scope, State};
-use plan_base::{Clauses, Expr, Exprs, Name, NoMemory, Param, Place, Ty};
+use plan_base::{Clauses, Expr, Exprs, Name, NoMemory, Param, Params, Place, Ty};
 use plan_copies::Copied;
 use plan_items::Boxed;
 use std::alloc::Global;
@@ -40,15 +40,17 @@ impl<
         ensures meets { Meets (spec.tuple scope.now.code.now scope.now.seen (below scope.now self.now.depth) state.old.ctx at (option_copied want.entry) es.now state.old.node) result state.new.node }
         ensures keeps { state.new.ctx ≡ state.old.ctx }
     {
-        let (parts, types) = self.parts(scope, state, parts_of(es.len(), want), es.as_slice())?;
-        shallow(
-            self.alloc,
-            at,
-            state.node,
-            want,
-            Expr::Tuple(parts),
-            Ty::Tuple(types),
-        )
+        match self.parts(scope, state, parts_of(es.len(), want), es.as_slice()) {
+            Ok((parts, types)) => shallow(
+                self.alloc,
+                at,
+                state.node,
+                want,
+                Expr::Tuple(parts),
+                Ty::Tuple(types),
+            ),
+            Err(fault) => Err(fault),
+        }
     }
 
     /// A part of a tuple.
@@ -60,25 +62,26 @@ impl<
         at: u32,
         want: Option<&Ty>,
         number: u8,
-        a: &Expr,
+        a: &Boxed<Expr>,
     ) -> Result<(Expr, Ty), TypeFault>
         requires { Nests self.now.depth (F.pre self.now.run) (F.post self.now.run) }
         ensures meets { Meets (spec.part scope.now.code.now scope.now.seen (below scope.now self.now.depth) state.old.ctx at (option_copied want.entry) number a.now state.old.node) result state.new.node }
         ensures keeps { state.new.ctx ≡ state.old.ctx }
     {
-        let (part, ty) = self.run_boxed(scope, state, None, a)?;
-        let item = match part_in(number, &ty) {
-            Some(item) => item.copy(self.alloc)?,
-            None => return Err(TypeFault::WrongShape(Place::Node(at))),
-        };
-        settle_type(
-            self.alloc,
-            at,
-            state.node,
-            want,
-            Expr::Part(number, part),
-            item,
-        )
+        match self.run_boxed(scope, state, None, a) {
+            Ok((part, ty)) => match part_type(self.alloc, at, number, &ty) {
+                Ok(item) => settle_type(
+                    self.alloc,
+                    at,
+                    state.node,
+                    want,
+                    Expr::Part(number, part),
+                    item,
+                ),
+                Err(fault) => Err(fault),
+            },
+            Err(fault) => Err(fault),
+        }
     }
 
     /// `if`.
@@ -88,18 +91,24 @@ impl<
         scope: &Scope<'_>,
         state: &mut State,
         want: Option<&Ty>,
-        a: &Expr,
-        b: &Expr,
-        c: &Expr,
+        a: &Boxed<Expr>,
+        b: &Boxed<Expr>,
+        c: &Boxed<Expr>,
     ) -> Result<(Expr, Ty), TypeFault>
         requires { Nests self.now.depth (F.pre self.now.run) (F.post self.now.run) }
         ensures meets { Meets (spec.choice scope.now.code.now scope.now.seen (below scope.now self.now.depth) state.old.ctx (option_copied want.entry) a.now b.now c.now state.old.node) result state.new.node }
         ensures keeps { state.new.ctx ≡ state.old.ctx }
     {
-        let test = self.wanting_boxed(scope, state, &Ty::Bool, a)?;
-        let (first, ty) = self.run_boxed(scope, state, want, b)?;
-        let other = self.wanting_boxed(scope, state, &ty, c)?;
-        Ok((Expr::If(test, first, other), ty))
+        match self.wanting_boxed(scope, state, &Ty::Bool, a) {
+            Ok(test) => match self.run_boxed(scope, state, want, b) {
+                Ok((first, ty)) => match self.wanting_boxed(scope, state, &ty, c) {
+                    Ok(other) => Ok((Expr::If(test, first, other), ty)),
+                    Err(fault) => Err(fault),
+                },
+                Err(fault) => Err(fault),
+            },
+            Err(fault) => Err(fault),
+        }
     }
 
     /// A binding.
@@ -111,16 +120,23 @@ impl<
         want: Option<&Ty>,
         name: &Name,
         ty: &Ty,
-        a: &Expr,
-        b: &Expr,
+        a: &Boxed<Expr>,
+        b: &Boxed<Expr>,
     ) -> Result<(Expr, Ty), TypeFault>
         requires { Nests self.now.depth (F.pre self.now.run) (F.post self.now.run) }
         ensures meets { Meets (spec.binder scope.now.code.now scope.now.seen (below scope.now self.now.depth) state.old.ctx (option_copied want.entry) name.now ty.now a.now b.now state.old.node) result state.new.node }
         ensures keeps { state.new.ctx ≡ state.old.ctx }
     {
-        let bound = self.wanting_boxed(scope, state, ty, a)?;
-        let (body, result) = self.inside(scope, state, want, name, ty, b)?;
-        Ok((bound_in(self.alloc, name, ty, bound, body)?, result))
+        match self.wanting_boxed(scope, state, ty, a) {
+            Ok(bound) => match self.inside(scope, state, want, name, ty, b) {
+                Ok((body, result)) => match bound_in(self.alloc, name, ty, bound, body) {
+                    Ok(whole) => Ok((whole, result)),
+                    Err(NoMemory) => Err(TypeFault::NoMemory),
+                },
+                Err(fault) => Err(fault),
+            },
+            Err(fault) => Err(fault),
+        }
     }
 
     /// An expression under one more binding.
@@ -131,18 +147,14 @@ impl<
         want: Option<&Ty>,
         name: &Name,
         ty: &Ty,
-        e: &Expr,
+        e: &Boxed<Expr>,
     ) -> Result<(Boxed<Expr>, Ty), TypeFault>
         requires { Nests self.now.depth (F.pre self.now.run) (F.post self.now.run) }
         ensures meets { Meets (below scope.now self.now.depth (state.old.ctx ++ binds name.now ty.now ∷ []) (option_copied want.entry) e.now state.old.node) result state.new.node }
         ensures keeps { state.new.ctx ≡ state.old.ctx }
     {
         let outer = state.ctx.len();
-        let param = Param {
-            name: name.copy(self.alloc)?,
-            ty: ty.copy(self.alloc)?,
-        };
-        state.ctx.add(param)?;
+        bind(self.alloc, &mut state.ctx, name, ty)?;
         let found = self.run_boxed(scope, state, want, e);
         state.ctx.truncate(outer);
         found
@@ -155,16 +167,20 @@ impl<
         scope: &Scope<'_>,
         state: &mut State,
         want: Option<&Ty>,
-        a: &Expr,
-        b: &Expr,
+        a: &Boxed<Expr>,
+        b: &Boxed<Expr>,
     ) -> Result<(Expr, Ty), TypeFault>
         requires { Nests self.now.depth (F.pre self.now.run) (F.post self.now.run) }
         ensures meets { Meets (spec.sequence scope.now.code.now scope.now.seen (below scope.now self.now.depth) state.old.ctx (option_copied want.entry) a.now b.now state.old.node) result state.new.node }
         ensures keeps { state.new.ctx ≡ state.old.ctx }
     {
-        let first = self.wanting_boxed(scope, state, &Ty::Unit, a)?;
-        let (last, ty) = self.run_boxed(scope, state, want, b)?;
-        Ok((Expr::Then(first, last), ty))
+        match self.wanting_boxed(scope, state, &Ty::Unit, a) {
+            Ok(first) => match self.run_boxed(scope, state, want, b) {
+                Ok((last, ty)) => Ok((Expr::Then(first, last), ty)),
+                Err(fault) => Err(fault),
+            },
+            Err(fault) => Err(fault),
+        }
     }
 
     /// `and`.
@@ -175,23 +191,27 @@ impl<
         state: &mut State,
         at: u32,
         want: Option<&Ty>,
-        a: &Expr,
-        b: &Expr,
+        a: &Boxed<Expr>,
+        b: &Boxed<Expr>,
     ) -> Result<(Expr, Ty), TypeFault>
         requires { Nests self.now.depth (F.pre self.now.run) (F.post self.now.run) }
         ensures meets { Meets (spec.both scope.now.code.now scope.now.seen (below scope.now self.now.depth) state.old.ctx at (option_copied want.entry) a.now b.now state.old.node) result state.new.node }
         ensures keeps { state.new.ctx ≡ state.old.ctx }
     {
-        let first = self.wanting_boxed(scope, state, &Ty::Bool, a)?;
-        let second = self.wanting_boxed(scope, state, &Ty::Bool, b)?;
-        settle_type(
-            self.alloc,
-            at,
-            state.node,
-            want,
-            Expr::And(first, second),
-            Ty::Bool,
-        )
+        match self.wanting_boxed(scope, state, &Ty::Bool, a) {
+            Ok(first) => match self.wanting_boxed(scope, state, &Ty::Bool, b) {
+                Ok(second) => settle_type(
+                    self.alloc,
+                    at,
+                    state.node,
+                    want,
+                    Expr::And(first, second),
+                    Ty::Bool,
+                ),
+                Err(fault) => Err(fault),
+            },
+            Err(fault) => Err(fault),
+        }
     }
 
     /// `or`.
@@ -202,23 +222,27 @@ impl<
         state: &mut State,
         at: u32,
         want: Option<&Ty>,
-        a: &Expr,
-        b: &Expr,
+        a: &Boxed<Expr>,
+        b: &Boxed<Expr>,
     ) -> Result<(Expr, Ty), TypeFault>
         requires { Nests self.now.depth (F.pre self.now.run) (F.post self.now.run) }
         ensures meets { Meets (spec.either scope.now.code.now scope.now.seen (below scope.now self.now.depth) state.old.ctx at (option_copied want.entry) a.now b.now state.old.node) result state.new.node }
         ensures keeps { state.new.ctx ≡ state.old.ctx }
     {
-        let first = self.wanting_boxed(scope, state, &Ty::Bool, a)?;
-        let second = self.wanting_boxed(scope, state, &Ty::Bool, b)?;
-        settle_type(
-            self.alloc,
-            at,
-            state.node,
-            want,
-            Expr::Or(first, second),
-            Ty::Bool,
-        )
+        match self.wanting_boxed(scope, state, &Ty::Bool, a) {
+            Ok(first) => match self.wanting_boxed(scope, state, &Ty::Bool, b) {
+                Ok(second) => settle_type(
+                    self.alloc,
+                    at,
+                    state.node,
+                    want,
+                    Expr::Or(first, second),
+                    Ty::Bool,
+                ),
+                Err(fault) => Err(fault),
+            },
+            Err(fault) => Err(fault),
+        }
     }
 
     /// `not`.
@@ -229,14 +253,16 @@ impl<
         state: &mut State,
         at: u32,
         want: Option<&Ty>,
-        a: &Expr,
+        a: &Boxed<Expr>,
     ) -> Result<(Expr, Ty), TypeFault>
         requires { Nests self.now.depth (F.pre self.now.run) (F.post self.now.run) }
         ensures meets { Meets (spec.negation scope.now.code.now scope.now.seen (below scope.now self.now.depth) state.old.ctx at (option_copied want.entry) a.now state.old.node) result state.new.node }
         ensures keeps { state.new.ctx ≡ state.old.ctx }
     {
-        let test = self.wanting_boxed(scope, state, &Ty::Bool, a)?;
-        settle_type(self.alloc, at, state.node, want, Expr::Not(test), Ty::Bool)
+        match self.wanting_boxed(scope, state, &Ty::Bool, a) {
+            Ok(test) => settle_type(self.alloc, at, state.node, want, Expr::Not(test), Ty::Bool),
+            Err(fault) => Err(fault),
+        }
     }
 
     /// `try`.
@@ -247,7 +273,7 @@ impl<
         state: &mut State,
         at: u32,
         want: Option<&Ty>,
-        a: &Expr,
+        a: &Boxed<Expr>,
         clauses: &Clauses,
     ) -> Result<(Expr, Ty), TypeFault>
         requires { Nests self.now.depth (F.pre self.now.run) (F.post self.now.run) }
@@ -257,9 +283,13 @@ impl<
         if any_unknown(scope.code, clauses.as_slice()) {
             return Err(TypeFault::UnknownName(Place::Node(at)));
         }
-        let (tried, ty) = self.run_boxed(scope, state, want, a)?;
-        let handlers = self.clauses(scope, state, &ty, clauses.as_slice())?;
-        Ok((Expr::Try(tried, handlers), ty))
+        match self.run_boxed(scope, state, want, a) {
+            Ok((tried, ty)) => match self.clauses(scope, state, &ty, clauses.as_slice()) {
+                Ok(handlers) => Ok((Expr::Try(tried, handlers), ty)),
+                Err(fault) => Err(fault),
+            },
+            Err(fault) => Err(fault),
+        }
     }
 
     /// `eval`.
@@ -270,21 +300,23 @@ impl<
         state: &mut State,
         at: u32,
         want: Option<&Ty>,
-        a: &Expr,
+        a: &Boxed<Expr>,
     ) -> Result<(Expr, Ty), TypeFault>
         requires { Nests self.now.depth (F.pre self.now.run) (F.post self.now.run) }
         ensures meets { Meets (spec.evaluation scope.now.code.now scope.now.seen (below scope.now self.now.depth) state.old.ctx at (option_copied want.entry) a.now state.old.node) result state.new.node }
         ensures keeps { state.new.ctx ≡ state.old.ctx }
     {
-        let chunk = self.wanting_boxed(scope, state, &Ty::Chunk, a)?;
-        settle_type(
-            self.alloc,
-            at,
-            state.node,
-            want,
-            Expr::Eval(chunk),
-            Ty::Unit,
-        )
+        match self.wanting_boxed(scope, state, &Ty::Chunk, a) {
+            Ok(chunk) => settle_type(
+                self.alloc,
+                at,
+                state.node,
+                want,
+                Expr::Eval(chunk),
+                Ty::Unit,
+            ),
+            Err(fault) => Err(fault),
+        }
     }
 
     /// `OnRemote`.
@@ -295,20 +327,28 @@ impl<
         state: &mut State,
         at: u32,
         want: Option<&Ty>,
-        a: &Expr,
-        h: &Expr,
-        n: &Expr,
+        a: &Boxed<Expr>,
+        h: &Boxed<Expr>,
+        n: &Boxed<Expr>,
         route: &Name,
     ) -> Result<(Expr, Ty), TypeFault>
         requires { Nests self.now.depth (F.pre self.now.run) (F.post self.now.run) }
         ensures meets { Meets (spec.remote scope.now.code.now scope.now.seen (below scope.now self.now.depth) state.old.ctx at (option_copied want.entry) a.now h.now n.now route.now state.old.node) result state.new.node }
         ensures keeps { state.new.ctx ≡ state.old.ctx }
     {
-        let chunk = self.wanting_boxed(scope, state, &Ty::Chunk, a)?;
-        let host = self.wanting_boxed(scope, state, &Ty::Host, h)?;
-        let bound = self.wanting_boxed(scope, state, &Ty::Int, n)?;
-        let whole = Expr::OnRemote(chunk, host, bound, route.copy(self.alloc)?);
-        settle_type(self.alloc, at, state.node, want, whole, Ty::Unit)
+        match self.wanting_boxed(scope, state, &Ty::Chunk, a) {
+            Ok(chunk) => match self.wanting_boxed(scope, state, &Ty::Host, h) {
+                Ok(host) => match self.wanting_boxed(scope, state, &Ty::Int, n) {
+                    Ok(bound) => {
+                        let whole = routed(self.alloc, chunk, host, bound, route)?;
+                        settle_type(self.alloc, at, state.node, want, whole, Ty::Unit)
+                    }
+                    Err(fault) => Err(fault),
+                },
+                Err(fault) => Err(fault),
+            },
+            Err(fault) => Err(fault),
+        }
     }
 
     /// `OnNeighbor`.
@@ -319,21 +359,77 @@ impl<
         state: &mut State,
         at: u32,
         want: Option<&Ty>,
-        a: &Expr,
-        h: &Expr,
-        n: &Expr,
-        d: &Expr,
+        a: &Boxed<Expr>,
+        h: &Boxed<Expr>,
+        n: &Boxed<Expr>,
+        d: &Boxed<Expr>,
     ) -> Result<(Expr, Ty), TypeFault>
         requires { Nests self.now.depth (F.pre self.now.run) (F.post self.now.run) }
         ensures meets { Meets (spec.neighbour scope.now.code.now scope.now.seen (below scope.now self.now.depth) state.old.ctx at (option_copied want.entry) a.now h.now n.now d.now state.old.node) result state.new.node }
         ensures keeps { state.new.ctx ≡ state.old.ctx }
     {
         let chunk = self.wanting_boxed(scope, state, &Ty::Chunk, a)?;
-        let host = self.wanting_boxed(scope, state, &Ty::Host, h)?;
-        let bound = self.wanting_boxed(scope, state, &Ty::Int, n)?;
-        let dev = self.wanting_boxed(scope, state, &Ty::Dev, d)?;
-        let whole = Expr::OnNeighbor(chunk, host, bound, dev);
-        settle_type(self.alloc, at, state.node, want, whole, Ty::Unit)
+        match self.wanting_boxed(scope, state, &Ty::Host, h) {
+            Ok(host) => match self.wanting_boxed(scope, state, &Ty::Int, n) {
+                Ok(bound) => match self.wanting_boxed(scope, state, &Ty::Dev, d) {
+                    Ok(dev) => {
+                        let whole = Expr::OnNeighbor(chunk, host, bound, dev);
+                        settle_type(self.alloc, at, state.node, want, whole, Ty::Unit)
+                    }
+                    Err(fault) => Err(fault),
+                },
+                Err(fault) => Err(fault),
+            },
+            Err(fault) => Err(fault),
+        }
+    }
+}
+
+/// A copy of the type of a tuple's part with that number.
+fn part_type(alloc: Global, at: u32, number: u8, ty: &Ty) -> Result<Ty, TypeFault>
+    ensures { (node : ℕ) → Meets (spec.or_refuse (spec.part_in number ty.now) (TypeFault.WrongShape (Place.Node at)) node) result node }
+{
+    match part_in(number, ty) {
+        Some(item) => Ok(item.copy(alloc)?),
+        None => Err(TypeFault::WrongShape(Place::Node(at))),
+    }
+}
+
+/// Adds a binding to those in scope.
+fn bind(alloc: Global, ctx: &mut Params, name: &Name, ty: &Ty) -> Result<(), NoMemory>
+    ensures added { OnOk result (ctx.new ≡ ctx.old ++ binds name.now ty.now ∷ []) }
+    ensures refused { OnErr result (ctx.new ≡ ctx.old) }
+{
+    let param = binding_of(alloc, name, ty)?;
+    Ok(ctx.add(param)?)
+}
+
+/// A binding.
+fn binding_of(alloc: Global, name: &Name, ty: &Ty) -> Result<Param, NoMemory>
+    ensures { IfOk result (λ p. p ≡ binds name.now ty.now) }
+{
+    match ty.copy(alloc) {
+        Ok(ty) => match name.copy(alloc) {
+            Ok(name) => Ok(Param { name, ty }),
+            Err(NoMemory) => Err(NoMemory),
+        },
+        Err(NoMemory) => Err(NoMemory),
+    }
+}
+
+/// `OnRemote(chunk, host, bound, route)`.
+fn routed(
+    alloc: Global,
+    chunk: Boxed<Expr>,
+    host: Boxed<Expr>,
+    bound: Boxed<Expr>,
+    route: &Name,
+) -> Result<Expr, NoMemory>
+    ensures { IfOk result (λ e. e ≡ Expr.OnRemote chunk host bound route.now) }
+{
+    match route.copy(alloc) {
+        Ok(route) => Ok(Expr::OnRemote(chunk, host, bound, route)),
+        Err(NoMemory) => Err(NoMemory),
     }
 }
 
@@ -347,5 +443,11 @@ fn bound_in(
 ) -> Result<Expr, NoMemory>
     ensures { IfOk result (λ e. e ≡ Expr.Let name.now ty.now bound body) }
 {
-    Ok(Expr::Let(name.copy(alloc)?, ty.copy(alloc)?, bound, body))
+    match binding_of(alloc, name, ty) {
+        Ok(param) => {
+            let Param { name, ty } = param;
+            Ok(Expr::Let(name, ty, bound, body))
+        }
+        Err(NoMemory) => Err(NoMemory),
+    }
 }

@@ -17,5 +17,4 @@ mod typed;
 pub use handlers::is_handler;
 pub use names::fun_of;
 pub use typed::{Checked, annotate, check, first_refusal};
-pub use typing_laws::{checking_is_typing, full_programs_stay, types_are_unique};
-pub use typing_rules::TypeFault;
+pub use typing_rules::{TypeFault, checking_is_typing, full_programs_stay, types_are_unique};

@@ -2,13 +2,15 @@
 
 ghost use Rattle.std.specs.Prelude.{◌≡◌};
 ghost use Rattle.std.specs.Option.{option_copied};
+ghost use Rattle.plan_base.specs.declared.tree.Expr.TheVariants as x;
 ghost use Rattle.typing_rules.specs.TypingOrder as spec;
 ghost use Rattle.plan_types.specs.Checks.{Meets, Nests, below};
 
 use crate::checker::Checker;
 use crate::settle::{is_joined, is_ordered, items_of, list_of, settle_type, shallow};
 use crate::state::{Scope, State};
-use plan_base::{Expr, Op, Place, Ty};
+use plan_base::{Expr, NoMemory, Op, Place, Ty};
+use plan_items::Boxed;
 use std::alloc::Global;
 use typing_rules::TypeFault;
 
@@ -22,6 +24,65 @@ impl<
         &Expr,
     ) -> Result<(Expr, Ty), TypeFault>,
 > Checker<F> {
+    /// The second operand, of which that type is wanted, where an operator gives the other.
+    fn second_operand(
+        &self,
+        scope: &Scope<'_>,
+        state: &mut State,
+        at: u32,
+        want: Option<&Ty>,
+        op: Op,
+        first: Boxed<Expr>,
+        ty: &Ty,
+        b: &Boxed<Expr>,
+        gives: Ty,
+    ) -> Result<(Expr, Ty), TypeFault>
+        requires { Nests self.now.depth (F.pre self.now.run) (F.post self.now.run) }
+        ensures meets { Meets (spec.after (spec.wanting scope.now.code.now scope.now.seen (below scope.now self.now.depth) state.old.ctx ty.now b.now state.old.node) (λ q. spec.settled_type at (option_copied want.entry) (x.Binary op first q) gives)) result state.new.node }
+        ensures keeps { state.new.ctx ≡ state.old.ctx }
+    {
+        match self.wanting_boxed(scope, state, ty, b) {
+            Ok(second) => settle_type(
+                self.alloc,
+                at,
+                state.node,
+                want,
+                Expr::Binary(op, first, second),
+                gives,
+            ),
+            Err(fault) => Err(fault),
+        }
+    }
+
+    /// The second operand of `^`, which has the type of the first.
+    fn joined_operand(
+        &self,
+        scope: &Scope<'_>,
+        state: &mut State,
+        at: u32,
+        want: Option<&Ty>,
+        op: Op,
+        first: Boxed<Expr>,
+        ty: Ty,
+        b: &Boxed<Expr>,
+    ) -> Result<(Expr, Ty), TypeFault>
+        requires { Nests self.now.depth (F.pre self.now.run) (F.post self.now.run) }
+        ensures meets { Meets (spec.after (spec.wanting scope.now.code.now scope.now.seen (below scope.now self.now.depth) state.old.ctx ty b.now state.old.node) (λ q. spec.settled_type at (option_copied want.entry) (x.Binary op first q) ty)) result state.new.node }
+        ensures keeps { state.new.ctx ≡ state.old.ctx }
+    {
+        match self.wanting_boxed(scope, state, &ty, b) {
+            Ok(second) => settle_type(
+                self.alloc,
+                at,
+                state.node,
+                want,
+                Expr::Binary(op, first, second),
+                ty,
+            ),
+            Err(fault) => Err(fault),
+        }
+    }
+
     /// Two numbers and an operator that gives a number.
     #[tactic(auto, unfolding(typing_rules::specs::TypingOrder::calculation))]
     fn calculation(
@@ -31,23 +92,27 @@ impl<
         at: u32,
         want: Option<&Ty>,
         op: Op,
-        a: &Expr,
-        b: &Expr,
+        a: &Boxed<Expr>,
+        b: &Boxed<Expr>,
     ) -> Result<(Expr, Ty), TypeFault>
         requires { Nests self.now.depth (F.pre self.now.run) (F.post self.now.run) }
         ensures meets { Meets (spec.calculation scope.now.code.now scope.now.seen (below scope.now self.now.depth) state.old.ctx at (option_copied want.entry) op a.now b.now state.old.node) result state.new.node }
         ensures keeps { state.new.ctx ≡ state.old.ctx }
     {
-        let first = self.wanting_boxed(scope, state, &Ty::Int, a)?;
-        let second = self.wanting_boxed(scope, state, &Ty::Int, b)?;
-        settle_type(
-            self.alloc,
-            at,
-            state.node,
-            want,
-            Expr::Binary(op, first, second),
-            Ty::Int,
-        )
+        match self.wanting_boxed(scope, state, &Ty::Int, a) {
+            Ok(first) => self.second_operand(
+                scope,
+                state,
+                at,
+                want,
+                op,
+                first,
+                &Ty::Int,
+                b,
+                Ty::Int,
+            ),
+            Err(fault) => Err(fault),
+        }
     }
 
     /// `^`.
@@ -59,26 +124,23 @@ impl<
         at: u32,
         want: Option<&Ty>,
         op: Op,
-        a: &Expr,
-        b: &Expr,
+        a: &Boxed<Expr>,
+        b: &Boxed<Expr>,
     ) -> Result<(Expr, Ty), TypeFault>
         requires { Nests self.now.depth (F.pre self.now.run) (F.post self.now.run) }
         ensures meets { Meets (spec.join scope.now.code.now scope.now.seen (below scope.now self.now.depth) state.old.ctx at (option_copied want.entry) op a.now b.now state.old.node) result state.new.node }
         ensures keeps { state.new.ctx ≡ state.old.ctx }
     {
-        let (first, ty) = self.run_boxed(scope, state, None, a)?;
-        if !is_joined(&ty) {
-            return Err(TypeFault::WrongShape(Place::Node(at)));
+        match self.run_boxed(scope, state, None, a) {
+            Ok((first, ty)) => {
+                if is_joined(&ty) {
+                    self.joined_operand(scope, state, at, want, op, first, ty, b)
+                } else {
+                    Err(TypeFault::WrongShape(Place::Node(at)))
+                }
+            }
+            Err(fault) => Err(fault),
         }
-        let second = self.wanting_boxed(scope, state, &ty, b)?;
-        settle_type(
-            self.alloc,
-            at,
-            state.node,
-            want,
-            Expr::Binary(op, first, second),
-            ty,
-        )
     }
 
     /// `=` and `<>`.
@@ -90,23 +152,27 @@ impl<
         at: u32,
         want: Option<&Ty>,
         op: Op,
-        a: &Expr,
-        b: &Expr,
+        a: &Boxed<Expr>,
+        b: &Boxed<Expr>,
     ) -> Result<(Expr, Ty), TypeFault>
         requires { Nests self.now.depth (F.pre self.now.run) (F.post self.now.run) }
         ensures meets { Meets (spec.comparison scope.now.code.now scope.now.seen (below scope.now self.now.depth) state.old.ctx at (option_copied want.entry) op a.now b.now state.old.node) result state.new.node }
         ensures keeps { state.new.ctx ≡ state.old.ctx }
     {
-        let (first, ty) = self.run_boxed(scope, state, None, a)?;
-        let second = self.wanting_boxed(scope, state, &ty, b)?;
-        settle_type(
-            self.alloc,
-            at,
-            state.node,
-            want,
-            Expr::Binary(op, first, second),
-            Ty::Bool,
-        )
+        match self.run_boxed(scope, state, None, a) {
+            Ok((first, ty)) => self.second_operand(
+                scope,
+                state,
+                at,
+                want,
+                op,
+                first,
+                &ty,
+                b,
+                Ty::Bool,
+            ),
+            Err(fault) => Err(fault),
+        }
     }
 
     /// `<` and its like.
@@ -118,26 +184,23 @@ impl<
         at: u32,
         want: Option<&Ty>,
         op: Op,
-        a: &Expr,
-        b: &Expr,
+        a: &Boxed<Expr>,
+        b: &Boxed<Expr>,
     ) -> Result<(Expr, Ty), TypeFault>
         requires { Nests self.now.depth (F.pre self.now.run) (F.post self.now.run) }
         ensures meets { Meets (spec.order scope.now.code.now scope.now.seen (below scope.now self.now.depth) state.old.ctx at (option_copied want.entry) op a.now b.now state.old.node) result state.new.node }
         ensures keeps { state.new.ctx ≡ state.old.ctx }
     {
-        let (first, ty) = self.run_boxed(scope, state, None, a)?;
-        if !is_ordered(&ty) {
-            return Err(TypeFault::WrongShape(Place::Node(at)));
+        match self.run_boxed(scope, state, None, a) {
+            Ok((first, ty)) => {
+                if is_ordered(&ty) {
+                    self.second_operand(scope, state, at, want, op, first, &ty, b, Ty::Bool)
+                } else {
+                    Err(TypeFault::WrongShape(Place::Node(at)))
+                }
+            }
+            Err(fault) => Err(fault),
         }
-        let second = self.wanting_boxed(scope, state, &ty, b)?;
-        settle_type(
-            self.alloc,
-            at,
-            state.node,
-            want,
-            Expr::Binary(op, first, second),
-            Ty::Bool,
-        )
     }
 
     /// `::`.
@@ -149,24 +212,30 @@ impl<
         at: u32,
         want: Option<&Ty>,
         op: Op,
-        a: &Expr,
-        b: &Expr,
+        a: &Boxed<Expr>,
+        b: &Boxed<Expr>,
     ) -> Result<(Expr, Ty), TypeFault>
         requires { Nests self.now.depth (F.pre self.now.run) (F.post self.now.run) }
         ensures meets { Meets (spec.prefix scope.now.code.now scope.now.seen (below scope.now self.now.depth) state.old.ctx at (option_copied want.entry) op a.now b.now state.old.node) result state.new.node }
         ensures keeps { state.new.ctx ≡ state.old.ctx }
     {
-        let (first, item) = self.run_boxed(scope, state, items_of(want), a)?;
-        let ty = list_of(self.alloc, item)?;
-        let second = self.wanting_boxed(scope, state, &ty, b)?;
-        shallow(
-            self.alloc,
-            at,
-            state.node,
-            want,
-            Expr::Binary(op, first, second),
-            ty,
-        )
+        match self.run_boxed(scope, state, items_of(want), a) {
+            Ok((first, item)) => match list_of(self.alloc, item) {
+                Ok(ty) => match self.wanting_boxed(scope, state, &ty, b) {
+                    Ok(second) => shallow(
+                        self.alloc,
+                        at,
+                        state.node,
+                        want,
+                        Expr::Binary(op, first, second),
+                        ty,
+                    ),
+                    Err(fault) => Err(fault),
+                },
+                Err(NoMemory) => Err(TypeFault::NoMemory),
+            },
+            Err(fault) => Err(fault),
+        }
     }
 
     /// An operator between two operands.
@@ -178,8 +247,8 @@ impl<
         at: u32,
         want: Option<&Ty>,
         op: Op,
-        a: &Expr,
-        b: &Expr,
+        a: &Boxed<Expr>,
+        b: &Boxed<Expr>,
     ) -> Result<(Expr, Ty), TypeFault>
         requires { Nests self.now.depth (F.pre self.now.run) (F.post self.now.run) }
         ensures meets { Meets (spec.operation scope.now.code.now scope.now.seen (below scope.now self.now.depth) state.old.ctx at (option_copied want.entry) op a.now b.now state.old.node) result state.new.node }

@@ -1,6 +1,6 @@
 //! The checking of a whole program: its declarations, its bodies, and its size.
 
-ghost use Rattle.std.specs.Prelude.{◌≡◌, ◌++◌, [], Some, map, IfOk};
+ghost use Rattle.std.specs.Prelude.{◌≡◌, ◌++◌, ◌∷◌, [], Some, map, IfOk, OnOk};
 ghost use Rattle.typing_rules.specs.Typing.{param_names};
 ghost use Rattle.typing_rules.specs.TypingNames as names;
 ghost use Rattle.typing_rules.specs.TypingOrder as spec;
@@ -22,6 +22,15 @@ const MOST_DEPTH: usize = 64;
 /// The greatest size of marshalled code, in bytes.
 const MOST_CODE: u64 = 16000;
 
+/// Adds a copy of a name.
+fn add_name(alloc: Global, names: &mut Names, name: &Name) -> Result<(), NoMemory>
+    ensures { OnOk result (names.new ≡ names.old ++ name.now ∷ []) }
+{
+    let name = name.copy(alloc)?;
+    Ok(names.add(name)?)
+}
+
+/// Whether a primitive has that name.
 fn is_prim(name: &Name) -> bool
     ensures { result ≡ names.is_prim name.now }
 {
@@ -39,7 +48,7 @@ fn services(alloc: Global, mut all: &[Svc], at: u32) -> Result<u32, TypeFault>
         if is_prim(&d.name) || has_name(taken.as_slice(), &d.name) {
             return Err(TypeFault::TwiceNamed(Place::Decl(number)));
         }
-        taken.add(d.name.copy(alloc)?)?;
+        add_name(alloc, &mut taken, &d.name)?;
         number = number.saturating_add(1);
         all = rest;
     }
@@ -67,7 +76,7 @@ fn exceptions(alloc: Global, mut all: &[Name], at: u32) -> Result<u32, TypeFault
         if is_taken(taken.as_slice(), name) {
             return Err(TypeFault::TwiceNamed(Place::Decl(number)));
         }
-        taken.add(name.copy(alloc)?)?;
+        add_name(alloc, &mut taken, name)?;
         number = number.saturating_add(1);
         all = rest;
     }
@@ -83,7 +92,7 @@ fn differ(alloc: Global, mut all: &[Param]) -> Result<bool, NoMemory>
         if has_name(taken.as_slice(), &param.name) {
             return Ok(false);
         }
-        taken.add(param.name.copy(alloc)?)?;
+        add_name(alloc, &mut taken, &param.name)?;
         all = rest;
     }
     Ok(true)
@@ -95,7 +104,7 @@ fn svc_names(alloc: Global, svcs: &[Svc]) -> Result<Names, NoMemory>
 {
     let mut all = Items::new(alloc);
     for svc in svcs {
-        all.add(svc.name.copy(alloc)?)?;
+        add_name(alloc, &mut all, &svc.name)?;
     }
     Ok(all)
 }
@@ -115,7 +124,7 @@ fn functions(alloc: Global, before: Names, mut all: &[Fun], at: u32) -> Result<u
         {
             return Err(TypeFault::TwiceNamed(Place::Decl(number)));
         }
-        taken.add(d.name.copy(alloc)?)?;
+        add_name(alloc, &mut taken, &d.name)?;
         number = number.saturating_add(1);
         all = rest;
     }
@@ -164,21 +173,31 @@ fn head_of(alloc: Global, d: &Fun) -> Result<(Name, Params, Ty), NoMemory>
     ensures { IfOk result (λ h. h ≡ (d.now.name, d.now.params, d.now.result)) }
 {
     let name = d.name.copy(alloc)?;
-    let params = copy_params(alloc, d.params.as_slice())?;
-    Ok((name, params, d.result.copy(alloc)?))
+    match copy_params(alloc, d.params.as_slice()) {
+        Ok(params) => match d.result.copy(alloc) {
+            Ok(gives) => Ok((name, params, gives)),
+            Err(NoMemory) => Err(NoMemory),
+        },
+        Err(NoMemory) => Err(NoMemory),
+    }
 }
 
 /// The same function with another body.
 fn with_body(alloc: Global, d: &Fun, body: Expr) -> Result<Fun, NoMemory>
     ensures { IfOk result (λ f. f ≡ record d.now { body = body }) }
 {
-    let (name, params, gives) = head_of(alloc, d)?;
-    Ok(Fun {
-        name,
-        params,
-        result: gives,
-        body,
-    })
+    match head_of(alloc, d) {
+        Ok((name, params, gives)) => Ok(Fun {
+            name,
+            params,
+            result: gives,
+            body,
+        }),
+        Err(NoMemory) => {
+            drop(body);
+            Err(NoMemory)
+        }
+    }
 }
 
 /// The functions with the types of their bodies filled in, and the number of expressions.
@@ -195,6 +214,19 @@ fn bodies(alloc: Global, code: &Program, mut all: &[Fun]) -> Result<(Funs, u32),
         all = rest;
     }
     Ok((done, node))
+}
+
+/// The same program with other functions.
+fn with_funs(alloc: Global, code: &Program, funs: Funs) -> Result<Program, NoMemory>
+    ensures { IfOk result (λ p. p ≡ record code.now { funs = funs }) }
+{
+    match copy_svcs(alloc, code.svcs.as_slice()) {
+        Ok(svcs) => match copy_names(alloc, code.exns.as_slice()) {
+            Ok(exns) => Ok(Program { svcs, exns, funs }),
+            Err(NoMemory) => Err(NoMemory),
+        },
+        Err(NoMemory) => Err(NoMemory),
+    }
 }
 
 /// The program, unless its code is too large.
@@ -216,9 +248,5 @@ pub fn annotate_program(alloc: Global, code: &Program) -> Result<Program, TypeFa
 {
     let _count = declarations(alloc, code)?;
     let (funs, _nodes) = bodies(alloc, code, code.funs.as_slice())?;
-    check_size(Program {
-        svcs: copy_svcs(alloc, code.svcs.as_slice())?,
-        exns: copy_names(alloc, code.exns.as_slice())?,
-        funs,
-    })
+    check_size(with_funs(alloc, code, funs)?)
 }

@@ -15,9 +15,10 @@ use std::alloc::Global;
 use typing_rules::TypeFault;
 
 /// The refusal of an expression, which is let go.
-fn refuse_expr(_e: Expr, fault: TypeFault) -> Result<(Expr, Ty), TypeFault>
+fn refuse_expr(e: Expr, fault: TypeFault) -> Result<(Expr, Ty), TypeFault>
     ensures { result ≡ Err fault }
 {
+    drop(e);
     Err(fault)
 }
 

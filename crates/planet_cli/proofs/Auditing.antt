@@ -5,7 +5,7 @@ use Rattle.network_plan.specs.declared.node.Log.{Log}
 use Rattle.node_io.specs.Outsides.{Outside}
 use Rattle.node_io.specs.Sinks.{SinkState, Writes}
 use Rattle.ledger_audit.proofs.Balances.{adds_up}
-use Rattle.frames_once.proofs.Sendings.{none_twice}
+use Rattle.ledger_audit.proofs.Sendings.{none_twice}
 use Rattle.fleet_audit.specs.Pasts.{logged_of}
 use Rattle.fleet_audit.specs.Ledgers.{verdict_of}
 use Rattle.fleet_audit.proofs.VerdictLaws.{yes_fits, yes_sent}

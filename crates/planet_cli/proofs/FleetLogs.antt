@@ -23,7 +23,7 @@ use Rattle.node_model.specs.State.{new_node}
 use Rattle.node_model.specs.Fits.{NodeFits, comes_fit}
 use Rattle.ledger_audit.specs.Audits.{Logged}
 use Rattle.ledger_audit.specs.Spelling.{Begins, ReadsAgain}
-use Rattle.frames_once.specs.Once.{EntriesFit, IsOfTwo, HostsApart}
+use Rattle.ledger_audit.specs.Once.{EntriesFit, IsOfTwo, HostsApart}
 use Rattle.fleet_audit.specs.Pasts.{logged_of}
 use Rattle.call_causes.specs.declared.status.Refusal.TheVariants.{TooLong, Log as OfLog}
 use Rattle.file_commands.specs.Said.{Said, nothing, outside, says, said_by, said_at, line_limit, lines_said}

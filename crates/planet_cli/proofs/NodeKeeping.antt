@@ -31,10 +31,10 @@ use Rattle.node_model.specs.Fits.{NodeFits, comes_fit}
 use Rattle.node_model.specs.declared.acts.Act.{Act}
 use Rattle.node_model.specs.declared.acts.Act.TheVariants.{Injected, Asked, SerialsSpent}
 use Rattle.node_model.specs.Node.{stepped_node, visit_step, next_serial, injected_packet, inject_step, asked_plain, asked_read, control_step, node_step}
-use Rattle.node_laws.proofs.Fitting.{Taken, taken_in, step_fits}
-use Rattle.node_laws.proofs.Staying.{arrive_stays, tick_stays, take_stays}
-use Rattle.node_laws.proofs.HostLaws.{new_node_fits}
-use Rattle.node_laws.proofs.NodeBalance.{step_balances}
+use Rattle.node_model.proofs.Fitting.{Taken, taken_in, step_fits}
+use Rattle.node_model.proofs.Staying.{arrive_stays, tick_stays, take_stays}
+use Rattle.node_model.proofs.HostLaws.{new_node_fits}
+use Rattle.node_model.proofs.NodeBalance.{step_balances}
 use Rattle.network_laws.proofs.Opening.{services_fit}
 use Rattle.network_laws.proofs.Visits.{ends_well, cases, chunk_ends, bytes_end}
 use Rattle.service_meaning.specs.Beginning.{opening_standing, present_without}

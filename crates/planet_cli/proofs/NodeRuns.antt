@@ -22,7 +22,7 @@ use Rattle.node_io.specs.Outsides.{Outside}
 use Rattle.node_io.specs.Sinks.{SinkState, Writes}
 use Rattle.node_model.specs.State.{new_node}
 use Rattle.node_model.specs.Fits.{NodeFits}
-use Rattle.node_laws.proofs.Contexts.{node_ordered}
+use Rattle.node_model.proofs.Contexts.{node_ordered}
 use Rattle.serve_model.specs.Runs.{played_entries}
 use Rattle.serve_model.specs.Texts.{whole_trace}
 use Rattle.node_serve.specs.Desks.{Serving, IsSeen, desk_of}

@@ -4,7 +4,7 @@ use Rattle.std.specs.List.{list_all}
 use Rattle.plan_base.specs.declared.ids.Host.{Host}
 use Rattle.plan_base.specs.declared.tree.Value.{Value}
 use Rattle.plan_base.specs.WellFormed.{well_formed_value, value_has_types}
-use Rattle.leaf_laws.proofs.Leaves.{host_formed, int_formed, blob_formed, host_full, int_full, blob_full}
+use Rattle.plan_base.proofs.Leaves.{host_formed, int_formed, blob_formed, host_full, int_full, blob_full}
 use Rattle.port_tree.specs.Programs.{data_args, ack_args}
 
 pub data_formed : (h : Host) (seq : ℤ) (b : List ℕ) (vs : List Value) → vs ≡ data_args h seq b → length b ≤ 4096 → IsTrue (list_all well_formed_value vs)

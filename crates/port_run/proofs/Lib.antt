@@ -1,3 +1,7 @@
+pub mod Nodes
+pub mod Worlds
+pub mod Rules
+pub mod Closed
 pub mod Running
 pub mod Serving
 pub mod Opening

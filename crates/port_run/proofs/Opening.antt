@@ -4,11 +4,11 @@ use Rattle.std.specs.List.{AllByRecursion}
 use Rattle.network_plan.specs.declared.schedule.Topology.{Topology}
 use Rattle.network_plan.specs.declared.schedule.HostSpec.{HostSpec}
 use Rattle.node_model.specs.State.{new_node}
-use Rattle.node_laws.proofs.Keeping.{none_kept}
+use Rattle.node_model.proofs.Keeping.{none_kept}
 use Rattle.service_meaning.specs.Beginning.{present_without}
 use Rattle.service_meaning.specs.Serving.{offer}
 use Rattle.world_model.specs.World.{first_moment, opening, opening_node}
-use Rattle.port_node.specs.Known.{StampedKnown, NodeKnown, WorldKnown}
+use Rattle.port_run.specs.Known.{StampedKnown, NodeKnown, WorldKnown}
 use Rattle.port_run.specs.Allowed.{port_allowed, AllPresent}
 
 nodes_known : (t : Topology) (hs : List HostSpec) → AllByRecursion AllPresent hs → AllByRecursion (NodeKnown (port_allowed (offer (present_without [])) [] 1)) (map (opening_node t) hs)

@@ -11,7 +11,7 @@ use Rattle.node_model.specs.declared.acts.Act.TheVariants as act
 use Rattle.world_model.specs.declared.lines.Line.{Line}
 use Rattle.world_model.specs.declared.lines.Line.TheVariants as line
 use Rattle.world_model.specs.World.{WorldState, happens, world_after}
-use Rattle.port_visits.proofs.Rules.{all_push}
+use Rattle.port_run.proofs.Rules.{all_push}
 use Rattle.reliable_ports.specs.Ends.{Body, number_of, is_full, with_offer, held_at, with_message}
 use Rattle.port_run.specs.Ports.{PortState, PortEvent, Offer, Transmit, Wire, price, said_to, heard_by, makes, first_pays, second_pays, ack_event, message_event, acks, hears_message, hears_ack, hears_note, hears_line, hears, after, offers_one, transmits, port_run, port_begun}
 use Rattle.port_run.specs.Allowed.{IsWire}

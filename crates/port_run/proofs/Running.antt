@@ -24,11 +24,11 @@ use Rattle.reliable_ports.specs.Ends.{Body, number_of, is_full, with_offer, held
 use Rattle.reliable_ports.proofs.Slots.{get_more}
 use Rattle.reliable_ports.proofs.Scripts.{prefix_length}
 use Rattle.reliable_ports.proofs.Steps.{message, Receives, Sends, receives_more, receives_message, delivers_on, sends_more, held_message, sends_ack}
-use Rattle.port_visits.specs.Only.{Allowed, AnswerFits}
-use Rattle.port_visits.specs.Visits.{VisitIsGood, Any}
-use Rattle.port_visits.proofs.Closed.{data_closed, ack_closed}
-use Rattle.port_node.specs.Known.{IsClosed, FrameKnown, StampedKnown, NodeKnown, WorldKnown, LineKnown, EventKnown, ComesKnown}
-use Rattle.port_node.proofs.Worlds.{event_known}
+use Rattle.port_run.specs.Only.{Allowed, AnswerFits}
+use Rattle.port_run.specs.Visits.{VisitIsGood, Any}
+use Rattle.port_run.proofs.Closed.{data_closed, ack_closed}
+use Rattle.port_run.specs.Known.{IsClosed, FrameKnown, StampedKnown, NodeKnown, WorldKnown, LineKnown, EventKnown, ComesKnown}
+use Rattle.port_run.proofs.Worlds.{event_known}
 use Rattle.port_run.specs.Ports.{PortState, PortEvent, Offer, Transmit, Wire, first_host, second_host, price, int_in, blob_in, pair_with, pair_in, said_to, heard_by, makes, first_pays, second_pays, ack_event, message_event, acks, hears_message, hears_ack, hears_note, hears_line, hears, after, offers_one, transmits, happens_at, port_run, port_begun}
 use Rattle.port_run.specs.Allowed.{body_numbered, PortChunk, PortNote, port_allowed, NoNote, PortServes, IsWire}
 

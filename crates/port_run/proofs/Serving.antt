@@ -16,8 +16,8 @@ use Rattle.value_rules.specs.Rules.{bad_index}
 use Rattle.service_meaning.specs.Answers.{given_answer, noted_answer, raised_answer, of_host, of_int, delivered_answer}
 use Rattle.service_meaning.specs.Serving.{serve, serve_at, serve_offered, offer}
 use Rattle.port_tree.specs.Programs.{this_host_is, get_rb, deliver}
-use Rattle.port_visits.specs.Only.{AnswerFits}
-use Rattle.port_visits.specs.Visits.{Any}
+use Rattle.port_run.specs.Only.{AnswerFits}
+use Rattle.port_run.specs.Visits.{Any}
 use Rattle.port_run.specs.Allowed.{NoNote, PortServes}
 
 host_at : (o : Option Ty) (h : Host) (ctx : Ctx) (rows : Rows) → AnswerFits NoNote Any (serve_at o service.ThisHostIs (value.Host h ∷ []) ctx rows).answer

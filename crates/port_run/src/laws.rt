@@ -8,7 +8,7 @@ ghost use Rattle.service_meaning.specs.Beginning.{present_without};
 ghost use Rattle.network_plan.specs.declared.schedule.Topology.{Topology};
 ghost use Rattle.network_plan.specs.Rules.{KeepsNetwork};
 ghost use Rattle.world_model.specs.World.{WorldState, opening};
-ghost use Rattle.port_node.specs.Known.{WorldKnown};
+ghost use Rattle.port_run.specs.Known.{WorldKnown};
 ghost use Rattle.port_run.specs.Ports.{PortEvent, port_run, port_begun, IsInOrder, IsAcked};
 ghost use Rattle.port_run.specs.Allowed.{PortServes, port_allowed, IsWire, AllPresent};
 ghost use Rattle.port_run.specs.Paid.{Apart, ScriptFits, IsMade, IsPaid};

@@ -3,5 +3,9 @@
 #![tactic(auto)]
 
 mod laws;
+mod nodes;
+mod visits;
 
 pub use laws::{opening_is_known, port_is_paid, port_law, registry_serves};
+pub use nodes::{events_stay_known, steps_stay_known};
+pub use visits::{ack_visits, data_visits};

@@ -16,8 +16,8 @@ use Rattle.world_model.specs.World.{happens, opening}
 use Rattle.reliable_ports.specs.Ends.{Body, number_of, Sending, offered_count, is_full, with_offer, held_at, next_of, with_message}
 use Rattle.reliable_ports.proofs.Scripts.{prefix_length}
 use Rattle.reliable_ports.proofs.Steps.{message, Sends, held_message}
-use Rattle.port_node.specs.Known.{LineKnown, ComesKnown}
-use Rattle.port_node.proofs.Worlds.{all_take, event_known}
+use Rattle.port_run.specs.Known.{LineKnown, ComesKnown}
+use Rattle.port_run.proofs.Worlds.{all_take, event_known}
 use Rattle.port_run.specs.Ports.{PortState, PortEvent, Offer, Transmit, Wire, price, said_to, heard_by, makes, first_pays, second_pays, ack_event, message_event, acks, hears_message, hears_ack, hears_note, hears_line, hears, after, offers_one, transmits, happens_at, port_run}
 use Rattle.port_run.specs.Allowed.{body_numbered, PortChunk, port_allowed, IsWire}
 use Rattle.port_run.proofs.Running.{Together, port_closed, hears_on, run_on, begun_on}

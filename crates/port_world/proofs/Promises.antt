@@ -7,7 +7,7 @@ use Rattle.port_files.specs.declared.file.PortEvent.{PortEvent as Said}
 use Rattle.port_files.specs.declared.file.PortEvent.TheVariants as says
 use Rattle.port_files.specs.declared.file.PortFile.{PortFile}
 use Rattle.port_files.specs.PortRules.{KeepsEvent, KeepsPort}
-use Rattle.port_node.proofs.Worlds.{all_take}
+use Rattle.port_run.proofs.Worlds.{all_take}
 use Rattle.port_run.specs.Paid.{EventFits, ScriptFits}
 use Rattle.port_run.proofs.Purses.{run_pays, begun_pays}
 use Rattle.port_run.proofs.Fitting.{run_fits, begun_fits}

@@ -20,7 +20,7 @@ use Rattle.program_grammar.proofs.ProgramsAre.{program_is}
 use Rattle.program_grammar.proofs.ProgramsWork.{program_refused}
 use Rattle.grammar_laws.proofs.Own.{agenda_own}
 use Rattle.token_faults.proofs.Own.{refused_own}
-use Rattle.typing_laws.proofs.Programs.{annotated_sound, annotated_complete, depths_kept}
+use Rattle.typing_rules.proofs.Programs.{annotated_sound, annotated_complete, depths_kept}
 use Rattle.typing_order.proofs.Programs.{first_is}
 use Rattle.typing_order.proofs.Own.{program_own}
 use Rattle.program_text.specs.declared.fault.TextFault.{TextFault}

@@ -1,6 +1,6 @@
 -- The reading of a program works off its agenda.
 use Rattle.std.proofs.Common.{◌≡◌, ◌+◌, ◌≤◌, ℕ, zero, suc, Bool, true, false, List, [], ◌∷◌, ◌++◌, length, nat_lt, Result, Ok, Err, if◌then◌else◌, refl, sym as back, ap, subst, arith, ltb-true, ◌↔◌}
-use Rattle.read_laws.proofs.Agendas.{no_fault}
+use Rattle.plan_items.proofs.Agendas.{no_fault}
 use Rattle.plan_base.specs.declared.limit.Limit.{Limit}
 use Rattle.plan_base.specs.declared.limit.Limit.TheVariants as limits
 use Rattle.plan_base.specs.declared.tree.Draft.{Draft}

@@ -3,7 +3,7 @@ use Rattle.std.proofs.Common.{◌≡◌, ℕ, ℤ, ◌+◌, ◌-◌, ◌≤◌, 
 use Rattle.std.specs.Prelude.{◌&&◌, nat_le}
 use Rattle.std.proofs.lemmas.Bool.Decides.{nat_tests}
 use Rattle.plan_items.proofs.Bools.{and_left, and_right, and_both}
-use Rattle.item_keys.specs.Keys.{Key, first_of_key, put, without, IsUnique}
+use Rattle.plan_items.specs.Keys.{Key, first_of_key, put, without, IsUnique}
 use Rattle.keyed_list.proofs.Lists.{put_end, without_none}
 use Rattle.table_rows.specs.declared.row.Row.{Row}
 use Rattle.table_rows.specs.Rows.{row_key, row_size, put_row, without_row, found_row, fits}

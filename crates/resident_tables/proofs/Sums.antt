@@ -5,7 +5,7 @@ use Rattle.std.proofs.lemmas.Bool.Decides.{nat_tests}
 use Rattle.std.specs.List.{sum_by}
 use Rattle.std.proofs.lemmas.List.Sums.{sum_by-cons}
 use Rattle.plan_items.proofs.Options.{none-some, some-same}
-use Rattle.item_keys.specs.Keys.{Key, first_of_key, put, without, IsUnique}
+use Rattle.plan_items.specs.Keys.{Key, first_of_key, put, without, IsUnique}
 use Rattle.keyed_list.proofs.Orders.{same_or_not}
 use Rattle.keyed_list.proofs.Lists.{found_here, found_on, put_here, put_on, without_here, without_on, without_none}
 use Rattle.table_rows.specs.declared.row.Row.{Row}

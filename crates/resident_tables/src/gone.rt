@@ -1,5 +1,5 @@
-use item_keys::HasKey;
 use plan_base::Text;
+use plan_items::HasKey;
 
 /// The key of a row that was removed.
 #[derive(Drop)]

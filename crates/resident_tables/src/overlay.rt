@@ -1,6 +1,6 @@
 ghost use Rattle.std.specs.Prelude.{◌≡◌, ◌≤◌, [], true, None, pos, ◌≤ℤ◌, OnOk, OnErr};
 ghost use Rattle.std.specs.Option.{option_copied};
-ghost use Rattle.item_keys.specs.Keys.{IsUnique};
+ghost use Rattle.plan_items.specs.Keys.{IsUnique};
 ghost use Rattle.table_rows.specs.Rows.{row_key, without_row, found_row, got, fresh_key, key_after};
 ghost use Rattle.resident_tables.specs.Counted.{counts_of, within, IsFit};
 ghost use Rattle.resident_tables.specs.Layers.{over, IsOver, room_of};
@@ -14,9 +14,9 @@ use crate::moves::{drop_gone, forget, put_parts};
 use crate::next::take_key;
 use crate::parts::Parts;
 use crate::tables::{Tables, value_of};
-use item_keys::HasKey;
 use keyed_list::{KeyedList, Probe};
 use plan_base::{NoMemory, Text, Ty, Value};
+use plan_items::HasKey;
 use std::alloc::Global;
 use std::marker::Model;
 use table_rows::Row;

@@ -2,9 +2,9 @@ ghost use Rattle.std.specs.Prelude.{◌≡◌, min, IfOk};
 ghost use Rattle.table_rows.specs.Rows.{row_size};
 ghost use Rattle.resident_tables.specs.PartRows.{part_row};
 
-use item_keys::HasKey;
 use plan_base::{NoMemory, Text, Ty, Value};
 use plan_copies::Copied;
+use plan_items::HasKey;
 use plan_sizes::{type_size, weight};
 use std::alloc::Global;
 use table_rows::Row;

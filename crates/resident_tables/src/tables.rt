@@ -1,6 +1,6 @@
 ghost use Rattle.std.specs.Prelude.{◌≡◌, ◌≤◌, [], true, pos, ◌≤ℤ◌, OnOk, IfOk};
 ghost use Rattle.std.specs.Option.{option_copied};
-ghost use Rattle.item_keys.specs.Keys.{IsUnique};
+ghost use Rattle.plan_items.specs.Keys.{IsUnique};
 ghost use Rattle.table_rows.specs.Rows.{row_key, without_row, found_row, living, got, value_in, fresh_key, key_after, fits};
 ghost use Rattle.resident_tables.specs.Counted.{counts_of, within, IsFit};
 ghost use Rattle.resident_tables.specs.Layers.{over, IsOver, room_of};
@@ -13,11 +13,11 @@ use crate::moves::{copy_rows, drop_expired, least_expiry, put_parts, total_size}
 use crate::next::take_key;
 use crate::overlay::Overlay;
 use crate::parts::Parts;
-use item_keys::HasKey;
 use keyed_list::{KeyedList, Probe};
 use plan_base::{NoMemory, Text, Ty, Value};
 use plan_copies::Copied;
 use plan_equality::Same;
+use plan_items::HasKey;
 use std::alloc::Global;
 use std::marker::Model;
 use table_rows::Row;

@@ -21,7 +21,7 @@ use Rattle.plan_grammar.specs.Types.{more}
 use Rattle.plan_grammar.specs.Nodes.{all_at, leaf, below_all, trees, over_list}
 use Rattle.plan_grammar.specs.Exprs.{need_open, items_from, arguments_behind, arguments, call, name_operand, chunk, tuple, grouped_expression, parens_behind, parens, symbol_form, operand_kind, operand, expr_to}
 use Rattle.printed_forms.specs.Pieces.{listed_pieces}
-use Rattle.text_laws.specs.PrintedTokens.{Kinds, mark, expr_kinds}
+use Rattle.round_trip.specs.PrintedTokens.{Kinds, mark, expr_kinds}
 use Rattle.round_trip.specs.Reads.{kinds_at, Took, first_kind, IsNode, Ends}
 use Rattle.round_trip.proofs.Steps.{took, then_took, took_by, weaker, behind_is, symbol_is, take_symbol, take_name, take_open, AllRead, AllGood, more_took}
 use Rattle.round_trip.proofs.Ladder.{Starts}

@@ -15,7 +15,7 @@ use Rattle.plan_grammar.specs.Ahead.{Front, Reader, behind, place, is_key}
 use Rattle.plan_grammar.specs.Begins.{kind_begins, begins_operand, begins_expr}
 use Rattle.plan_grammar.specs.Nodes.{below_of, both, consed_nodes}
 use Rattle.plan_grammar.specs.Exprs.{opens_at, operand, addition, before_list, listed_operands, negation, negated_operand, condition, low, before_next, whole, at_level, expr_to, picked_part}
-use Rattle.text_laws.specs.PrintedTokens.{Kinds, expr_kinds}
+use Rattle.round_trip.specs.PrintedTokens.{Kinds, expr_kinds}
 use Rattle.round_trip.specs.Reads.{kinds_at, Took, IsNode, Ends}
 use Rattle.round_trip.proofs.Steps.{took, then_took, took_by, weaker, next_is, behind_is, symbol_is, key_is, take_key, take_open}
 use Rattle.round_trip.proofs.Ladder.{Starts, Joins, at_every_level, up_product, up_addition, up_listed, up_comparison, up_negated, up_conjunction, up_disjunction, up_low, up_whole, isnt_not, isnt_if}

@@ -22,9 +22,9 @@ use Rattle.plan_grammar.specs.Nodes.{all_at}
 use Rattle.plan_parser.specs.declared.program.Gathered.{Gathered}
 use Rattle.plan_parser.specs.Programs.{nothing, one_more, with_service, with_exception, judged_function, with_body, with_function, with_declaration, declarations, draft_of, finished_draft, program_of}
 use Rattle.printed_forms.specs.Pieces.{listed_pieces}
-use Rattle.text_laws.specs.Lexes.{kinds_of}
-use Rattle.text_laws.specs.PrintedTokens.{Kinds, mark, type_kinds, param_kinds, expr_kinds, svc_kinds, exn_kinds, fun_kinds, program_kinds}
-use Rattle.text_laws.specs.Proper.{AllProper, IsProperSvc, IsProperFun, IsProperProgram}
+use Rattle.round_trip.specs.Lexes.{kinds_of}
+use Rattle.round_trip.specs.PrintedTokens.{Kinds, mark, type_kinds, param_kinds, expr_kinds, svc_kinds, exn_kinds, fun_kinds, program_kinds}
+use Rattle.round_trip.specs.Proper.{AllProper, IsProperSvc, IsProperFun, IsProperProgram}
 use Rattle.round_trip.specs.Reads.{kinds_at, Took, first_kind, FollowsType, Ends}
 use Rattle.round_trip.proofs.Steps.{took, then_took, behind_is, key_is, take_name}
 use Rattle.round_trip.proofs.Forms.{level_took}

@@ -17,9 +17,9 @@ use Rattle.plan_grammar.specs.declared.joint.Joint.TheVariants as joints
 use Rattle.plan_grammar.specs.Ahead.{Front, behind, place, is_symbol_kind}
 use Rattle.plan_grammar.specs.Exprs.{parens, parens_behind, key_form, symbol_form, expr_to}
 use Rattle.printed_forms.specs.Pieces.{listed_pieces}
-use Rattle.text_laws.specs.PrintedTokens.{Kinds, mark, op_kinds, type_kinds, clause_kinds, expr_kinds}
-use Rattle.text_laws.specs.Proper.{IsProperOption, IsProper, AreProper, AreProperClauses}
-use Rattle.text_laws.specs.Proper.{IsProper as P, AreProper as M, AreProperClauses as K}
+use Rattle.round_trip.specs.PrintedTokens.{Kinds, mark, op_kinds, type_kinds, clause_kinds, expr_kinds}
+use Rattle.round_trip.specs.Proper.{IsProperOption, IsProper, AreProper, AreProperClauses}
+use Rattle.round_trip.specs.Proper.{IsProper as P, AreProper as M, AreProperClauses as K}
 use Rattle.round_trip.specs.Reads.{kinds_at, Took, IsNode}
 use Rattle.round_trip.proofs.Steps.{took, then_took, behind_is, symbol_is, take_open}
 use Rattle.round_trip.proofs.TypesRead.{largest_cons}

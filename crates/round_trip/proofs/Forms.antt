@@ -21,8 +21,8 @@ use Rattle.plan_grammar.specs.Begins.{kind_begins, begins_operand, begins_negate
 use Rattle.plan_grammar.specs.Joints.{joint_of, joined_tree}
 use Rattle.plan_grammar.specs.Nodes.{over, below_of, both, joined_nodes}
 use Rattle.plan_grammar.specs.Exprs.{operand_kind, operand, product, addition, listed_operands, compared_operands, comparison, negated_operand, conjunction, disjunction, whole, at_level, expr_to, single, grouped_expression, parens_behind, parens, symbol_form}
-use Rattle.text_laws.specs.PrintedTokens.{Kinds, expr_kinds_level, clause_kinds, expr_kinds}
-use Rattle.text_laws.proofs.ExprTokens.{expr_kinds_out}
+use Rattle.round_trip.specs.PrintedTokens.{Kinds, expr_kinds_level, clause_kinds, expr_kinds}
+use Rattle.round_trip.proofs.ExprTokens.{expr_kinds_out}
 use Rattle.round_trip.specs.Reads.{kinds_at, Took, first_kind, IsNode, Ends}
 use Rattle.round_trip.proofs.Steps.{took, then_took, took_by, weaker, next_is, behind_is, symbol_is, take_symbol, take_open}
 use Rattle.round_trip.proofs.Ladder.{Starts, two_are_joined, Joins, up_product, up_addition, up_listed, up_comparison, up_negated, up_conjunction, up_disjunction, up_low, up_whole, isnt_not, isnt_if, at_every_level}

@@ -13,8 +13,8 @@ use Rattle.plan_grammar.specs.Begins.{begins_type, begins_name}
 use Rattle.plan_parser.specs.declared.signature.Head.{Head}
 use Rattle.plan_parser.specs.Signatures.{outer_type, inner_type, arguments_from, arguments_behind, service_at, param_at, params_from, params_behind, head_at}
 use Rattle.printed_forms.specs.Pieces.{listed_pieces}
-use Rattle.text_laws.specs.PrintedTokens.{Kinds, mark, type_kinds, param_kinds}
-use Rattle.text_laws.specs.Proper.{IsReadableType, IsProperParam, IsProperSvc, IsProperFun, AllProper}
+use Rattle.round_trip.specs.PrintedTokens.{Kinds, mark, type_kinds, param_kinds}
+use Rattle.round_trip.specs.Proper.{IsReadableType, IsProperParam, IsProperSvc, IsProperFun, AllProper}
 use Rattle.round_trip.specs.Reads.{kinds_at, Took, FollowsType}
 use Rattle.round_trip.proofs.Steps.{took, then_took, next_is, behind_is, symbol_is, take_symbol, take_name, AllRead, AllGood, more_took}
 use Rattle.round_trip.proofs.TypesRead.{type_takes, type_starts, same_type}

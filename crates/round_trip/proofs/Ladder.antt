@@ -16,8 +16,8 @@ use Rattle.plan_grammar.specs.Begins.{kind_begins}
 use Rattle.plan_grammar.specs.Joints.{joint_of}
 use Rattle.plan_grammar.specs.Nodes.{joined_nodes}
 use Rattle.plan_grammar.specs.Exprs.{chain_from, operand, chained_operands, product, addition, listed_operands, compared_operands, comparison, negated_operand, conjunction, disjunction, low, whole, at_level}
-use Rattle.text_laws.specs.Lexes.{kinds_of}
-use Rattle.text_laws.specs.PrintedTokens.{Kinds}
+use Rattle.round_trip.specs.Lexes.{kinds_of}
+use Rattle.round_trip.specs.PrintedTokens.{Kinds}
 use Rattle.round_trip.specs.Reads.{kinds_at, Took, first_kind, Ends}
 use Rattle.round_trip.proofs.Steps.{took, then_took, took_by, next_is, behind_is, symbol_is, key_is}
 

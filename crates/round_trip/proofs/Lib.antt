@@ -1,3 +1,10 @@
+pub mod Segments
+pub mod Glue
+pub mod Lists
+pub mod TypeTokens
+pub mod ExprTokens
+pub mod ProgramTokens
+pub mod ValueTokens
 pub mod Steps
 pub mod TypesRead
 pub mod Ladder

@@ -15,9 +15,9 @@ use Rattle.plan_grammar.specs.Codes.{key_code, symbol_code}
 use Rattle.plan_grammar.specs.Ahead.{Front, Reader, ◌>>=◌, behind, kind_in, next_kind, is_symbol_kind, is_symbol, is_key_kind, is_key, need_symbol, need_key, name_kind, name_at}
 use Rattle.plan_grammar.specs.Types.{opens, more}
 use Rattle.printed_forms.specs.Pieces.{listed_pieces}
-use Rattle.text_laws.specs.Lexes.{kinds_of}
+use Rattle.round_trip.specs.Lexes.{kinds_of}
 use Rattle.round_trip.specs.Reads.{kinds_at, Took, first_kind}
-use Rattle.text_laws.specs.PrintedTokens.{Kinds, mark}
+use Rattle.round_trip.specs.PrintedTokens.{Kinds, mark}
 
 pub took : {A : Type 0} {more : Kinds} {Q : A → Type 0} (a : A) (g : Front) → kinds_at g ≡ more → Q a → Took (Ok (a, g)) more Q
 took a g h q = record { value = a; rest = g; is = refl; left = h; good = q }

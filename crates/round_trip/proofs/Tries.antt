@@ -17,7 +17,7 @@ use Rattle.plan_grammar.specs.Ahead.{Front, behind, place, is_symbol}
 use Rattle.plan_grammar.specs.Nodes.{all_at, below_of, both, below_all, clauses_of, bodies, try_of}
 use Rattle.plan_grammar.specs.Exprs.{catch_at, clause_follows, clause, clauses_from, try_form, key_form, expr_to}
 use Rattle.printed_forms.specs.Pieces.{listed_pieces}
-use Rattle.text_laws.specs.PrintedTokens.{Kinds, mark, catch_kinds, expr_kinds, clause_kinds}
+use Rattle.round_trip.specs.PrintedTokens.{Kinds, mark, catch_kinds, expr_kinds, clause_kinds}
 use Rattle.round_trip.specs.Reads.{kinds_at, Took, first_kind, IsNode, Ends}
 use Rattle.round_trip.proofs.Steps.{took, then_took, weaker, behind_is, symbol_is, take_symbol, take_key, take_name, take_open}
 use Rattle.round_trip.proofs.Forms.{is_over, Measured, IsRead, nest, behind_one, level_took}

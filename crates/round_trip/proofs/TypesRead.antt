@@ -21,11 +21,11 @@ use Rattle.plan_grammar.specs.Ahead.{Front, Reader, behind, place, is_symbol, is
 use Rattle.plan_grammar.specs.Begins.{simple_type, kind_type, begins_type}
 use Rattle.plan_grammar.specs.Types.{type_or_fault, after_lists, is_list_word, list_words, behind_lists, lists_of, judged_type, tuple_type, group_type, base_type, whole_type, type_to}
 use Rattle.printed_forms.specs.Pieces.{listed_pieces}
-use Rattle.text_laws.specs.Lexes.{kinds_of}
-use Rattle.text_laws.specs.PrintedTokens.{Kinds, mark, word, type_kinds_level, type_kinds}
-use Rattle.text_laws.specs.Proper.{base_key, IsProperType, AreProperTypes}
-use Rattle.text_laws.specs.Proper.{IsProperType as T, AreProperTypes as M}
-use Rattle.text_laws.proofs.TypeTokens.{type_kinds_out}
+use Rattle.round_trip.specs.Lexes.{kinds_of}
+use Rattle.round_trip.specs.PrintedTokens.{Kinds, mark, word, type_kinds_level, type_kinds}
+use Rattle.round_trip.specs.Proper.{base_key, IsProperType, AreProperTypes}
+use Rattle.round_trip.specs.Proper.{IsProperType as T, AreProperTypes as M}
+use Rattle.round_trip.proofs.TypeTokens.{type_kinds_out}
 use Rattle.round_trip.specs.Reads.{kinds_at, Took, first_kind, FollowsType}
 use Rattle.round_trip.proofs.Steps.{took, then_took, took_by, next_is, behind_is, symbol_is, take_symbol, take_open, AllRead, AllGood, more_took}
 

@@ -27,10 +27,10 @@ use Rattle.plan_grammar.specs.Types.{opens, more, type_to}
 use Rattle.plan_parser.specs.declared.item.TypedValue.{TypedValue}
 use Rattle.plan_parser.specs.Values.{typed_value, literal, literal_from, begins_value, tuple_of, list_of, judged_item, fits, tuple_from, tuple, grouped_value, parens, like, listing, typed_nil, brackets, value_at, value_to, nothing_follows, value_of}
 use Rattle.printed_forms.specs.Pieces.{listed_pieces}
-use Rattle.text_laws.specs.Lexes.{kinds_of}
-use Rattle.text_laws.specs.PrintedTokens.{Kinds, mark, bool_kinds, type_kinds, value_kinds_level, value_kinds}
-use Rattle.text_laws.specs.Proper.{IsReadableType}
-use Rattle.text_laws.proofs.ValueTokens.{value_kinds_out}
+use Rattle.round_trip.specs.Lexes.{kinds_of}
+use Rattle.round_trip.specs.PrintedTokens.{Kinds, mark, bool_kinds, type_kinds, value_kinds_level, value_kinds}
+use Rattle.round_trip.specs.Proper.{IsReadableType}
+use Rattle.round_trip.proofs.ValueTokens.{value_kinds_out}
 use Rattle.round_trip.specs.Reads.{kinds_at, Took, first_kind}
 use Rattle.round_trip.proofs.Steps.{took, then_took, took_by, weaker, next_is, behind_is, symbol_is, take_symbol, take_open, AllRead, AllGood, more_took}
 use Rattle.round_trip.proofs.TypesRead.{type_takes}

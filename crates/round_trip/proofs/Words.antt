@@ -18,8 +18,8 @@ use Rattle.plan_grammar.specs.Ahead.{Front, behind, place, is_key}
 use Rattle.plan_grammar.specs.Begins.{kind_begins}
 use Rattle.plan_grammar.specs.Nodes.{below_of, both, let_of}
 use Rattle.plan_grammar.specs.Exprs.{typed_nil, brackets_behind, brackets, binding, bindings_from, let_form, raise_typed, raise_plain, raise_form, before_comma, before_close, fold_parts, foldl_form, foldr_form, eval_form, send_parts, remote_form, neighbor_form, key_form, symbol_form, operand_kind, expr_to}
-use Rattle.text_laws.specs.PrintedTokens.{Kinds, type_kinds, expr_kinds}
-use Rattle.text_laws.specs.Proper.{IsProperType}
+use Rattle.round_trip.specs.PrintedTokens.{Kinds, type_kinds, expr_kinds}
+use Rattle.round_trip.specs.Proper.{IsProperType}
 use Rattle.round_trip.specs.Reads.{kinds_at, Took, IsNode, Ends}
 use Rattle.round_trip.proofs.Steps.{took, then_took, took_by, behind_is, symbol_is, key_is, take_symbol, take_key, take_name, take_open}
 use Rattle.round_trip.proofs.TypesRead.{type_takes}

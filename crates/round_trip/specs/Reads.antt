@@ -10,8 +10,8 @@ use Rattle.plan_grammar.specs.declared.joint.Chain.TheVariants as chains
 use Rattle.plan_grammar.specs.declared.node.Node.{Node}
 use Rattle.plan_grammar.specs.Ahead.{Front, is_symbol_kind, is_key_kind}
 use Rattle.plan_grammar.specs.Joints.{joint_of}
-use Rattle.text_laws.specs.Lexes.{kinds_of}
-use Rattle.text_laws.specs.PrintedTokens.{Kinds}
+use Rattle.round_trip.specs.Lexes.{kinds_of}
+use Rattle.round_trip.specs.PrintedTokens.{Kinds}
 
 -- the kinds of the tokens that are left
 abbrev pub kinds_at : Front → Kinds

@@ -3,6 +3,8 @@
 //! Each law stands on a function without code, so that contracts of other crates can name it.
 #![tactic(auto)]
 
+mod printed;
+
 ghost use Rattle.std.specs.Prelude.{◌≡◌, ◌≤◌, ◌++◌, ℕ, List, Ok};
 ghost use Rattle.plan_base.specs.declared.tree.Ty.{Ty};
 ghost use Rattle.plan_base.specs.declared.tree.Expr.{Expr};
@@ -11,8 +13,8 @@ ghost use Rattle.plan_grammar.specs.declared.level.Level.{Level};
 ghost use Rattle.plan_grammar.specs.Ahead.{Front};
 ghost use Rattle.plan_grammar.specs.Types.{type_to};
 ghost use Rattle.plan_grammar.specs.Exprs.{expr_to};
-ghost use Rattle.text_laws.specs.Proper.{IsProperType, IsProper, IsProperValue, IsProperProgram};
-ghost use Rattle.text_laws.specs.PrintedTokens.{Kinds, type_kinds, expr_kinds, value_kinds, program_kinds};
+ghost use Rattle.round_trip.specs.Proper.{IsProperType, IsProper, IsProperValue, IsProperProgram};
+ghost use Rattle.round_trip.specs.PrintedTokens.{Kinds, type_kinds, expr_kinds, value_kinds, program_kinds};
 ghost use Rattle.round_trip.specs.Reads.{kinds_at, Took, first_kind, FollowsType, IsNode, Ends};
 ghost use Rattle.plan_base.specs.declared.tree.Value.{Value};
 ghost use Rattle.plan_base.specs.declared.tree.Program.{Program};
@@ -24,8 +26,10 @@ ghost use Rattle.plan_parser.specs.Programs.{program_of};
 ghost use Rattle.plan_parser.specs.Values.{value_of};
 ghost use Rattle.plan_parser.specs.ReadTexts.{Reads};
 ghost use Rattle.printed_forms.specs.Printed.{value_text, program_text};
-ghost use Rattle.text_laws.specs.Lexes.{kinds_of};
+ghost use Rattle.round_trip.specs.Lexes.{kinds_of};
 ghost use Rattle.round_trip.specs.Readable.{IsReadable};
+
+pub use printed::{printed_program_lexes, printed_type_lexes, printed_value_lexes};
 
 /// The tokens of a printed type of depth 8 at most are read as that type, before anything but the word `list`.
 pub fn printed_type_reads()

@@ -24,9 +24,9 @@ use Rattle.node_model.specs.declared.acts.Act.TheVariants.{Injected, Arrived, As
 use Rattle.node_model.specs.State.{NodeState}
 use Rattle.node_model.specs.Node.{NodeStep, stepped_node, visit_step, next_serial, injected_packet, inject_step, stamped_step, arrive_step, tick_step, take_step}
 use Rattle.node_model.specs.Counts.{only, is_family, act_sum, act_injections}
-use Rattle.node_laws.proofs.CountLaws.{act_sum-nil, act_sum-cons, only-le}
-use Rattle.node_laws.proofs.Staying.{StepStays, visited_stays, stamped_stays, arrive_stays, tick_stays, take_stays}
-use Rattle.node_laws.proofs.Giving.{may_give, StepGives, inject_gives, stamped_gives, arrive_gives, tick_gives, take_gives}
+use Rattle.node_model.proofs.CountLaws.{act_sum-nil, act_sum-cons, only-le}
+use Rattle.node_model.proofs.Staying.{StepStays, visited_stays, stamped_stays, arrive_stays, tick_stays, take_stays}
+use Rattle.node_model.proofs.Giving.{may_give, StepGives, inject_gives, stamped_gives, arrive_gives, tick_gives, take_gives}
 use Rattle.world_model.specs.declared.lines.Line.{Line}
 use Rattle.world_model.specs.declared.lines.Line.TheVariants.{At, Forged, Wire, Off, Again, Lost, Nothing}
 use Rattle.world_model.specs.declared.lines.LinkEnd.{LinkEnd}

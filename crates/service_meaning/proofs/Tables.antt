@@ -13,7 +13,7 @@ use Rattle.plan_base.specs.declared.tree.Ty.{Ty}
 use Rattle.plan_base.specs.declared.tree.Value.{Value}
 use Rattle.plan_base.specs.SameTypes.{same_type}
 use Rattle.plan_base.proofs.SameTypes.{same_type_true}
-use Rattle.item_keys.specs.Keys.{Key, same_key}
+use Rattle.plan_items.specs.Keys.{Key, same_key}
 use Rattle.table_rows.specs.declared.row.Row.{Row}
 use Rattle.table_rows.specs.Rows.{row_key, row_size, rows_size, put_row, without_row, found_row, is_live, value_at, value_in, got, fits, last_key, key_after}
 use Rattle.service_api.specs.Services.{Rows, IsGoodValue, AreGoodRows}

@@ -8,7 +8,7 @@ use Rattle.plan_base.specs.declared.tree.Value.{Value, out-Value}
 use Rattle.plan_base.specs.declared.tree.Value.TheVariants as value
 use Rattle.plan_base.specs.declared.tree.Value.TheOpen.{Value-F}
 use Rattle.plan_base.specs.Trees.{ValueLayer}
-use Rattle.item_keys.specs.Keys.{Key}
+use Rattle.plan_items.specs.Keys.{Key}
 use Rattle.table_rows.specs.declared.row.Row.{Row}
 use Rattle.table_rows.specs.Rows.{put_row, without_row, got, fits, fresh_key, key_after}
 use Rattle.value_rules.specs.Rules.{exception, bad_index, overflow}

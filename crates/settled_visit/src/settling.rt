@@ -1,5 +1,5 @@
 //! Visits that are settled.
-ghost use Rattle.std.specs.Prelude.{◌≡◌, ◌≤◌, ◌+◌, ◌++◌, map, All, IfOk};
+ghost use Rattle.std.specs.Prelude.{◌≡◌, ◌≤◌, ◌+◌, ◌++◌, ◌∷◌, [], map, All, IfOk, OnOk};
 ghost use Rattle.std.specs.Option.{option_to_list};
 ghost use Rattle.plan_meaning.specs.Visit.{bounds};
 ghost use Rattle.settled_visit.specs.Settles as spec;
@@ -42,6 +42,20 @@ fn with_handler(alloc: Global, handler: &Option<Name>, sent: Sent) -> Result<Sen
     })
 }
 
+/// Adds a packet that is sent, with the handler where its own code has such a function. Condition: it has none yet.
+fn add_handed(
+    alloc: Global,
+    handler: &Option<Name>,
+    sends: &mut Outbox,
+    sent: Sent,
+) -> Result<(), NoMemory>
+    requires { spec.IsPlain sent }
+    ensures { OnOk result (sends.new ≡ sends.old ++ spec.handed_packet handler.now sent ∷ []) }
+{
+    sends.add(with_handler(alloc, handler, sent)?)?;
+    Ok(())
+}
+
 /// All that a visit sends, with the handler. Condition: none of it has one yet.
 #[tactic(auto, using(crate::proofs::Sends::none_handed))]
 fn all_handed(alloc: Global, handler: &Option<Name>, outbox: Outbox) -> Result<Outbox, NoMemory>
@@ -53,7 +67,7 @@ fn all_handed(alloc: Global, handler: &Option<Name>, outbox: Outbox) -> Result<O
     };
     let mut sends = Items::new(alloc);
     for sent in outbox.into_vec() {
-        sends.add(with_handler(alloc, handler, sent)?)?;
+        add_handed(alloc, handler, &mut sends, sent)?;
     }
     Ok(sends)
 }
@@ -93,6 +107,75 @@ fn handled_by(
     }
 }
 
+/// All that a visit sends, with the handler, and the packet that tells the source, if there is one, last. Condition: what the
+/// visit sends has no handler yet.
+fn handed_with_last(
+    alloc: Global,
+    handler: &Option<Name>,
+    outbox: Outbox,
+    told: Option<Sent>,
+) -> Result<Outbox, NoMemory>
+    requires { All spec.IsPlain outbox }
+    ensures { IfOk result (λ sends. sends
+        ≡ map (spec.handed_packet handler.now) outbox ++ option_to_list told) }
+{
+    match all_handed(alloc, handler, outbox) {
+        Ok(sends) => with_last(sends, told),
+        Err(NoMemory) => {
+            drop(told);
+            Err(NoMemory)
+        }
+    }
+}
+
+/// A visit with the packet that tells the source, if there is one, and the handler that it calls. Condition: what the visit
+/// sends has no handler yet.
+fn told_visit(
+    alloc: Global,
+    handler: &Option<Name>,
+    v: Visit,
+    told: Option<Sent>,
+    handled: Option<Name>,
+) -> Result<Settled, NoMemory>
+    requires { All spec.IsPlain v.outbox }
+    ensures { IfOk result (λ s. s ≡ record {
+      visit = record v {
+        left = spec.left_beside v.left told;
+        outbox = map (spec.handed_packet handler.now) v.outbox ++ option_to_list told;
+      };
+      handled = handled;
+    }) }
+{
+    let left = left_beside(v.left, &told);
+    let Visit {
+        outcome,
+        evals,
+        outbox,
+        notes,
+        work,
+        ..
+    } = v;
+    match handed_with_last(alloc, handler, outbox, told) {
+        Ok(outbox) => Ok(Settled {
+            visit: Visit {
+                outcome,
+                evals,
+                left,
+                outbox,
+                notes,
+                work,
+            },
+            handled,
+        }),
+        Err(NoMemory) => {
+            drop(outcome);
+            drop(notes);
+            drop(handled);
+            Err(NoMemory)
+        }
+    }
+}
+
 /// A visit with the packet that tells the source, if there is one. Condition: what it sends has no handler yet.
 fn with_telling(
     alloc: Global,
@@ -103,26 +186,14 @@ fn with_telling(
     requires { All spec.IsPlain v.outbox }
     ensures { IfOk result (λ s. s ≡ spec.with_telling handler.now v told) }
 {
-    let handled = handled_by(alloc, handler, &told)?;
-    let left = left_beside(v.left, &told);
-    let Visit {
-        outcome,
-        evals,
-        outbox,
-        notes,
-        work,
-        ..
-    } = v;
-    let outbox = with_last(all_handed(alloc, handler, outbox)?, told)?;
-    let visit = Visit {
-        outcome,
-        evals,
-        left,
-        outbox,
-        notes,
-        work,
-    };
-    Ok(Settled { visit, handled })
+    match handled_by(alloc, handler, &told) {
+        Ok(handled) => told_visit(alloc, handler, v, told, handled),
+        Err(NoMemory) => {
+            drop(v);
+            drop(told);
+            Err(NoMemory)
+        }
+    }
 }
 
 /// Settles the visit of a packet by its parts. Conditions: those of `settle`.
@@ -132,8 +203,13 @@ fn settle_parts(alloc: Global, p: &CheckedPacket, v: Visit, ctx: &Ctx) -> Result
     requires left { v.left ≤ 65535 }
     ensures { IfOk result (λ s. s ≡ spec.visit_settled p.now ctx.entry.now v) }
 {
-    let told = telling_of(alloc, p, ctx, v.left, &v.outcome)?;
-    with_telling(alloc, p.handler(), v, told)
+    match telling_of(alloc, p, ctx, v.left, &v.outcome) {
+        Ok(told) => with_telling(alloc, p.handler(), v, told),
+        Err(NoMemory) => {
+            drop(v);
+            Err(NoMemory)
+        }
+    }
 }
 
 /// The same, where the visit of a packet without a handler is settled as it is.

@@ -8,7 +8,7 @@ ghost use Rattle.link_window.specs.declared.window.Version.TheVariants.{One, Two
 ghost use Rattle.spelled_frame.specs.Spelled as spec;
 ghost use Rattle.spelled_frame.specs.Spelled.{frame_in, IsSpelled, IsBeside, IsFrame, MayCarry};
 
-use chunk_types::CheckedPacket;
+use chunk_types::{CheckedChunk, CheckedPacket};
 use link_window::{Stamp, Version};
 use packet_frame::{Frame, put_advert, put_advert2, put_packet, put_packet2, with_link};
 use plan_base::{Bytes, Family, Name, NoMemory};
@@ -21,7 +21,7 @@ use std::marker::Model;
 const SHORT_FRAME: usize = 1_024;
 
 /// What a frame on its way holds.
-#[derive(Clone, Copy, PartialEq, Eq)]
+#[derive(Clone, Copy)]
 pub enum What {
     /// A packet of this family with this bound.
     Packet(Family, u32),
@@ -120,15 +120,26 @@ pub fn with_handler(packet: CheckedPacket, handler: Option<Name>) -> CheckedPack
     }
 }
 
+/// The packet with this chunk in place of its own and no handler, copied but for the chunk.
+fn bare_copy(
+    alloc: Global,
+    packet: &CheckedPacket,
+    chunk: CheckedChunk,
+) -> Result<CheckedPacket, NoMemory>
+    ensures { IfOk result (λ p. p ≡ record packet.now { chunk = chunk; handler = None }) }
+{
+    let route = packet.route().copy(alloc)?;
+    let (family, dest, bound) = (packet.family(), packet.dest(), packet.bound());
+    Ok(CheckedPacket::of(family, dest, bound, route, chunk))
+}
+
 /// The same packet.
 pub fn copy_packet(alloc: Global, packet: &CheckedPacket) -> Result<CheckedPacket, NoMemory>
     ensures { IfOk result (λ p. p ≡ packet.now) }
 {
-    let route = packet.route().copy(alloc)?;
     let chunk = packet.chunk().copy(alloc)?;
+    let bare = bare_copy(alloc, packet, chunk)?;
     let handler = copy_handler(alloc, packet.handler())?;
-    let (family, dest, bound) = (packet.family(), packet.dest(), packet.bound());
-    let bare = CheckedPacket::of(family, dest, bound, route, chunk);
     Ok(with_handler(bare, handler))
 }
 
@@ -257,10 +268,7 @@ impl SpelledFrame {
         if !is_same(version, self.beside.version) {
             return None;
         }
-        match &self.beside.frame {
-            None => None,
-            Some(frame) => Some(frame),
-        }
+        self.beside.frame.as_ref()
     }
 
     /// Whether it bears a stamp. Takes no memory.

@@ -1,9 +1,9 @@
 ghost use Rattle.std.specs.Prelude.{◌≡◌, ◌+◌, length, min, IfOk};
 ghost use Rattle.table_rows.specs.Rows.{row_key, row_size, is_live};
 
-use item_keys::HasKey;
 use plan_base::{NoMemory, Text, Ty, Value};
 use plan_copies::Copied;
+use plan_items::HasKey;
 use plan_sizes::{type_size, weight};
 use std::alloc::Global;
 

@@ -18,7 +18,7 @@ use Rattle.typing_rules.specs.Typing.{Typed, HasType}
 use Rattle.typing_rules.specs.TypingNames.{param_types}
 use Rattle.typing_rules.specs.TypingOrder.{fun_of, annotated_program}
 use Rattle.plan_base.proofs.FormLaws.{formed_chunk_is, chunk_has_types_is}
-use Rattle.typing_laws.proofs.Programs.{annotated_sound, annotated_complete, fills_itself, fills_full, depths_kept}
+use Rattle.typing_rules.proofs.Programs.{annotated_sound, annotated_complete, fills_itself, fills_full, depths_kept}
 use Rattle.chunk_types.specs.declared.fault.Ill.{Ill}
 use Rattle.chunk_types.specs.declared.fault.Ill.TheVariants.{Code, Count, Argument}
 use Rattle.chunk_types.specs.declared.fault.ChunkFault.{ChunkFault}

@@ -12,9 +12,9 @@ use Rattle.typing_rules.specs.TypingOrder.{Found, checked_expression}
 use Rattle.typing_rules.specs.TypingOrder as order
 use Rattle.typing_rules.specs.TypingFills.{Becomes}
 use Rattle.plan_base.proofs.SizeLaws.{expr_depth_out, expr_nodes_out}
-use Rattle.typing_laws.proofs.Steps.{Holds}
-use Rattle.typing_laws.proofs.Right.{Right, checked_right}
-use Rattle.typing_laws.proofs.Reaches.{checked_reaches}
+use Rattle.typing_rules.proofs.Steps.{Holds}
+use Rattle.typing_rules.proofs.Right.{Right, checked_right}
+use Rattle.typing_rules.proofs.Reaches.{checked_reaches}
 use Rattle.typing_order.specs.Judgements.{Judgement, judged_form, behind, FirstFailing, fails, differ, refuses, passes, agree, becomes, Refused, refused, IsTypedOrRefused}
 use Rattle.typing_order.proofs.Stands.{Kept, IsPart, Stands}
 use Rattle.typing_order.proofs.Forms.{form_is_opened}

@@ -16,8 +16,8 @@ use Rattle.typing_rules.specs.Typing.{Typed}
 use Rattle.typing_rules.specs.TypingNames.{built_in}
 use Rattle.typing_rules.specs.TypingOrder.{Found, after, checked_expression, bodies_from, then_by, services_from, exceptions_from, functions_from, declarations, sized_program, annotated_program}
 use Rattle.typing_rules.specs.TypingFills.{Becomes, FunFills, Fills}
-use Rattle.typing_laws.proofs.Right.{becomes_suits}
-use Rattle.typing_laws.proofs.Programs.{annotated_sound, annotated_complete, depths_kept}
+use Rattle.typing_rules.proofs.Right.{becomes_suits}
+use Rattle.typing_rules.proofs.Programs.{annotated_sound, annotated_complete, depths_kept}
 use Rattle.typing_order.specs.Judgements.{behind, Refused}
 use Rattle.typing_order.specs.Conditions.{Condition, of_exception, of_function, of_body, of_size, nodes_before, Blames, for_service, for_exception, for_function, for_body, for_size, conditions_from, conditions, FirstUnkept, here, later, FirstRefusal, IsTypedOrRefused}
 use Rattle.typing_order.proofs.Exprs.{Whole, whole, apart, one, one_filling}

@@ -1,6 +1,6 @@
 -- A whole value, whole arguments and whole texts are refused with the first refusal.
 use Rattle.std.proofs.Common.{◌≡◌, ℕ, Bool, true, false, List, [], ◌∷◌, length, nat_lt, Result, Ok, Err, if◌then◌else◌, refl, sym as back, ◌∙◌, ap, subst, arith, ◌↔◌, inl, inr}
-use Rattle.read_laws.proofs.Agendas.{no_fault, one_first_fault}
+use Rattle.plan_items.proofs.Agendas.{no_fault, one_first_fault}
 use Rattle.plan_base.specs.declared.tree.Value.{Value}
 use Rattle.plan_lexer.specs.declared.token.Token.{Token}
 use Rattle.plan_lexer.specs.declared.token.Symbol.TheVariants as symbols

@@ -1,6 +1,6 @@
 -- The first refusal of a value and of arguments, of their tokens and of a whole text.
 use Rattle.std.specs.Prelude.{◌≢◌, ℕ, List, [], ◌∷◌, length, ◌⊎◌}
-use Rattle.read_laws.specs.Agenda.{FirstFault}
+use Rattle.plan_items.specs.Agenda.{FirstFault}
 use Rattle.plan_base.specs.declared.tree.Value.{Value}
 use Rattle.plan_lexer.specs.Scanning.{Toks, Refuses}
 use Rattle.plan_lexer.specs.declared.token.Token.{Token}

@@ -14,9 +14,9 @@ use Rattle.plan_meaning.specs.declared.outcome.Visit.{Visit}
 use Rattle.plan_meaning.specs.State.{VisitState}
 use Rattle.plan_meaning.specs.Run.{After, gave, stopped, RunStep}
 use Rattle.plan_meaning.specs.Visit.{IsVisit, Ends, allowance, begun_state, ended_visit}
-use Rattle.meaning_laws.specs.Laws.{IsSpent, more, after_more, with_allowance}
-use Rattle.meaning_laws.proofs.Longer.{visit_allowance}
-use Rattle.meaning_laws.proofs.Allowances.{visits_alike, spent_exactly}
+use Rattle.plan_meaning.specs.Laws.{IsSpent, more, after_more, with_allowance}
+use Rattle.plan_meaning.proofs.Longer.{visit_allowance}
+use Rattle.plan_meaning.proofs.Allowances.{visits_alike, spent_exactly}
 use Rattle.visit_laws.specs.Given.{GivesAlone}
 
 -- the work that is spent is the same

@@ -3,6 +3,8 @@
 //! Each law stands on a function without code, so that contracts of other crates can name it.
 #![tactic(auto)]
 
+mod lines;
+
 ghost use Rattle.std.specs.Prelude.{◌≢◌, ◌≤◌, ℕ, Result, IfOk};
 ghost use Rattle.plan_base.specs.declared.ids.Family.{Family};
 ghost use Rattle.plan_base.specs.declared.memory.NoMemory.{NoMemory};
@@ -13,6 +15,8 @@ ghost use Rattle.plan_meaning.specs.declared.outcome.Outcome.TheVariants as outc
 ghost use Rattle.plan_meaning.specs.declared.outcome.Visit.{Visit};
 ghost use Rattle.plan_meaning.specs.Visit.{IsVisit, allowance};
 ghost use Rattle.visit_laws.specs.Given.{GivesAlone};
+
+pub use lines::ends_are_visits;
 
 /// Where an allowance of work suffices for a visit, every greater one gives the same: outcome, effects, work and services.
 pub fn greater_allowances()

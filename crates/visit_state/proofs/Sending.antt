@@ -20,7 +20,7 @@ use Rattle.remote_calls.specs.declared.fault.SendFault.{SendFault}
 use Rattle.remote_calls.specs.declared.fault.SendFault.TheVariants as fault
 use Rattle.remote_calls.specs.declared.way.SendWay.{SendWay}
 use Rattle.remote_calls.specs.Sends.{leads}
-use Rattle.meaning_laws.proofs.Full.{full_chunk}
+use Rattle.plan_meaning.proofs.Full.{full_chunk}
 use Rattle.visit_state.specs.Meets.{Meets, StopsBy}
 
 -- no type is missing in a typed chunk

@@ -5,7 +5,7 @@ ghost use Rattle.plan_meaning.specs.Safe.{IsSafe};
 ghost use Rattle.visit_state.specs.Meets.{Meets};
 
 use crate::state::State;
-use plan_base::{Svc, Value, Values};
+use plan_base::{NoMemory, Svc, Value, Values};
 use plan_meaning::EvalStop;
 use service_api::{Answer, Services};
 use std::alloc::Global;
@@ -30,10 +30,13 @@ pub fn ask_service<S: Services>(
     ensures begun { (S.stands svc.new).begun ≡ (S.stands svc.old).begun }
 {
     match svc.call(alloc, d, args, state.ctx())? {
-        Answer::Gives(v, note) => {
-            state.keep_note(note)?;
-            Ok(v)
-        }
+        Answer::Gives(v, note) => match state.keep_note(note) {
+            Ok(()) => Ok(v),
+            Err(NoMemory) => {
+                drop(v);
+                Err(EvalStop::NoMemory)
+            }
+        },
         Answer::Raises(x) => Err(EvalStop::Raised(x)),
     }
 }

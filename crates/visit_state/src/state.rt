@@ -1,7 +1,8 @@
-ghost use Rattle.std.specs.Prelude.{◌≡◌, ◌+◌, ◌≤◌, length, min, [], OnOk, IsTrue, IsFalse};
+ghost use Rattle.std.specs.Prelude.{◌≡◌, ◌+◌, ◌≤◌, length, min, [], IfOk, OnOk, IsTrue, IsFalse};
 ghost use Rattle.plan_meaning.specs.declared.stop.EvalStop.TheVariants.{WorkSpent};
 ghost use Rattle.plan_meaning.specs.Run.{gave, stopped};
 ghost use Rattle.plan_base.specs.Sizes.{weight, nesting};
+ghost use Rattle.plan_base.specs.declared.name.Name.{Name as SentName};
 ghost use Rattle.plan_base.specs.declared.tree.Value.{Value};
 ghost use Rattle.service_api.specs.Services.{ServiceState, IsGoodChunk};
 ghost use Rattle.plan_meaning.specs.Safe.{IsSafe};
@@ -187,8 +188,14 @@ impl State {
     {
         match self.weighs(&v) {
             Weighing::Paid => Ok(v),
-            Weighing::Spent => Err(EvalStop::WorkSpent),
-            Weighing::TooLarge => Err(too_large(alloc)),
+            Weighing::Spent => {
+                drop(v);
+                Err(EvalStop::WorkSpent)
+            }
+            Weighing::TooLarge => {
+                drop(v);
+                Err(too_large(alloc))
+            }
         }
     }
 
@@ -233,6 +240,30 @@ impl State {
         Ok(())
     }
 
+    /// The same, once there is memory for the name of the routing function.
+    fn send_named(
+        &mut self,
+        way: SendWay,
+        chunk: Chunk,
+        host: Host,
+        route: Result<Name, NoMemory>,
+    ) -> Result<(), EvalStop>
+        requires good { IsGoodChunk chunk }
+        requires paid { way.bound ≤ self.old.ctx.purse }
+        ensures meets { (name : SentName) (s : ServiceState) → IfOk route (λ r. r ≡ name)
+            → Meets (spec.sent_packet way.dev chunk host way.bound
+            name (joined_state self.old s)) result (joined_state self.new s) }
+        ensures falls { self.new.work ≤ self.old.work }
+    {
+        match route {
+            Ok(name) => self.send_on_way(way, chunk, host, name),
+            Err(NoMemory) => {
+                drop(chunk);
+                Err(EvalStop::NoMemory)
+            }
+        }
+    }
+
     /// Sends a chunk to a host by a routing function. Condition: where it is sent, it is typed and well formed.
     pub fn send_remote(
         &mut self,
@@ -250,8 +281,11 @@ impl State {
     {
         let purse = Purse::of(self.ctx.purse);
         match remote_way(&purse, &self.ctx, host, n, route) {
-            Ok(way) => self.send_on_way(way, chunk, host, route.copy(alloc)?),
-            Err(fault) => Err(unsent(alloc, fault)),
+            Ok(way) => self.send_named(way, chunk, host, route.copy(alloc)),
+            Err(fault) => {
+                drop(chunk);
+                Err(unsent(alloc, fault))
+            }
         }
     }
 
@@ -272,8 +306,11 @@ impl State {
     {
         let purse = Purse::of(self.ctx.purse);
         match neighbour_way(&purse, &self.ctx, host, n, dev) {
-            Ok(way) => self.send_on_way(way, chunk, host, default_route(alloc)?),
-            Err(fault) => Err(unsent(alloc, fault)),
+            Ok(way) => self.send_named(way, chunk, host, default_route(alloc)),
+            Err(fault) => {
+                drop(chunk);
+                Err(unsent(alloc, fault))
+            }
         }
     }
 

@@ -12,7 +12,7 @@ use Rattle.link_window.specs.declared.window.Took.TheVariants.{Fresh}
 use Rattle.plan_base.specs.declared.ids.Dev.{Dev}
 use Rattle.packet_frame.specs.Decoding.{read_by}
 use Rattle.service_api.specs.Services.{begun_now}
-use Rattle.meaning_laws.specs.Laws.{VisitEnds}
+use Rattle.plan_meaning.specs.Laws.{VisitEnds}
 use Rattle.network_plan.specs.declared.event.WorldEvent.{WorldEvent}
 use Rattle.network_plan.specs.declared.event.WorldEvent.TheVariants.{Inject, Deliver, Repeat, Raw}
 use Rattle.node_model.specs.declared.acts.Act.{Act}

@@ -1,5 +1,5 @@
 use Rattle.std.proofs.Common.{◌∙◌, sym, ap}
-use Rattle.read_laws.proofs.Binds.{ok_inj}
+use Rattle.plan_items.proofs.Binds.{ok_inj}
 use Rattle.grammar_laws.proofs.TypesAre.{type_is}
 use Rattle.grammar_laws.proofs.ExprsAre.{expr_is}
 use Rattle.grammar_laws.proofs.one_reading.Goals as goal

@@ -1,5 +1,5 @@
 use Rattle.std.proofs.Common.{suc, [], ◌∷◌}
-use Rattle.read_laws.proofs.Agendas.{one_first_fault}
+use Rattle.plan_items.proofs.Agendas.{one_first_fault}
 use Rattle.plan_grammar.specs.declared.level.Level.TheVariants as levels
 use Rattle.plan_grammar.specs.Types.{type_to}
 use Rattle.plan_grammar.specs.Exprs.{expr_to}

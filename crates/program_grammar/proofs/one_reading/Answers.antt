@@ -1,5 +1,5 @@
 use Rattle.std.proofs.Common.{◌∙◌, sym}
-use Rattle.read_laws.proofs.Binds.{ok_inj}
+use Rattle.plan_items.proofs.Binds.{ok_inj}
 use Rattle.program_grammar.proofs.ProgramsAre.{program_is}
 use Rattle.program_grammar.proofs.one_reading.Goals as goal
 

@@ -1,4 +1,4 @@
-use Rattle.read_laws.proofs.Agendas.{one_first_fault}
+use Rattle.plan_items.proofs.Agendas.{one_first_fault}
 use Rattle.grammar_laws.specs.Agenda.{step}
 use Rattle.program_grammar.proofs.ProgramsWork.{program_refused}
 use Rattle.program_grammar.proofs.refusals_are_first.Goals as goal

@@ -1,4 +1,4 @@
-use Rattle.text_laws.proofs.ProgramTokens.{program_lexes}
+use Rattle.round_trip.proofs.ProgramTokens.{program_lexes}
 use Rattle.round_trip.proofs.Within.{within_limits}
 use Rattle.round_trip.proofs.Declarations.{program_reads}
 use Rattle.round_trip.proofs.printed_program_again.Goals as goal

@@ -1,7 +1,7 @@
 use Rattle.std.proofs.Common.{length}
 use Rattle.printed_forms.specs.Printed.{value_text}
-use Rattle.text_laws.proofs.Segments.{lexes_whole}
-use Rattle.text_laws.proofs.ValueTokens.{value_part}
+use Rattle.round_trip.proofs.Segments.{lexes_whole}
+use Rattle.round_trip.proofs.ValueTokens.{value_part}
 use Rattle.round_trip.proofs.ValuesRead.{value_again}
 use Rattle.round_trip.proofs.printed_value_again.Goals as goal
 

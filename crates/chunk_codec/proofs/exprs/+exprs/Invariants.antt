@@ -1,6 +1,6 @@
 use Rattle.std.proofs.Common.{◌≡◌, ◌+◌, ◌*◌, ◌-◌}
-use Rattle.read_laws.specs.Reading.{many}
-use Rattle.read_laws.proofs.Lists.{with_front}
+use Rattle.plan_items.specs.Reading.{many}
+use Rattle.plan_items.proofs.ReadingLists.{with_front}
 use Rattle.chunk_spelling.specs.Exprs.{clauses_from}
 use Rattle.chunk_codec.specs.Reading.{expr_at, clause_at}
 use Rattle.chunk_codec.proofs.exprs.+exprs.Given as goal
@@ -14,23 +14,20 @@ decreases-expr_with_tag l = 5 * l.room - 1
 abbrev pub decreases-tuple_behind : goal.decreases-tuple_behind
 decreases-tuple_behind l = 5 * l.room - 2
 
-abbrev pub decreases-call_behind : goal.decreases-call_behind
-decreases-call_behind l = 5 * l.room - 2
-
 abbrev pub decreases-choice_behind : goal.decreases-choice_behind
 decreases-choice_behind l = 5 * l.room - 2
 
 abbrev pub decreases-binding_behind : goal.decreases-binding_behind
 decreases-binding_behind l = 5 * l.room - 2
 
-abbrev pub decreases-sequence_behind : goal.decreases-sequence_behind
-decreases-sequence_behind l = 5 * l.room - 2
+abbrev pub decreases-pair_behind : goal.decreases-pair_behind
+decreases-pair_behind l = 5 * l.room - 2
 
-abbrev pub decreases-both_behind : goal.decreases-both_behind
-decreases-both_behind l = 5 * l.room - 2
+abbrev pub decreases-fold_behind : goal.decreases-fold_behind
+decreases-fold_behind l = 5 * l.room - 2
 
-abbrev pub decreases-either_behind : goal.decreases-either_behind
-decreases-either_behind l = 5 * l.room - 2
+abbrev pub decreases-applied_behind : goal.decreases-applied_behind
+decreases-applied_behind l = 5 * l.room - 2
 
 abbrev pub decreases-operation_behind : goal.decreases-operation_behind
 decreases-operation_behind l = 5 * l.room - 2
@@ -40,15 +37,6 @@ decreases-part_behind l = 5 * l.room - 2
 
 abbrev pub decreases-handling_behind : goal.decreases-handling_behind
 decreases-handling_behind l = 5 * l.room - 2
-
-abbrev pub decreases-fold_left_behind : goal.decreases-fold_left_behind
-decreases-fold_left_behind l = 5 * l.room - 2
-
-abbrev pub decreases-fold_right_behind : goal.decreases-fold_right_behind
-decreases-fold_right_behind l = 5 * l.room - 2
-
-abbrev pub decreases-packing_behind : goal.decreases-packing_behind
-decreases-packing_behind l = 5 * l.room - 2
 
 abbrev pub decreases-remote_behind : goal.decreases-remote_behind
 decreases-remote_behind l = 5 * l.room - 2

@@ -9,10 +9,10 @@ use Rattle.eval_flow.proofs.back.chunk_back.Goals as goal
 
 pub returns-in-Ok-Done-clause-flows : goal.returns-in-Ok-Done-clause-flows
 returns-in-Ok-Done-clause-flows c codes code seen at want m h =
-    let is : c.args.flow ≡ Ok (flow.Done c.in-Ok-Done._given) = cc in
+    let is : c.args.flow ≡ Ok (flow.Done c.in-Ok-Done.given) = cc in
     let now = joined_state c.args.state.now m in
     flows_from codes code seen at _ _ c.ended_by_value.result (joined_state c.ended_by_value.new.state m)
-    (onward _ _ _ (resume_gave code seen at want now frame.Chunk c.in-Ok-Done._given (rw is at h)) (chunk_given code seen at now c.in-Ok-Done._given))
+    (onward _ _ _ (resume_gave code seen at want now frame.Chunk c.in-Ok-Done.given (rw is at h)) (chunk_given code seen at now c.in-Ok-Done.given))
     (c.ended_by_value.ensures.flows codes code seen at m)
 
 pub returns-in_ok-inside-in-Ok-Wait-clause-flows : goal.returns-in_ok-inside-in-Ok-Wait-clause-flows

@@ -23,9 +23,9 @@ returns-in_ok-inside-in-Ok-Wait-clause-advances g c codes inner want deep h =
 pub returns-in-Err-clause-advances : goal.returns-in-Err-clause-advances
 returns-in-Err-clause-advances g c codes inner want deep h =
     let is : c.args.flow ≡ Err c.in-Err.stop = cc in
-    c.stop_back.ensures.advances codes c.args.here.now.code.now c.args.here.now.fun (spot c.args.here.now c.args.e.now).env want (joined_state c.args.state.now (g.S.Services.stands c.args.svc.now)) (rw is at h)
+    c.stop_back-turn.ensures.advances codes c.args.here.now.code.now c.args.here.now.fun (spot c.args.here.now c.args.e.now).env want (joined_state c.args.state.now (g.S.Services.stands c.args.svc.now)) (rw is at h)
 
 pub returns-in-Err-clause-turns : goal.returns-in-Err-clause-turns
 returns-in-Err-clause-turns g c depth old h =
     let is : c.args.flow ≡ Err c.in-Err.stop = cc in
-    c.stop_back.ensures.turns depth old c.args.state.now.work (rw is at h)
+    c.stop_back-turn.ensures.turns depth old c.args.state.now.work (rw is at h)

@@ -1,6 +1,6 @@
 use Rattle.std.proofs.Common.{◌≡◌, ◌∙◌, List, map, ap, subst, sym, arith}
 use Rattle.std.specs.List.{remove, slice_index}
-use Rattle.item_keys.specs.Keys.{IsUnique}
+use Rattle.plan_items.specs.Keys.{IsUnique}
 use Rattle.keyed_list.specs.Index.{IsIndex, place_moved_up}
 use Rattle.keyed_list.proofs.ByIndex.{unique_taken, index_taken}
 use Rattle.keyed_list.proofs.edits.take_out.Goals as goal

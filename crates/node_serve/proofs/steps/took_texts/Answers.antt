@@ -5,8 +5,8 @@ use Rattle.node_serve.proofs.steps.took_texts.Goals as goal
 
 pub returns : goal.returns
 returns c = record {
-  line = c.in_ok-line.ensures.text;
+  line = c.in_ok-line.ensures.line;
   readable = c.in_ok-line.ensures.readable c.args.config.now.version c.requires;
-  lines = c.in_ok-lines.ensures ∙ ap (λ acts. lines_text c.args.config.now.here (entries_at c.args.number acts)) c.as_slice.ensures;
+  lines = c.in_ok-line.ensures.lines ∙ ap (λ acts. lines_text c.args.config.now.here (entries_at c.args.number acts)) c.as_slice.ensures;
   made = refl;
 }

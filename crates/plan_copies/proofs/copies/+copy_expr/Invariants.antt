@@ -10,55 +10,46 @@ abbrev pub invariant-copy_clauses-loop-clause : goal.invariant-copy_clauses-loop
 invariant-copy_clauses-loop-clause l = l.done ≡ take l.clause-index l.clauses
 
 abbrev pub decreases-copy_expr : goal.decreases-copy_expr
-decreases-copy_expr l = 4 * expr_nodes l.e.now
+decreases-copy_expr l = 8 * expr_nodes l.e.now + 1
+
+abbrev pub decreases-copy_row : goal.decreases-copy_row
+decreases-copy_row l = 8 * expr_nodes l.e.now
+
+abbrev pub decreases-copy_pair : goal.decreases-copy_pair
+decreases-copy_pair l = 8 * expr_nodes l.e.now
 
 abbrev pub decreases-copy_boxed : goal.decreases-copy_boxed
-decreases-copy_boxed l = 4 * expr_nodes l.e.now + 1
+decreases-copy_boxed l = 8 * expr_nodes l.e.now + 2
 
 abbrev pub decreases-copy_exprs : goal.decreases-copy_exprs
-decreases-copy_exprs l = 4 * sum_by expr_nodes l.exprs.now + 1
+decreases-copy_exprs l = 8 * sum_by expr_nodes l.exprs.now + 2
 
 abbrev pub decreases-copy_clause : goal.decreases-copy_clause
-decreases-copy_clause l = 4 * clause_nodes l.clause.now + 1
+decreases-copy_clause l = 8 * clause_nodes l.clause.now + 2
 
 abbrev pub decreases-copy_clauses : goal.decreases-copy_clauses
-decreases-copy_clauses l = 4 * sum_by clause_nodes l.clauses.now + 2
+decreases-copy_clauses l = 8 * sum_by clause_nodes l.clauses.now + 3
+
+abbrev pub decreases-copy_two : goal.decreases-copy_two
+decreases-copy_two l = 8 * (expr_nodes l.a.now + expr_nodes l.b.now) + 3
+
+abbrev pub decreases-copy_named : goal.decreases-copy_named
+decreases-copy_named l = 8 * (expr_nodes l.a.now + expr_nodes l.b.now) + 4
 
 abbrev pub decreases-copy_call : goal.decreases-copy_call
-decreases-copy_call l = 4 * sum_by expr_nodes l.args.now + 2
-
-abbrev pub decreases-copy_chunk_of : goal.decreases-copy_chunk_of
-decreases-copy_chunk_of l = 4 * sum_by expr_nodes l.args.now + 2
+decreases-copy_call l = 8 * sum_by expr_nodes l.args.now + 3
 
 abbrev pub decreases-copy_if : goal.decreases-copy_if
-decreases-copy_if l = 4 * (expr_nodes l.c.now + expr_nodes l.a.now + expr_nodes l.b.now) + 2
+decreases-copy_if l = 8 * (expr_nodes l.c.now + expr_nodes l.a.now + expr_nodes l.b.now) + 4
 
 abbrev pub decreases-copy_let : goal.decreases-copy_let
-decreases-copy_let l = 4 * (expr_nodes l.a.now + expr_nodes l.b.now) + 2
-
-abbrev pub decreases-copy_then : goal.decreases-copy_then
-decreases-copy_then l = 4 * (expr_nodes l.a.now + expr_nodes l.b.now) + 2
-
-abbrev pub decreases-copy_and : goal.decreases-copy_and
-decreases-copy_and l = 4 * (expr_nodes l.a.now + expr_nodes l.b.now) + 2
-
-abbrev pub decreases-copy_or : goal.decreases-copy_or
-decreases-copy_or l = 4 * (expr_nodes l.a.now + expr_nodes l.b.now) + 2
-
-abbrev pub decreases-copy_binary : goal.decreases-copy_binary
-decreases-copy_binary l = 4 * (expr_nodes l.a.now + expr_nodes l.b.now) + 2
-
-abbrev pub decreases-copy_foldl : goal.decreases-copy_foldl
-decreases-copy_foldl l = 4 * (expr_nodes l.a.now + expr_nodes l.l.now) + 2
-
-abbrev pub decreases-copy_foldr : goal.decreases-copy_foldr
-decreases-copy_foldr l = 4 * (expr_nodes l.a.now + expr_nodes l.l.now) + 2
+decreases-copy_let l = 8 * (expr_nodes l.a.now + expr_nodes l.b.now) + 5
 
 abbrev pub decreases-copy_try : goal.decreases-copy_try
-decreases-copy_try l = 4 * (expr_nodes l.a.now + sum_by clause_nodes l.clauses.now) + 3
+decreases-copy_try l = 8 * (expr_nodes l.a.now + sum_by clause_nodes l.clauses.now) + 4
 
 abbrev pub decreases-copy_on_remote : goal.decreases-copy_on_remote
-decreases-copy_on_remote l = 4 * (expr_nodes l.c.now + expr_nodes l.h.now + expr_nodes l.n.now) + 2
+decreases-copy_on_remote l = 8 * (expr_nodes l.c.now + expr_nodes l.h.now + expr_nodes l.n.now) + 5
 
 abbrev pub decreases-copy_on_neighbor : goal.decreases-copy_on_neighbor
-decreases-copy_on_neighbor l = 4 * (expr_nodes l.c.now + expr_nodes l.h.now + expr_nodes l.n.now + expr_nodes l.d.now) + 2
+decreases-copy_on_neighbor l = 8 * (expr_nodes l.c.now + expr_nodes l.h.now + expr_nodes l.n.now + expr_nodes l.d.now) + 4

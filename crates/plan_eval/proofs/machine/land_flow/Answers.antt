@@ -1,20 +1,25 @@
-use Rattle.std.proofs.Common.{◌≡◌, Ok, Err, refl}
+use Rattle.std.proofs.Common.{◌≡◌, Ok, Err}
 use Rattle.plan_meaning.specs.declared.stop.EvalStop.TheVariants.{Raised, WorkSpent, Wrong}
 use Rattle.eval_flow.specs.declared.rest.Flow.TheVariants as flow
-use Rattle.eval_flow.proofs.Turning.{gives_on, turn_left, turn_raised, turn_stopped}
+use Rattle.eval_flow.proofs.Turning.{turn_raised, turn_stopped}
 use Rattle.eval_flow.proofs.Waiting.{turn_waits}
 use Rattle.eval_flow.proofs.Backs.{load_waits, load_rests}
 use Rattle.plan_eval.proofs.machine.land_flow.Goals as goal
 
-pub returns-then-is_empty-clause-turned : goal.returns-then-is_empty-clause-turned
-returns-then-is_empty-clause-turned c codes code at want s here h =
+pub returns-in-Ok-Done-clause-turned : goal.returns-in-Ok-Done-clause-turned
+returns-in-Ok-Done-clause-turned c codes code at want s here h =
     let is : c.args.flow ≡ Ok (flow.Done c.in-Ok-Done.v) = cc in
-    turn_left codes c.args.outer.now code c.args.top at want here (c.if-is_empty.ensures.0 refl) c.in-Ok-Done.v s (rw is at h)
+    c.land_value.ensures.turned codes code at want s here (rw is at h)
 
-pub returns-in_ok-add-in-Ok-Done-clause-turned : goal.returns-in_ok-add-in-Ok-Done-clause-turned
-returns-in_ok-add-in-Ok-Done-clause-turned c codes code at want s here h =
+pub returns-in-Ok-Done-clause-shrinks : goal.returns-in-Ok-Done-clause-shrinks
+returns-in-Ok-Done-clause-shrinks c depth old new some h =
     let is : c.args.flow ≡ Ok (flow.Done c.in-Ok-Done.v) = cc in
-    rw c.in_ok-add-in-Ok-Done.ensures.ok (gives_on codes c.args.outer.now code c.args.top at want here c.in-Ok-Done.v s (rw is at h))
+    c.land_value.ensures.shrinks depth old new some (rw is at h)
+
+pub returns-in-Ok-Done-clause-bounded : goal.returns-in-Ok-Done-clause-bounded
+returns-in-Ok-Done-clause-bounded c old new h =
+    let is : c.args.flow ≡ Ok (flow.Done c.in-Ok-Done.v) = cc in
+    c.land_value.ensures.bounded old new (rw is at h)
 
 pub returns-in_ok-stack_rest-in-Ok-Wait-clause-turned : goal.returns-in_ok-stack_rest-in-Ok-Wait-clause-turned
 returns-in_ok-stack_rest-in-Ok-Wait-clause-turned c codes code at want s here h =

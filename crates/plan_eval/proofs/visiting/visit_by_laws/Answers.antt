@@ -1,6 +1,6 @@
 use Rattle.std.proofs.Common.{◌∙◌}
 use Rattle.plan_meaning.specs.Visit.{allowance}
-use Rattle.meaning_laws.proofs.Allowances.{visit_can_end, visits_alike, spent_exactly}
+use Rattle.plan_meaning.proofs.Allowances.{visit_can_end, visits_alike, spent_exactly}
 use Rattle.plan_eval.proofs.Visits.{good_start, ok_map, ok_always, visit_keeps, visit_fits, visit_leaves}
 use Rattle.plan_eval.proofs.visiting.visit_by_laws.Goals as goal
 

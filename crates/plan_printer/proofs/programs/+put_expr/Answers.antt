@@ -1,10 +1,13 @@
+use Rattle.std.proofs.Common.{◌++◌}
+use Rattle.std.specs.Prelude.{codes}
 use Rattle.std.proofs.lemmas.Result.{on_ok_weaker}
-use Rattle.plan_printer.proofs.PrintLaws.{neighbor_put}
+use Rattle.printed_forms.specs.Printed.{expr_text}
+use Rattle.plan_printer.proofs.PrintLaws.{pieces_put}
 use Rattle.plan_printer.proofs.programs.+put_expr.Goals as goal
 
-pub put_expr-returns-in_ok-put_around-in-OnNeighbor-3 : goal.put_expr-returns-in_ok-put_around-in-OnNeighbor-3
-put_expr-returns-in_ok-put_around-in-OnNeighbor-3 t c =
-    on_ok_weaker c.put_around-in-OnNeighbor-4.result
-    (λ last. neighbor_put c.args.e.now _ _ _ _ _ _ _ _ c.args.out.now _ _ _ _ c.in-OnNeighbor.is c.get-in-OnNeighbor.ensures c.get-in-OnNeighbor-2.ensures c.get-in-OnNeighbor-3.ensures c.get-in-OnNeighbor-4.ensures
-    c.in_ok-put_around-in-OnNeighbor.ensures c.in_ok-put_around-in-OnNeighbor-2.ensures c.in_ok-put_around-in-OnNeighbor-3.ensures last)
-    c.put_around-in-OnNeighbor-4.ensures
+pub put_neighbour-returns : goal.put_neighbour-returns
+put_neighbour-returns t c =
+    on_ok_weaker c.put_both-2.result
+    (λ last. pieces_put c.args.out.now (codes "OnNeighbor(" ++ expr_text c.args.chunk.now ++ codes ", " ++ expr_text c.args.host.now ++ codes ", ")
+    (expr_text c.args.bound.now) (codes ", ") (expr_text c.args.device.now) (codes ")") _ _ c.in_ok-put_both.ensures last)
+    c.put_both-2.ensures

@@ -1,5 +1,5 @@
 use Rattle.std.proofs.Common.{Ok, Err, sym, ap, ◌∙◌}
-use Rattle.item_keys.specs.Keys.{without}
+use Rattle.plan_items.specs.Keys.{without}
 use Rattle.keyed_list.proofs.ByIndex.{spot_here, without_found, without_absent}
 use Rattle.keyed_list.proofs.list.KeyedList.remove.Goals as goal
 

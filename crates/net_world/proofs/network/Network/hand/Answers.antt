@@ -23,7 +23,7 @@ returns-clause-ok g c = λ w h.
     let x = c.at-x.result.now in
     let marked = marked_there _ c.args.self.now w c.in-Some.place x h c.at-x.ensures c.in-Some-node_place.at in
     let done = c.in_ok-acts.ensures w.nodes (lent_nodes_stand _ c.args.self.now w _ h.is c.deref_mut.ensures.value) marked in
-    let line = c.in_ok-before.ensures ∙ ap (λ l. l ∷ []) c.hand_line-line.ensures in
+    let line = c.in_ok-before.ensures ∙ ap (λ l. l ∷ []) c.hand_line.ensures in
     let back = given_back _ c.args.self.now.nodes c.hand_to.new.nodes w.nodes _ h.is.nodes done.after (length-set w.nodes c.in-Some-node_place.at _) in
     if_ok _ _ c.with_acts.result
     (λ lines e. one_handed _ c.args.self.now w c.args.number h.is lines c.args.how _ c.in-Some.place x c.in-Some-node_place.at c.in_ok-acts.acts c.hand_to.new.nodes there c.at-x.ensures node done

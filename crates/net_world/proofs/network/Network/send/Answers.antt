@@ -1,7 +1,5 @@
-use Rattle.std.proofs.Common.{◌∙◌, ◌++◌, ◌∷◌, [], ap, refl, subst, ◌≤◌, ◌<◌}
-use Rattle.packet_frame.specs.Stamped.{stamped_bytes}
-use Rattle.world_model.specs.declared.lines.Line.TheVariants.{Wire}
-use Rattle.world_model.specs.World.{far_end, lines_at}
+use Rattle.std.proofs.Common.{◌∙◌, ap, refl, subst, ◌≤◌, ◌<◌}
+use Rattle.world_model.specs.World.{far_end}
 use Rattle.std.proofs.lemmas.List.{length-set}
 use Rattle.net_world.proofs.StandLaws.{if_ok, given_back}
 use Rattle.net_world.proofs.EventLaws.{lent_nodes_stand, no_node_sends, no_end_sends, no_room_sends, none_sent, one_sent}
@@ -45,8 +43,7 @@ returns-clause-ok g c = λ w h.
     let far = c.in-Some-far_end.ensures ∙ ap (λ x. far_end x c.args.host c.args.dev) c.as_slice-2.ensures in
     let stand = lent_nodes_stand _ c.args.self.now w _ h.is c.deref_mut.ensures.value in
     let done = c.in_ok-list.ensures.step w.nodes stand in
-    let acts = c.in_ok-before.ensures ∙ ap (λ x. x ++ lines_at c.args.host c.in_ok-list.field-0.list) c.no_lines.ensures in
     one_sent _ c.args.self.now w c.args.host c.args.dev h.is _ _ c.in-Some.at c.in-Some-far_end.to c.in_ok-list.field-0 c.take_at.new.nodes c.in-Some-frame.frame node far
     (subst (λ n. n < 4096) c.len.ensures c.if-len-ge-MOST_ON_WIRE.false) done c.in-Some-frame.is
-    (c.in_ok-lines.ensures ∙ ap (λ x. x ++ Wire c.args.self.now.«next» (stamped_bytes c.in-Some-frame.frame) ∷ []) acts)
+    c.in_ok-lines.ensures
     (given_back _ c.args.self.now.nodes c.take_at.new.nodes w.nodes _ h.is.nodes done.after (length-set w.nodes c.in-Some.at _)) refl c.in_ok-add.ensures.ok refl refl refl

@@ -1,10 +1,9 @@
-use Rattle.std.proofs.Common.{sym, subst}
-use Rattle.packet_frame.specs.Typed.{plain_of}
-use Rattle.node_parts.specs.Carried.{MayBear, MayGoOn}
+use Rattle.node_core.proofs.StepLaws.{arrived_refused}
 use Rattle.node_core.proofs.node.Node.arrive.Goals as goal
 
-pub arrive_stamped-requires-clause-borne : goal.arrive_stamped-requires-clause-borne
-arrive_stamped-requires-clause-borne g c = subst (λ v. MayBear v c.in-Ok.stamped.stamp) (sym c.remember.ensures.same) c.in-Ok.ensures.borne
+pub arrive_read-requires-clause-carried : goal.arrive_read-requires-clause-carried
+arrive_read-requires-clause-carried g c = c.in-Ok.ensures.carried c.args.self.now.boot
 
-pub arrive_stamped-requires-clause-carried : goal.arrive_stamped-requires-clause-carried
-arrive_stamped-requires-clause-carried g c = subst (λ m. MayGoOn m (plain_of c.in-Ok.stamped.frame)) (sym c.remember.ensures.mark) (c.in-Ok.ensures.carried c.args.self.now.boot)
+pub returns-in-Err-clause-ok : goal.returns-in-Err-clause-ok
+returns-in-Err-clause-ok g c = λ s h.
+    arrived_refused _ c.in-Err.fault c.args.dev c.args.bytes.now c.arrived_bad.result c.args.self.now s h c.in-Err.ensures.fault c.arrived_bad.ensures.memory c.arrived_bad.ensures.list c.arrived_bad.ensures.frame

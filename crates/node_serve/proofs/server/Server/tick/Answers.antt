@@ -1,6 +1,5 @@
 use Rattle.std.proofs.Common.{◌≡◌, true, false, refl, arith, ◌∙◌}
 use Rattle.serve_model.specs.Runs.{tick}
-use Rattle.network_plan.specs.declared.event.Event.TheVariants.{Tick}
 use Rattle.node_serve.specs.Desks.{desk}
 use Rattle.node_serve.proofs.Following.{tick_early}
 use Rattle.node_serve.proofs.MakeLaws.{over_is}
@@ -16,14 +15,11 @@ returns-then-not-is_over g c =
 pub returns-in-Err : goal.returns-in-Err
 returns-in-Err g c =
     let over : c.is_over.result ≡ true = grind (arith, c.if-not-is_over.false) in
-    λ l. goes_unticked g.S.Services.stands c.args.cfg.now c.args.cfg.now.period c.args.now c.args.self.now c.step.new.self _ _ c.in-Err.fault
-    (λ r st. over_is g.S.Services.stands c.args.self.now r c.args.cfg.now.period c.args.now c.is_over.result st c.is_over.ensures ∙ over) (c.in-Err.ensures l Tick refl (λ node. refl))
+    λ l. goes_unticked g.S.Services.stands c.args.cfg.now c.args.cfg.now.period c.args.now c.args.self.now c.step_tick.new.self _ _ c.in-Err.fault
+    (λ r st. over_is g.S.Services.stands c.args.self.now r c.args.cfg.now.period c.args.now c.is_over.result st c.is_over.ensures ∙ over) (c.in-Err.ensures l)
 
 pub returns : goal.returns
 returns g c =
     let over : c.is_over.result ≡ true = grind (arith, c.if-not-is_over.false) in
-    λ l. goes_ticked g.S.Services.stands c.args.cfg.now c.args.cfg.now.period c.args.now c.args.self.now c.step.new.self _ _ _ tt refl refl refl refl
-    (λ r st. over_is g.S.Services.stands c.args.self.now r c.args.cfg.now.period c.args.now c.is_over.result st c.is_over.ensures ∙ over) (c.in_default.ensures l Tick refl (λ node. refl))
-
-pub step-requires-clause-event : goal.step-requires-clause-event
-step-requires-clause-event g c = record { keeps = tt; within = tt }
+    λ l. goes_ticked g.S.Services.stands c.args.cfg.now c.args.cfg.now.period c.args.now c.args.self.now c.step_tick.new.self _ _ _ tt refl refl refl refl
+    (λ r st. over_is g.S.Services.stands c.args.self.now r c.args.cfg.now.period c.args.now c.is_over.result st c.is_over.ensures ∙ over) (c.in_default.ensures l)

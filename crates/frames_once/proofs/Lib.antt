@@ -1,3 +1,0 @@
-pub mod Takings
-pub mod Counting
-pub mod Sendings

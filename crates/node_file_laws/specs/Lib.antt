@@ -1,4 +1,0 @@
-pub mod Words
-pub mod Configs
-pub mod Asks
-pub mod Fleets

@@ -1,5 +1,0 @@
-use Rattle.node_laws.proofs.Fitting.{step_fits}
-use Rattle.node_laws.proofs.laws.step_keeps.Goals as goal
-
-pub returns : goal.returns
-returns c = λ node e h n. (step_fits node e h n).node

@@ -1,3 +1,0 @@
-pub mod Agendas
-pub mod Lists
-pub mod Binds

@@ -1,6 +1,0 @@
-use Rattle.text_laws.proofs.Segments.{lexes_whole}
-use Rattle.text_laws.proofs.TypeTokens.{type_part}
-use Rattle.text_laws.proofs.printed_type_lexes.Goals as goal
-
-pub returns : goal.returns
-returns c = λ t h. lexes_whole (type_part h)

@@ -1,3 +1,0 @@
-pub mod Lexes
-pub mod Proper
-pub mod PrintedTokens

@@ -1,3 +1,0 @@
-pub mod Roads
-pub mod Routes
-pub mod Led
