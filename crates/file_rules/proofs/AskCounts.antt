@@ -20,7 +20,7 @@ use Rattle.node_files.specs.Asks.{to_line, from_line, bound_line, entry_line, pr
 use Rattle.file_rules.specs.Outside.{IsAskOutside, AskOutside}
 use Rattle.file_rules.specs.Later.{later_program, later_ask}
 use Rattle.file_rules.specs.Skipping.{SkipsLines}
-use Rattle.file_rules.proofs.Counts.{Moves, Skips, moved_not, moves_count, skips_lines}
+use Rattle.file_rules.proofs.MovedCounts.{Moves, Skips, moved_not, moves_count, skips_lines}
 use Rattle.line_files.proofs.CountLaws.{changed_read, then_changed}
 use Rattle.file_rules.proofs.Lines.{identity_changes_nothing, at_moved, either_moved, header_moved, usual_moved, usual_skips}
 

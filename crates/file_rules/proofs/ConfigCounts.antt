@@ -27,7 +27,7 @@ use Rattle.node_files.specs.Configs.{port_line, free_port, control_line, period_
 use Rattle.file_rules.specs.Outside.{IsConfigOutside, ConfigOutside}
 use Rattle.file_rules.specs.Later.{later_config}
 use Rattle.file_rules.specs.Skipping.{SkipsLines}
-use Rattle.file_rules.proofs.Counts.{Moves, Skips, moved_not, moves_count, skips_lines}
+use Rattle.file_rules.proofs.MovedCounts.{Moves, Skips, moved_not, moves_count, skips_lines}
 use Rattle.line_files.proofs.CountLaws.{changed_read, then_changed}
 use Rattle.file_rules.proofs.Lines.{at_moved, either_moved, version_moved, usual_moved, usual_skips}
 

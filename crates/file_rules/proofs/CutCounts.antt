@@ -12,7 +12,7 @@ use Rattle.cut_files.specs.Cuts.{wanted_line, cut_step_at, cut_end, cut_format, 
 use Rattle.file_rules.specs.Outside.{IsCutOutside, CutOutside}
 use Rattle.file_rules.specs.Later.{unmoved_reading}
 use Rattle.file_rules.specs.Skipping.{SkipsLines}
-use Rattle.file_rules.proofs.Counts.{Moves, Skips, moves_count, skips_lines}
+use Rattle.file_rules.proofs.MovedCounts.{Moves, Skips, moves_count, skips_lines}
 use Rattle.file_rules.proofs.Lines.{identity_changes_nothing, header_moved, usual_moved, usual_skips}
 
 step_moved : (first number : ℕ) (line : List ℕ) (stage : CutStage) (s : CutReading) → cut_step_at stage (moved_line first number) line s ≡ moved_by first (λ x. x) (cut_step_at stage number line s)

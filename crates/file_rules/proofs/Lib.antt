@@ -1,4 +1,4 @@
-mod Counts
+mod MovedCounts
 mod Lines
 pub mod ConfigCounts
 pub mod AskCounts

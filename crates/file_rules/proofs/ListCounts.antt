@@ -10,7 +10,7 @@ use Rattle.audit_files.specs.AuditFiles.{audit_line, audit_step_at, audit_end, a
 use Rattle.file_rules.specs.Outside.{FleetOutside, AuditOutside}
 use Rattle.file_rules.specs.Later.{unmoved_reading}
 use Rattle.file_rules.specs.Skipping.{SkipsLines}
-use Rattle.file_rules.proofs.Counts.{Moves, Skips, moves_count, skips_lines}
+use Rattle.file_rules.proofs.MovedCounts.{Moves, Skips, moves_count, skips_lines}
 use Rattle.file_rules.proofs.Lines.{identity_changes_nothing, header_moved, usual_moved, usual_skips}
 
 -- ---- fleets

@@ -10,7 +10,7 @@ use Rattle.node_files.specs.Logs.{own_line, boot_line, network_line, node_line, 
 use Rattle.file_rules.specs.Outside.{IsLogOutside, LogOutside}
 use Rattle.file_rules.specs.Later.{unmoved_reading}
 use Rattle.file_rules.specs.Skipping.{SkipsLines}
-use Rattle.file_rules.proofs.Counts.{Moves, Skips, moves_count, skips_lines}
+use Rattle.file_rules.proofs.MovedCounts.{Moves, Skips, moves_count, skips_lines}
 use Rattle.file_rules.proofs.Lines.{identity_changes_nothing, version_moved, usual_moved, usual_skips}
 
 step_moved : (first number : ℕ) (line : List ℕ) (stage : LogStage) (s : LogReading) → log_step_at stage (moved_line first number) line s ≡ moved_by first (λ x. x) (log_step_at stage number line s)

@@ -10,7 +10,7 @@ use Rattle.port_files.specs.PortFiles.{purses_line, begin_line, event_line, port
 use Rattle.file_rules.specs.Outside.{IsPortOutside, PortOutside}
 use Rattle.file_rules.specs.Later.{unmoved_reading}
 use Rattle.file_rules.specs.Skipping.{SkipsLines}
-use Rattle.file_rules.proofs.Counts.{Moves, Skips, moves_count, skips_lines}
+use Rattle.file_rules.proofs.MovedCounts.{Moves, Skips, moves_count, skips_lines}
 use Rattle.file_rules.proofs.Lines.{identity_changes_nothing, header_moved, usual_moved, usual_skips}
 
 step_moved : (first number : ℕ) (line : List ℕ) (stage : PortStage) (s : PortReading) → port_step_at stage (moved_line first number) line s ≡ moved_by first (λ x. x) (port_step_at stage number line s)

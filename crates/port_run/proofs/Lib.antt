@@ -1,4 +1,4 @@
-pub mod Nodes
+pub mod KnownNodes
 pub mod Worlds
 pub mod Rules
 pub mod Closed

@@ -20,7 +20,7 @@ use Rattle.world_model.specs.declared.lines.Handing.TheVariants.{Taking, Leaving
 use Rattle.world_model.specs.World.{WorldState, nothing, lines_at, steps_at, step_at, step_place, steps, place_of, far_end, send_taken, send_at, send_over, send_place, sends, none_before, hand_line, as_handed, wire_after, with_wire, without_frame, wire_place, hand_at, hand_to, hand_frame, hand_place, hands, lose_frame, lose_place, loses, acted_event, happens}
 use Rattle.port_run.specs.Only.{Allowed}
 use Rattle.port_run.specs.Known.{IsClosed, StampedKnown, NodeKnown, ActKnown, TakenKnown, StepKnown, WorldKnown, LineKnown, EventKnown, ComesKnown}
-use Rattle.port_run.proofs.Nodes.{all_append, inject_known, stamped_known, take_known, tick_known}
+use Rattle.port_run.proofs.KnownNodes.{all_append, inject_known, stamped_known, take_known, tick_known}
 
 pub all_get : {X : Type 0} (P : X → Type 0) (xs : List X) (k : ℕ) (x : X) → AllByRecursion P xs → slice_get xs k ≡ Some x → P x
 all_get P [] k x h e = absurd cc

@@ -1,5 +1,5 @@
 use Rattle.port_run.specs.Visits.{data_allowed}
-use Rattle.port_run.proofs.Nodes.{packet_known}
+use Rattle.port_run.proofs.KnownNodes.{packet_known}
 use Rattle.port_run.proofs.nodes.steps_stay_known.Goals as goal
 
 pub returns : goal.returns
