@@ -1,17 +1,21 @@
-//! What follows from a call of any words.
-ghost use Rattle.std.specs.Prelude.{◌≡◌, ◌⊎◌, IsTrue, Option, None};
+//! What follows from a call of any words: how it ends, for which fault, and what it leaves as it was.
+ghost use Rattle.std.specs.Prelude.{◌≡◌, ◌⊎◌, IsTrue, Option, None, ◌≢◌, ℕ, List, Some};
 ghost use Rattle.node_io.specs.Causes.{HasRisen};
 ghost use Rattle.node_io.specs.Outsides.{Outside};
 ghost use Rattle.node_io.specs.Sinks.{SinkState, Writes, FailsIn};
-ghost use Rattle.call_causes.specs.Causes.{IfRefused, Gives};
+ghost use Rattle.call_causes.specs.Causes.{IfRefused, Gives, WriteRose};
 ghost use Rattle.file_commands.specs.Own.{IsOwn};
 ghost use Rattle.call_causes.specs.Notes.{note_text};
 ghost use Rattle.call_causes.specs.declared.status.Cause.{Cause as Why};
 ghost use Rattle.call_causes.specs.declared.status.Refusal.{Refusal as Reason};
-ghost use Rattle.planet_cli.specs.Requests.{Request};
+ghost use Rattle.planet_cli.specs.Requests.{Request, grow, fleet};
 ghost use Rattle.planet_cli.specs.Calls.{Calls};
 ghost use Rattle.planet_cli.specs.Outcomes.{refused, outcome_of, IsWhole, IsAccepted, WritesOut, BeginsOut};
-ghost use Rattle.planet_cli.specs.Laws.{WhereInjected};
+ghost use Rattle.planet_cli.specs.Laws.{WhereInjected, UnlessLinked, UnlessFleet, IfNodesFailed, UnlessNode, AsksFor, MakesAtMost};
+ghost use Rattle.network_plan.specs.declared.fleet.Fleet.{Fleet};
+ghost use Rattle.file_commands.specs.Said.{says};
+ghost use Rattle.live_commands.specs.Fleets.{fleet_said};
+ghost use Rattle.planet_cli.specs.Fleets.{Unstarted, Unwaited, WritesLines};
 
 use call_causes::Cause;
 
@@ -108,4 +112,161 @@ pub fn note()
         → Calls q cause old new n m
         → Writes n m (note_text cause)
         ⊎ ((cause ≡ Cause.WriteFault) × ((found : Why) × FailsIn n m (note_text found))) }
+{}
+
+/// A fault of reading comes only where the count of the files rose.
+pub fn read_fault()
+    ensures { (q : Option Request) (old new : Outside) (n m : SinkState)
+        → Calls q Cause.ReadFault old new n m
+        → HasRisen old.files.read_faults new.files.read_faults }
+{}
+
+/// A fault of writing comes only where the count of the output, of the files or of the notes rose.
+pub fn write_fault()
+    ensures { (q : Option Request) (old new : Outside) (n m : SinkState)
+        → Calls q Cause.WriteFault old new n m
+        → WriteRose old new n m }
+{}
+
+/// A fault of the link comes only where its count rose.
+pub fn link_fault()
+    ensures { (q : Option Request) (old new : Outside) (n m : SinkState)
+        → Calls q Cause.LinkFault old new n m
+        → HasRisen old.link.faults new.link.faults }
+{}
+
+/// A fault of children comes only where their count rose.
+pub fn spawn_fault()
+    ensures { (q : Option Request) (old new : Outside) (n m : SinkState)
+        → Calls q Cause.SpawnFault old new n m
+        → HasRisen old.children.faults new.children.faults }
+{}
+
+/// Only the commands with a link end so.
+pub fn no_link_fault()
+    ensures { (q : Option Request) (cause : Why) (old new : Outside) (n m : SinkState)
+        → Calls q cause old new n m
+        → UnlessLinked q (cause ≢ Cause.LinkFault) }
+{}
+
+/// Only `fleet` ends for a fault of children.
+pub fn no_spawn_fault()
+    ensures { (q : Option Request) (cause : Why) (old new : Outside) (n m : SinkState)
+        → Calls q cause old new n m
+        → UnlessFleet q (cause ≢ Cause.SpawnFault) }
+{}
+
+/// And only it ends for nodes that failed.
+pub fn no_nodes_failed()
+    ensures { (q : Option Request) (cause : Why) (old new : Outside) (n m : SinkState)
+        → Calls q cause old new n m
+        → UnlessFleet q (IfNodesFailed cause (λ h s. ⊥)) }
+{}
+
+/// The names asked of the files grew at most by the file of the request.
+pub fn asked()
+    ensures { (q : Option Request) (cause : Why) (old new : Outside) (n m : SinkState)
+        → Calls q cause old new n m
+        → AsksFor q old.files.asked new.files.asked }
+{}
+
+/// No command but `node` makes a file, and that at most its log.
+pub fn made()
+    ensures { (q : Option Request) (cause : Why) (old new : Outside) (n m : SinkState)
+        → Calls q cause old new n m
+        → MakesAtMost q old new }
+{}
+
+/// No command but `node` changes what files hold.
+pub fn files()
+    ensures { (q : Option Request) (cause : Why) (old new : Outside) (n m : SinkState)
+        → Calls q cause old new n m
+        → UnlessNode q (new.files.held ≡ old.files.held) }
+{}
+
+/// No command but `inject` and `node` uses the link.
+pub fn no_frames()
+    ensures { (q : Option Request) (cause : Why) (old new : Outside) (n m : SinkState)
+        → Calls q cause old new n m
+        → UnlessLinked q (new.link ≡ old.link) }
+{}
+
+/// No command but `node` takes what arrives.
+pub fn no_arrivals()
+    ensures { (q : Option Request) (cause : Why) (old new : Outside) (n m : SinkState)
+        → Calls q cause old new n m
+        → UnlessNode q (new.link.script ≡ old.link.script) }
+{}
+
+/// A file that isn't taken leaves the link, the clock and the files as they were.
+pub fn unserved()
+    ensures { (q : Option Request) (cause : Why) (old new : Outside) (n m : SinkState)
+        → Calls q cause old new n m
+        → IsTrue old.files.observable
+        → ¬ (IsAccepted (outcome_of q old.files.held))
+        → (new.link ≡ old.link) × (new.clock ≡ old.clock) × (new.files.held ≡ old.files.held) }
+{}
+
+/// No command but `node` uses the clock.
+pub fn no_moments()
+    ensures { (q : Option Request) (cause : Why) (old new : Outside) (n m : SinkState)
+        → Calls q cause old new n m
+        → UnlessNode q (new.clock ≡ old.clock) }
+{}
+
+/// No command but `fleet` uses children.
+pub fn no_starts()
+    ensures { (q : Option Request) (cause : Why) (old new : Outside) (n m : SinkState)
+        → Calls q cause old new n m
+        → UnlessFleet q (new.children ≡ old.children) }
+{}
+
+/// The statuses that children end with stay.
+pub fn statuses()
+    ensures { (q : Option Request) (cause : Why) (old new : Outside) (n m : SinkState)
+        → Calls q cause old new n m
+        → new.children.statuses ≡ old.children.statuses }
+{}
+
+/// A network that grows ends done, for want of memory, or where the output or the notes failed, whatever the files hold: it
+/// is never refused.
+pub fn grow_ends()
+    ensures { (seed k : ℕ) (cause : Why) (old new : Outside) (n m : SinkState)
+        → Calls (Some (grow seed k)) cause old new n m
+        → (cause ≡ Cause.Done)
+        ⊎ ((cause ≡ Cause.NoMemory)
+        ⊎ ((cause ≡ Cause.WriteFault)
+        × (HasRisen old.out.faults new.out.faults ⊎ HasRisen n.faults m.faults))) }
+{}
+
+/// A fleet that a fault of children ended failed in a start or in a waiting. After a failed start those that run were waited
+/// for, up to a further fault, and no line was written.
+pub fn fleet_stops()
+    ensures { (file : List ℕ) (cause : Why) (old new : Outside) (n m : SinkState)
+        (call : Calls (Some (fleet file)) cause old new n m)
+        → IsTrue old.files.observable
+        → (f : Fleet)
+        → fleet_said file old.files.held ≡ says f
+        → call.found ≡ Cause.SpawnFault
+        → Unstarted f old new ⊎ Unwaited f old new }
+{}
+
+/// After every answer a fleet's output has a prefix of the lines of some statuses, whatever the spawner tells.
+pub fn fleet_lines()
+    ensures { (file : List ℕ) (cause : Why) (old new : Outside) (n m : SinkState)
+        → Calls (Some (fleet file)) cause old new n m
+        → IsTrue old.files.observable
+        → (f : Fleet)
+        → fleet_said file old.files.held ≡ says f
+        → WritesLines f old.out new.out }
+{}
+
+/// A note that was cut is a prefix of the note of what the call found, or of that of `NoMemory`, where there was no memory for
+/// the other.
+pub fn cut_notes()
+    ensures { (q : Option Request) (cause : Why) (old new : Outside) (n m : SinkState)
+        (call : Calls q cause old new n m)
+        → Writes n m (note_text cause)
+        ⊎ ((cause ≡ Cause.WriteFault)
+        × (FailsIn n m (note_text call.found) ⊎ FailsIn n m (note_text Cause.NoMemory))) }
 {}

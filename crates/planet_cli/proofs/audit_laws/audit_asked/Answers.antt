@@ -1,5 +1,0 @@
-use Rattle.planet_cli.proofs.Auditing.{audit_asks}
-use Rattle.planet_cli.proofs.audit_laws.audit_asked.Goals as goal
-
-pub returns : goal.returns
-returns c = audit_asks

@@ -1,5 +1,0 @@
-use Rattle.planet_cli.proofs.Auditing.{audit_writes}
-use Rattle.planet_cli.proofs.audit_laws.audited.Goals as goal
-
-pub returns : goal.returns
-returns c = audit_writes

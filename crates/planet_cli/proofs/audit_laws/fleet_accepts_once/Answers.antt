@@ -1,5 +1,0 @@
-use Rattle.planet_cli.proofs.Auditing.{audit_once}
-use Rattle.planet_cli.proofs.audit_laws.fleet_accepts_once.Goals as goal
-
-pub returns : goal.returns
-returns c = audit_once

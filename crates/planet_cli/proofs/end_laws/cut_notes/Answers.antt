@@ -1,5 +1,0 @@
-use Rattle.planet_cli.proofs.GrowEnds.{cut_note}
-use Rattle.planet_cli.proofs.end_laws.cut_notes.Goals as goal
-
-pub returns : goal.returns
-returns c = cut_note

@@ -1,5 +1,0 @@
-use Rattle.planet_cli.proofs.FleetEnds.{fleet_stopped}
-use Rattle.planet_cli.proofs.end_laws.fleet_stops.Goals as goal
-
-pub returns : goal.returns
-returns c = fleet_stopped

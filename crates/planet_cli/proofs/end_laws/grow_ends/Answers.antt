@@ -1,5 +1,0 @@
-use Rattle.planet_cli.proofs.GrowEnds.{grow_so}
-use Rattle.planet_cli.proofs.end_laws.grow_ends.Goals as goal
-
-pub returns : goal.returns
-returns c = grow_so

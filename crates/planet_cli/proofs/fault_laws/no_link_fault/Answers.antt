@@ -1,5 +1,0 @@
-use Rattle.planet_cli.proofs.Causes.{cause_is_unlinked}
-use Rattle.planet_cli.proofs.fault_laws.no_link_fault.Goals as goal
-
-pub returns : goal.returns
-returns c = cause_is_unlinked

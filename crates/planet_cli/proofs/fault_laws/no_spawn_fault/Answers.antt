@@ -1,5 +1,0 @@
-use Rattle.planet_cli.proofs.Causes.{cause_is_unspawned}
-use Rattle.planet_cli.proofs.fault_laws.no_spawn_fault.Goals as goal
-
-pub returns : goal.returns
-returns c = cause_is_unspawned

@@ -1,5 +1,0 @@
-use Rattle.planet_cli.proofs.Explaining.{write_rose}
-use Rattle.planet_cli.proofs.fault_laws.write_fault.Goals as goal
-
-pub returns : goal.returns
-returns c = write_rose

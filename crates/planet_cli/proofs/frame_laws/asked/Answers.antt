@@ -1,5 +1,0 @@
-use Rattle.planet_cli.proofs.Frames.{call_asks}
-use Rattle.planet_cli.proofs.frame_laws.asked.Goals as goal
-
-pub returns : goal.returns
-returns c = call_asks

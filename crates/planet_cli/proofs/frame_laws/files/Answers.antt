@@ -1,5 +1,0 @@
-use Rattle.planet_cli.proofs.Frames.{call_holds}
-use Rattle.planet_cli.proofs.frame_laws.files.Goals as goal
-
-pub returns : goal.returns
-returns c = call_holds

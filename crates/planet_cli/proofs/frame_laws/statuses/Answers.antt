@@ -1,5 +1,0 @@
-use Rattle.planet_cli.proofs.Frames.{call_statuses}
-use Rattle.planet_cli.proofs.frame_laws.statuses.Goals as goal
-
-pub returns : goal.returns
-returns c = call_statuses

@@ -1,5 +1,0 @@
-use Rattle.planet_cli.proofs.Fleets.{fleet_fronts}
-use Rattle.planet_cli.proofs.live_laws.fleet_front.Goals as goal
-
-pub returns : goal.returns
-returns c = fleet_fronts

@@ -1,5 +1,0 @@
-use Rattle.planet_cli.proofs.Fleets.{fleet_says}
-use Rattle.planet_cli.proofs.live_laws.fleet_only.Goals as goal
-
-pub returns : goal.returns
-returns c = fleet_says

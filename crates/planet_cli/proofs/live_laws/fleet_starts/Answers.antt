@@ -1,5 +1,0 @@
-use Rattle.planet_cli.proofs.Fleets.{fleet_begins}
-use Rattle.planet_cli.proofs.live_laws.fleet_starts.Goals as goal
-
-pub returns : goal.returns
-returns c = fleet_begins

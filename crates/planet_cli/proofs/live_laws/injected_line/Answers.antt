@@ -1,5 +1,0 @@
-use Rattle.planet_cli.proofs.Asking.{ask_writes}
-use Rattle.planet_cli.proofs.live_laws.injected_line.Goals as goal
-
-pub returns : goal.returns
-returns c = ask_writes

@@ -1,5 +1,0 @@
-use Rattle.planet_cli.proofs.Serving.{node_is_complete}
-use Rattle.planet_cli.proofs.live_laws.node_complete.Goals as goal
-
-pub returns : goal.returns
-returns c = node_is_complete

@@ -1,5 +1,0 @@
-use Rattle.planet_cli.proofs.Serving.{node_serves}
-use Rattle.planet_cli.proofs.live_laws.served.Goals as goal
-
-pub returns : goal.returns
-returns c = node_serves

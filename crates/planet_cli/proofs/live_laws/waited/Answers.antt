@@ -1,5 +1,0 @@
-use Rattle.planet_cli.proofs.Fleets.{fleet_waits}
-use Rattle.planet_cli.proofs.live_laws.waited.Goals as goal
-
-pub returns : goal.returns
-returns c = fleet_waits

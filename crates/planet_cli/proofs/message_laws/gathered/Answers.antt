@@ -1,5 +1,0 @@
-use Rattle.planet_cli.proofs.Headline.{gather_writes}
-use Rattle.planet_cli.proofs.message_laws.gathered.Goals as goal
-
-pub returns : goal.returns
-returns c = gather_writes

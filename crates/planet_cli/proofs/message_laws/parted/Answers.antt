@@ -1,5 +1,0 @@
-use Rattle.planet_cli.proofs.Headline.{cut_writes}
-use Rattle.planet_cli.proofs.message_laws.parted.Goals as goal
-
-pub returns : goal.returns
-returns c = cut_writes

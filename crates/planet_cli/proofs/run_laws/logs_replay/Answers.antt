@@ -1,5 +1,0 @@
-use Rattle.planet_cli.proofs.NodeRuns.{node_replays}
-use Rattle.planet_cli.proofs.run_laws.logs_replay.Goals as goal
-
-pub returns : goal.returns
-returns c = node_replays

@@ -1,5 +1,0 @@
-use Rattle.planet_cli.proofs.Writing.{check_written}
-use Rattle.planet_cli.proofs.writing_laws.checked.Goals as goal
-
-pub returns : goal.returns
-returns c = check_written

@@ -1,5 +1,0 @@
-use Rattle.planet_cli.proofs.Asking.{grow_writes}
-use Rattle.planet_cli.proofs.writing_laws.grown.Goals as goal
-
-pub returns : goal.returns
-returns c = grow_writes

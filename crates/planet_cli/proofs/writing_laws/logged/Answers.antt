@@ -1,5 +1,0 @@
-use Rattle.planet_cli.proofs.Headline.{log_writes}
-use Rattle.planet_cli.proofs.writing_laws.logged.Goals as goal
-
-pub returns : goal.returns
-returns c = log_writes

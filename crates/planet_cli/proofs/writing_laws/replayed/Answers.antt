@@ -1,5 +1,0 @@
-use Rattle.planet_cli.proofs.Headline.{replay_writes}
-use Rattle.planet_cli.proofs.writing_laws.replayed.Goals as goal
-
-pub returns : goal.returns
-returns c = replay_writes

@@ -1,5 +1,0 @@
-use Rattle.planet_cli.proofs.Showing.{show_written}
-use Rattle.planet_cli.proofs.writing_laws.shown.Goals as goal
-
-pub returns : goal.returns
-returns c = show_written

@@ -1,5 +1,0 @@
-use Rattle.file_commands.proofs.Showing.{frame_shown}
-use Rattle.planet_cli.proofs.writing_laws.shown_whole.Goals as goal
-
-pub returns : goal.returns
-returns c = frame_shown
