@@ -261,7 +261,10 @@ fn head_of(
                     params,
                     result,
                 }),
-                Err(fault) => Err(fault),
+                Err(fault) => {
+                    drop(result);
+                    Err(fault)
+                }
             },
             Err(fault) => Err(fault),
         },

@@ -1,0 +1,9 @@
+use Rattle.std.proofs.Common.{arith}
+use Rattle.plan_grammar.proofs.Chains.{clauses_done, clauses_step}
+use Rattle.plan_grammar.proofs.reader.ExprReader.clauses.Goals as goal
+
+pub loop-preserved : goal.loop-preserved
+loop-preserved g c = grind (arith, clauses_step)
+
+pub returns : goal.returns
+returns g c = grind (arith, clauses_done)
