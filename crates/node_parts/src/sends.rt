@@ -151,8 +151,17 @@ pub fn begin_acts(
     ensures room { IfOk result (λ acts. vec_len acts + sends ≤ vec_capacity acts) }
 {
     let mut acts = before.into_vec();
-    acts.reserve(notes.len() + 2)?;
-    add_end(&mut acts, notes, end, handled);
-    acts.reserve(sends)?;
-    Ok(acts)
+    match acts.reserve(notes.len() + 2) {
+        Ok(()) => {
+            add_end(&mut acts, notes, end, handled);
+            acts.reserve(sends)?;
+            Ok(acts)
+        }
+        Err(refused) => {
+            drop(notes);
+            drop(end);
+            drop(handled);
+            Err(refused)
+        }
+    }
 }
