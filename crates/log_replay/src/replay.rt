@@ -34,7 +34,9 @@ fn event_lines<S: Services>(
         node.old node.new result }
 {
     let acts = node.step(alloc, event)?;
-    step_lines(alloc, number, config.here, acts.list.as_slice())
+    let text = step_lines(alloc, number, config.here, acts.list.as_slice());
+    drop(acts);
+    text
 }
 
 /// Makes an entry again, and gives its lines.

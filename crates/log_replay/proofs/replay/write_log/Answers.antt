@@ -21,8 +21,8 @@ returns-in-Ok-put_all g c = λ s h.
     trace_written c.args.log.now.node.here (played_entries 0 s c.args.log.now.events) (out c.args.out.now) (out c.put_all.new.sink) (out c.write_entries.new.out) (out c.put_all-2.new.sink)
     c.in-Ok.ensures (rw c.as_slice.ensures at (c.in_default-write_entries.ensures s h)) c.in-Ok-put_all.ensures
 
-pub returns : goal.returns
-returns g c = λ s h.
+pub returns-in-Err-put_all : goal.returns-in-Err-put_all
+returns-in-Err-put_all g c = λ s h.
     let out = g.K.Sink.state in
     trace_cut c.args.log.now.node.here (played_entries 0 s c.args.log.now.events) (out c.args.out.now) (out c.put_all.new.sink) (out c.write_entries.new.out) (out c.put_all-2.new.sink)
     c.in-Ok.ensures (rw c.as_slice.ensures at (c.in_default-write_entries.ensures s h)) c.in-Err-put_all.ensures
