@@ -33,7 +33,9 @@ pub struct Fleet {
 
 impl Drop for Fleet {
     fn drop(self) {
-        let Fleet { children: _children } = self;
+        let Fleet {
+            children: _children,
+        } = self;
     }
 }
 
