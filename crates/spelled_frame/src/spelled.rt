@@ -41,10 +41,18 @@ struct Beside {
 
 /// A packet with a typed chunk or an advert, kept as the bytes of its frame, which contracts see as that frame with its
 /// stamp. What stands beside them is boxed, since a queue has room for many frames and holds few.
-#[derive(Drop)]
 pub struct SpelledFrame {
     bytes: Bytes,
     beside: Box<Beside>,
+}
+
+impl Drop for SpelledFrame {
+    fn drop(self) {
+        let SpelledFrame {
+            bytes: _bytes,
+            beside: _beside,
+        } = self;
+    }
 }
 
 impl Model for SpelledFrame {
@@ -303,7 +311,9 @@ impl SpelledFrame {
     pub fn into_bytes(self) -> Bytes
         ensures { AcceptsBy (spec.version_of self.stamp) result self }
     {
-        self.bytes
+        let SpelledFrame { bytes, beside } = self;
+        drop(beside);
+        bytes
     }
 
     /// The frame with this number, where it bears a stamp. Takes no memory.
