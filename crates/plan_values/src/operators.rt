@@ -18,7 +18,6 @@ use std::alloc::Global;
 
 /// The value or the exception of `a op b`, or `Unfit` where the operator doesn't take such operands: never where they have
 /// types that it takes.
-#[tactic(auto, using(crate::proofs::Fit::binary_fits))]
 pub fn binary(alloc: Global, op: Op, a: &Value, b: &Value) -> Result<Value, PrimFault>
     ensures answers { Answers (rules.binary op a.now b.now) result }
     ensures fits { (t u r : AType) → OperatorTakes op t u r → HasType a.now t → HasType b.now u → IsFit r result }
@@ -43,7 +42,6 @@ fn apply_operator(alloc: Global, op: Op, a: &Value, b: &Value) -> Result<Value, 
     }
 }
 
-#[tactic(auto, using(value_rules::proofs::Same::same_value_decides))]
 fn same(a: &Value, b: &Value) -> bool
     ensures { result ≡ same_value a.now b.now }
 {
@@ -68,7 +66,6 @@ fn negated_answer(before: Option<bool>) -> Result<Value, PrimFault>
     }
 }
 
-#[tactic(auto, using(plan_base::specs::Trees::trees))]
 fn on_numbers(alloc: Global, op: Op, a: &Value, b: &Value) -> Result<Value, PrimFault>
     ensures { Answers (rules.numbers (rules.computed_number op) (out-Value a.now) (out-Value b.now)) result }
 {

@@ -8,7 +8,6 @@ ghost use Rattle.value_rules.specs.Rules as rules;
 use plan_base::{Text, Value};
 
 /// Whether `a` stands before `b`, where both are numbers, chars or strings.
-#[tactic(auto, using(plan_base::specs::Trees::trees))]
 pub fn before(a: &Value, b: &Value) -> Option<bool>
     ensures { result ≡ rules.before (out-Value a.now) (out-Value b.now) }
 {
