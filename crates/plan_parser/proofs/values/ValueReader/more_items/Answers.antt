@@ -1,10 +1,9 @@
 use Rattle.std.proofs.Common.{arith, length-append}
-use Rattle.std.proofs.lemmas.Grind.{common_steps}
 use Rattle.plan_grammar.proofs.Mores.{more_ends, more_steps}
 use Rattle.plan_parser.proofs.values.ValueReader.more_items.Goals as goal
 
 pub loop-ahead-preserved : goal.loop-ahead-preserved
-loop-ahead-preserved g c = grind (arith, common_steps, more_steps, length-append)
+loop-ahead-preserved g c = grind (arith, more_steps, length-append)
 
 pub returns : goal.returns
 returns g c = grind (arith, more_ends)
