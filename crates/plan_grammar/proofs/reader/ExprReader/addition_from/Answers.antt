@@ -1,5 +1,5 @@
 use Rattle.std.proofs.Common.{arith}
-use Rattle.plan_grammar.proofs.Chains.{chain_done, chain_end, chain_step}
+use Rattle.plan_grammar.proofs.Chains.{chain_done, chain_end, chain_step, chain_stop}
 use Rattle.plan_grammar.proofs.reader.ExprReader.addition_from.Goals as goal
 
 pub loop-preserved : goal.loop-preserved
@@ -10,3 +10,6 @@ returns-in_default g c = grind (arith, chain_end)
 
 pub returns : goal.returns
 returns g c = grind (arith, chain_done)
+
+pub returns-in_err-right : goal.returns-in_err-right
+returns-in_err-right g c = grind (arith, chain_stop)
