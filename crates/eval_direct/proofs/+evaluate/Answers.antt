@@ -104,13 +104,8 @@ direct::choice-last_part-requires g t c =
     (if_true c.args.here.now.code.now c.args.here.now.fun c.args.e.now c.args.t.now c.args.a.now c.args.b.now (spot c.args.here.now c.args.e.now).env c.requires.form (joined_state c.args.state.now (g.S.Services.stands c.args.svc.now)) (joined_state c.evaluate.new.state (g.S.Services.stands c.evaluate.new.svc)) c.in-Ok-Done.v came test).safe c.requires.safe in
     search rules
 
-pub direct::choice-returns-in-Some-true-clause-flows : goal.direct::choice-returns-in-Some-true-clause-flows
-direct::choice-returns-in-Some-true-clause-flows g t c =
-    let is : c.evaluate.result ≡ Ok (flow.Done c.in-Ok-Done.v) = ok_is _ _ _ c.in-Ok-Done.is c.in-Ok-Done.field-0-is in
-    let came : (meaning c.args.here.now.code.now c.args.here.now.fun (spot c.args.here.now c.args.e.now).env c.args.t.now (joined_state c.args.state.now (g.S.Services.stands c.args.svc.now))).after ≡ gave c.in-Ok-Done.v (joined_state c.evaluate.new.state (g.S.Services.stands c.evaluate.new.svc)) = rw is at c.evaluate.ensures.flows in
-    let test : as_bool c.in-Ok-Done.v ≡ Some true = cc in
-    flows_from c.last_part.new.codes c.args.here.now.code.now c.args.here.now.fun (spot c.args.here.now c.args.e.now) _ _ c.last_part.result (joined_state c.last_part.new.state (g.S.Services.stands c.last_part.new.svc))
-    (if_true c.args.here.now.code.now c.args.here.now.fun c.args.e.now c.args.t.now c.args.a.now c.args.b.now (spot c.args.here.now c.args.e.now).env c.requires.form (joined_state c.args.state.now (g.S.Services.stands c.args.svc.now)) (joined_state c.evaluate.new.state (g.S.Services.stands c.evaluate.new.svc)) c.in-Ok-Done.v came test) c.last_part.ensures.flows
+pub direct::choice-returns-in-Some-true : goal.direct::choice-returns-in-Some-true
+direct::choice-returns-in-Some-true g t c = record { flows = let is : c.evaluate.result ≡ Ok (flow.Done c.in-Ok-Done.v) = ok_is _ _ _ c.in-Ok-Done.is c.in-Ok-Done.field-0-is in let came : (meaning c.args.here.now.code.now c.args.here.now.fun (spot c.args.here.now c.args.e.now).env c.args.t.now (joined_state c.args.state.now (g.S.Services.stands c.args.svc.now))).after ≡ gave c.in-Ok-Done.v (joined_state c.evaluate.new.state (g.S.Services.stands c.evaluate.new.svc)) = rw is at c.evaluate.ensures.flows in let test : as_bool c.in-Ok-Done.v ≡ Some true = cc in flows_from c.last_part.new.codes c.args.here.now.code.now c.args.here.now.fun (spot c.args.here.now c.args.e.now) _ _ c.last_part.result (joined_state c.last_part.new.state (g.S.Services.stands c.last_part.new.svc)) (if_true c.args.here.now.code.now c.args.here.now.fun c.args.e.now c.args.t.now c.args.a.now c.args.b.now (spot c.args.here.now c.args.e.now).env c.requires.form (joined_state c.args.state.now (g.S.Services.stands c.args.svc.now)) (joined_state c.evaluate.new.state (g.S.Services.stands c.evaluate.new.svc)) c.in-Ok-Done.v came test) c.last_part.ensures.flows; lasts = lasts_later _ _ _ _ (done_less _ _ _ _ _ (ok_is _ _ _ c.in-Ok-Done.is c.in-Ok-Done.field-0-is) c.evaluate.ensures.spends) c.last_part.ensures.lasts; grown = grows_on _ _ _ c.evaluate.ensures.grown c.last_part.ensures.grown; offer = c.last_part.ensures.offer ∙ c.evaluate.ensures.offer; begun = c.last_part.ensures.begun ∙ c.evaluate.ensures.begun }
 
 pub direct::choice-last_part-requires-in-Some-false : goal.direct::choice-last_part-requires-in-Some-false
 direct::choice-last_part-requires-in-Some-false g t c =
@@ -123,32 +118,17 @@ direct::choice-last_part-requires-in-Some-false g t c =
     (if_false c.args.here.now.code.now c.args.here.now.fun c.args.e.now c.args.t.now c.args.a.now c.args.b.now (spot c.args.here.now c.args.e.now).env c.requires.form (joined_state c.args.state.now (g.S.Services.stands c.args.svc.now)) (joined_state c.evaluate.new.state (g.S.Services.stands c.evaluate.new.svc)) c.in-Ok-Done.v came test).safe c.requires.safe in
     search rules
 
-pub direct::choice-returns-in-Some-false-clause-flows : goal.direct::choice-returns-in-Some-false-clause-flows
-direct::choice-returns-in-Some-false-clause-flows g t c =
-    let is : c.evaluate.result ≡ Ok (flow.Done c.in-Ok-Done.v) = ok_is _ _ _ c.in-Ok-Done.is c.in-Ok-Done.field-0-is in
-    let came : (meaning c.args.here.now.code.now c.args.here.now.fun (spot c.args.here.now c.args.e.now).env c.args.t.now (joined_state c.args.state.now (g.S.Services.stands c.args.svc.now))).after ≡ gave c.in-Ok-Done.v (joined_state c.evaluate.new.state (g.S.Services.stands c.evaluate.new.svc)) = rw is at c.evaluate.ensures.flows in
-    let test : as_bool c.in-Ok-Done.v ≡ Some false = cc in
-    flows_from c.last_part-in-Some-false.new.codes c.args.here.now.code.now c.args.here.now.fun (spot c.args.here.now c.args.e.now) _ _ c.last_part-in-Some-false.result (joined_state c.last_part-in-Some-false.new.state (g.S.Services.stands c.last_part-in-Some-false.new.svc))
-    (if_false c.args.here.now.code.now c.args.here.now.fun c.args.e.now c.args.t.now c.args.a.now c.args.b.now (spot c.args.here.now c.args.e.now).env c.requires.form (joined_state c.args.state.now (g.S.Services.stands c.args.svc.now)) (joined_state c.evaluate.new.state (g.S.Services.stands c.evaluate.new.svc)) c.in-Ok-Done.v came test) c.last_part-in-Some-false.ensures.flows
+pub direct::choice-returns-in-Some-false : goal.direct::choice-returns-in-Some-false
+direct::choice-returns-in-Some-false g t c = record { flows = let is : c.evaluate.result ≡ Ok (flow.Done c.in-Ok-Done.v) = ok_is _ _ _ c.in-Ok-Done.is c.in-Ok-Done.field-0-is in let came : (meaning c.args.here.now.code.now c.args.here.now.fun (spot c.args.here.now c.args.e.now).env c.args.t.now (joined_state c.args.state.now (g.S.Services.stands c.args.svc.now))).after ≡ gave c.in-Ok-Done.v (joined_state c.evaluate.new.state (g.S.Services.stands c.evaluate.new.svc)) = rw is at c.evaluate.ensures.flows in let test : as_bool c.in-Ok-Done.v ≡ Some false = cc in flows_from c.last_part-in-Some-false.new.codes c.args.here.now.code.now c.args.here.now.fun (spot c.args.here.now c.args.e.now) _ _ c.last_part-in-Some-false.result (joined_state c.last_part-in-Some-false.new.state (g.S.Services.stands c.last_part-in-Some-false.new.svc)) (if_false c.args.here.now.code.now c.args.here.now.fun c.args.e.now c.args.t.now c.args.a.now c.args.b.now (spot c.args.here.now c.args.e.now).env c.requires.form (joined_state c.args.state.now (g.S.Services.stands c.args.svc.now)) (joined_state c.evaluate.new.state (g.S.Services.stands c.evaluate.new.svc)) c.in-Ok-Done.v came test) c.last_part-in-Some-false.ensures.flows; lasts = lasts_later _ _ _ _ (done_less _ _ _ _ _ (ok_is _ _ _ c.in-Ok-Done.is c.in-Ok-Done.field-0-is) c.evaluate.ensures.spends) c.last_part-in-Some-false.ensures.lasts; grown = grows_on _ _ _ c.evaluate.ensures.grown c.last_part-in-Some-false.ensures.grown; offer = c.last_part-in-Some-false.ensures.offer ∙ c.evaluate.ensures.offer; begun = c.last_part-in-Some-false.ensures.begun ∙ c.evaluate.ensures.begun }
 
-pub direct::choice-returns-in-None-clause-flows : goal.direct::choice-returns-in-None-clause-flows
-direct::choice-returns-in-None-clause-flows g t c = λ other.
-    let is : c.evaluate.result ≡ Ok (flow.Done c.in-Ok-Done.v) = ok_is _ _ _ c.in-Ok-Done.is c.in-Ok-Done.field-0-is in
-    let came : (meaning c.args.here.now.code.now c.args.here.now.fun (spot c.args.here.now c.args.e.now).env c.args.t.now (joined_state c.args.state.now (g.S.Services.stands c.args.svc.now))).after ≡ gave c.in-Ok-Done.v (joined_state c.evaluate.new.state (g.S.Services.stands c.evaluate.new.svc)) = rw is at c.evaluate.ensures.flows in
-    let test : as_bool c.in-Ok-Done.v ≡ None = cc in
-    if_wrong c.args.here.now.code.now c.args.here.now.fun c.args.e.now c.args.t.now c.args.a.now c.args.b.now (spot c.args.here.now c.args.e.now).env c.requires.form (joined_state c.args.state.now (g.S.Services.stands c.args.svc.now)) (joined_state c.evaluate.new.state (g.S.Services.stands c.evaluate.new.svc)) c.in-Ok-Done.v came test
+pub direct::choice-returns-in-None : goal.direct::choice-returns-in-None
+direct::choice-returns-in-None g t c = record { flows = λ other. let is : c.evaluate.result ≡ Ok (flow.Done c.in-Ok-Done.v) = ok_is _ _ _ c.in-Ok-Done.is c.in-Ok-Done.field-0-is in let came : (meaning c.args.here.now.code.now c.args.here.now.fun (spot c.args.here.now c.args.e.now).env c.args.t.now (joined_state c.args.state.now (g.S.Services.stands c.args.svc.now))).after ≡ gave c.in-Ok-Done.v (joined_state c.evaluate.new.state (g.S.Services.stands c.evaluate.new.svc)) = rw is at c.evaluate.ensures.flows in let test : as_bool c.in-Ok-Done.v ≡ None = cc in if_wrong c.args.here.now.code.now c.args.here.now.fun c.args.e.now c.args.t.now c.args.a.now c.args.b.now (spot c.args.here.now c.args.e.now).env c.requires.form (joined_state c.args.state.now (g.S.Services.stands c.args.svc.now)) (joined_state c.evaluate.new.state (g.S.Services.stands c.evaluate.new.svc)) c.in-Ok-Done.v came test; lasts = done_less _ _ _ _ _ (ok_is _ _ _ c.in-Ok-Done.is c.in-Ok-Done.field-0-is) c.evaluate.ensures.spends; grown = c.evaluate.ensures.grown; offer = c.evaluate.ensures.offer; begun = c.evaluate.ensures.begun }
 
-pub direct::choice-returns-in_ok-inside-in-Ok-Wait-clause-flows : goal.direct::choice-returns-in_ok-inside-in-Ok-Wait-clause-flows
-direct::choice-returns-in_ok-inside-in-Ok-Wait-clause-flows g t c =
-    let is : c.evaluate.result ≡ Ok (flow.Wait c.in-Ok-Wait.rest) = ok_is _ _ _ c.in-Ok-Wait.is c.in-Ok-Wait.field-0-is in
-    let none = c.new.ensures in
-    rw (c.in_ok-inside-in-Ok-Wait.ensures, none)
-    (waits_inside c.evaluate.new.codes c.args.here.now.code.now c.args.here.now.fun (spot c.args.here.now c.args.e.now) (frame.Part 0 []) _ (if_test c.args.here.now.code.now c.args.here.now.fun c.args.e.now c.args.t.now c.args.a.now c.args.b.now (spot c.args.here.now c.args.e.now).env c.requires.form) c.in-Ok-Wait.rest (joined_state c.evaluate.new.state (g.S.Services.stands c.evaluate.new.svc)) _ _ (first_leads c.args.here.now.code.now c.args.here.now.fun (spot c.args.here.now c.args.e.now) c.args.t.now (joined_state c.args.state.now (g.S.Services.stands c.args.svc.now)) (if_parts c.args.here.now.code.now c.args.here.now.fun c.args.e.now c.args.t.now c.args.a.now c.args.b.now (spot c.args.here.now c.args.e.now).env c.requires.form) (if_test c.args.here.now.code.now c.args.here.now.fun c.args.e.now c.args.t.now c.args.a.now c.args.b.now (spot c.args.here.now c.args.e.now).env c.requires.form)) (rw is at c.evaluate.ensures.flows))
+pub direct::choice-returns-in_ok-inside-in-Ok-Wait : goal.direct::choice-returns-in_ok-inside-in-Ok-Wait
+direct::choice-returns-in_ok-inside-in-Ok-Wait g t c = record { flows = let is : c.evaluate.result ≡ Ok (flow.Wait c.in-Ok-Wait.rest) = ok_is _ _ _ c.in-Ok-Wait.is c.in-Ok-Wait.field-0-is in let none = c.new.ensures in rw (c.in_ok-inside-in-Ok-Wait.ensures, none) (waits_inside c.evaluate.new.codes c.args.here.now.code.now c.args.here.now.fun (spot c.args.here.now c.args.e.now) (frame.Part 0 []) _ (if_test c.args.here.now.code.now c.args.here.now.fun c.args.e.now c.args.t.now c.args.a.now c.args.b.now (spot c.args.here.now c.args.e.now).env c.requires.form) c.in-Ok-Wait.rest (joined_state c.evaluate.new.state (g.S.Services.stands c.evaluate.new.svc)) _ _ (first_leads c.args.here.now.code.now c.args.here.now.fun (spot c.args.here.now c.args.e.now) c.args.t.now (joined_state c.args.state.now (g.S.Services.stands c.args.svc.now)) (if_parts c.args.here.now.code.now c.args.here.now.fun c.args.e.now c.args.t.now c.args.a.now c.args.b.now (spot c.args.here.now c.args.e.now).env c.requires.form) (if_test c.args.here.now.code.now c.args.here.now.fun c.args.e.now c.args.t.now c.args.a.now c.args.b.now (spot c.args.here.now c.args.e.now).env c.requires.form)) (rw is at c.evaluate.ensures.flows)); lasts = wait_less _ _ _ c.in_ok-inside-in-Ok-Wait.ensures _ _ _ _ (ok_is _ _ _ c.in-Ok-Wait.is c.in-Ok-Wait.field-0-is) c.evaluate.ensures.spends; grown = c.evaluate.ensures.grown; offer = c.evaluate.ensures.offer; begun = c.evaluate.ensures.begun }
 
-pub direct::choice-returns-in-Err-clause-flows : goal.direct::choice-returns-in-Err-clause-flows
-direct::choice-returns-in-Err-clause-flows g t c = λ other.
-    let is : c.evaluate.result ≡ Err c.in-Err.stop = c.in-Err.is in
-    (first_leads c.args.here.now.code.now c.args.here.now.fun (spot c.args.here.now c.args.e.now) c.args.t.now (joined_state c.args.state.now (g.S.Services.stands c.args.svc.now)) (if_parts c.args.here.now.code.now c.args.here.now.fun c.args.e.now c.args.t.now c.args.a.now c.args.b.now (spot c.args.here.now c.args.e.now).env c.requires.form) (if_test c.args.here.now.code.now c.args.here.now.fun c.args.e.now c.args.t.now c.args.a.now c.args.b.now (spot c.args.here.now c.args.e.now).env c.requires.form)).same ∙ part_stops_so c.args.here.now.code.now c.args.here.now.fun (spot c.args.here.now c.args.e.now) 0 [] _ c.in-Err.stop _ (if_no_try c.args.here.now.code.now c.args.here.now.fun c.args.e.now c.args.t.now c.args.a.now c.args.b.now (spot c.args.here.now c.args.e.now).env c.requires.form) ((rw is at c.evaluate.ensures.flows) other)
+pub direct::choice-returns-in-Err : goal.direct::choice-returns-in-Err
+direct::choice-returns-in-Err g t c = record { flows = λ other. let is : c.evaluate.result ≡ Err c.in-Err.stop = c.in-Err.is in (first_leads c.args.here.now.code.now c.args.here.now.fun (spot c.args.here.now c.args.e.now) c.args.t.now (joined_state c.args.state.now (g.S.Services.stands c.args.svc.now)) (if_parts c.args.here.now.code.now c.args.here.now.fun c.args.e.now c.args.t.now c.args.a.now c.args.b.now (spot c.args.here.now c.args.e.now).env c.requires.form) (if_test c.args.here.now.code.now c.args.here.now.fun c.args.e.now c.args.t.now c.args.a.now c.args.b.now (spot c.args.here.now c.args.e.now).env c.requires.form)).same ∙ part_stops_so c.args.here.now.code.now c.args.here.now.fun (spot c.args.here.now c.args.e.now) 0 [] _ c.in-Err.stop _ (if_no_try c.args.here.now.code.now c.args.here.now.fun c.args.e.now c.args.t.now c.args.a.now c.args.b.now (spot c.args.here.now c.args.e.now).env c.requires.form) ((rw is at c.evaluate.ensures.flows) other); lasts = stop_less _ _ _ _ _ c.in-Err.is c.evaluate.ensures.spends; grown = c.evaluate.ensures.grown; offer = c.evaluate.ensures.offer; begun = c.evaluate.ensures.begun }
 
 pub direct::operation-evaluate-requires : goal.direct::operation-evaluate-requires
 direct::operation-evaluate-requires g t c =
