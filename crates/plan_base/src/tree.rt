@@ -158,8 +158,9 @@ impl Drop for Svc {
         let Svc {
             name: _name,
             params: _params,
-            result: _result,
+            result,
         } = self;
+        drop(result);
     }
 }
 
@@ -195,9 +196,11 @@ impl Drop for Fun {
         let Fun {
             name: _name,
             params: _params,
-            result: _result,
-            body: _body,
+            result,
+            body,
         } = self;
+        drop(result);
+        drop(body);
     }
 }
 
