@@ -511,7 +511,8 @@ fn with_body(
     answer: Ty,
     body: &Expr,
 ) -> Result<Fun, NoMemory>
-    ensures { IfOk result (λ f. f ≡ record { name = name; params = params; result = answer; body = body.now }) }
+    ensures { IfOk result (λ f. f ≡ record
+        { name = name; params = params; result = answer; body = body.now }) }
 {
     match copy_expr(alloc, body) {
         Ok(body) => Ok(Fun {

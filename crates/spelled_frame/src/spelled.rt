@@ -31,12 +31,23 @@ pub enum What {
 
 /// What stands beside the bytes of a frame, so that they need not be read again: how they are read, what they hold, and
 /// where they are few, the frame itself.
-#[derive(Drop)]
 struct Beside {
     version: Version,
     stamp: Option<Stamp>,
     what: What,
     frame: Option<Frame>,
+}
+
+// (with a drop of its own, as the frame below, so that what lets one go need not prove again how a packet is dropped)
+impl Drop for Beside {
+    fn drop(self) {
+        let Beside {
+            version: _version,
+            stamp: _stamp,
+            what: _what,
+            frame: _frame,
+        } = self;
+    }
 }
 
 /// A packet with a typed chunk or an advert, kept as the bytes of its frame, which contracts see as that frame with its
@@ -145,10 +156,12 @@ fn bare_copy(
 pub fn copy_packet(alloc: Global, packet: &CheckedPacket) -> Result<CheckedPacket, NoMemory>
     ensures { IfOk result (λ p. p ≡ packet.now) }
 {
-    let chunk = packet.chunk().copy(alloc)?;
-    let bare = bare_copy(alloc, packet, chunk)?;
     let handler = copy_handler(alloc, packet.handler())?;
-    Ok(with_handler(bare, handler))
+    let chunk = packet.chunk().copy(alloc)?;
+    match bare_copy(alloc, packet, chunk) {
+        Ok(bare) => Ok(with_handler(bare, handler)),
+        Err(fault) => Err(fault),
+    }
 }
 
 /// The packet with another bound, where its frame has few bytes. Takes no memory.
