@@ -1,4 +1,4 @@
-use link_queue::Queue;
+use crate::queue::Queue;
 use link_window::Took;
 use packet_frame::FrameFault;
 use plan_base::{Dev, Family, Name};

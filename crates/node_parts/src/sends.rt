@@ -12,7 +12,7 @@ use spelled_frame::SpelledFrame;
 use std::alloc::AllocError;
 
 /// The number of frames that a device's queue holds.
-const MOST_QUEUED: u32 = link_queue::MOST_QUEUED;
+const MOST_QUEUED: u32 = node_model::MOST_QUEUED;
 
 /// Whether a device's queue has room.
 fn lane_room(lane: &Lane) -> bool

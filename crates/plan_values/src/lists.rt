@@ -1,7 +1,7 @@
 ghost use Rattle.std.specs.Prelude.{◌≡◌, [], ◌∷◌, ◌++◌, IfOk, MatchOption};
 ghost use Rattle.plan_base.specs.declared.tree.Value.{out-Value};
 ghost use Rattle.plan_base.specs.declared.tree.Value.TheVariants as value;
-ghost use Rattle.value_rules.specs.Rules as rules;
+ghost use Rattle.typing_rules.specs.Rules as rules;
 ghost use Rattle.plan_values.specs.Answers.{Answers, AnswersUnweighed};
 
 use crate::PrimFault;
@@ -13,7 +13,7 @@ use plan_sizes::weight;
 use std::alloc::{AllocError, Global};
 
 /// The value, or `TooLarge` where it weighs more than 16,384 bytes.
-#[tactic(auto, unfolding(value_rules::specs::Rules::limited_value))]
+#[tactic(auto, unfolding(typing_rules::specs::Rules::limited_value))]
 fn limit_value(alloc: Global, v: Value) -> Result<Value, PrimFault>
     ensures { Answers (rules.limited_value v) result }
 {

@@ -1,5 +1,5 @@
 ghost use Rattle.std.specs.Prelude.{◌+ℤ◌, ◌-ℤ◌, ◌*ℤ◌};
-ghost use Rattle.value_rules.specs.Rules as rules;
+ghost use Rattle.typing_rules.specs.Rules as rules;
 ghost use Rattle.plan_values.specs.Answers.{Answers};
 
 use crate::PrimFault;

@@ -1,11 +1,11 @@
 ghost use Rattle.std.specs.Prelude.{◌≡◌, not};
 ghost use Rattle.std.specs.Option as option;
 ghost use Rattle.plan_base.specs.declared.tree.Value.{out-Value};
-ghost use Rattle.value_rules.specs.Rules as rules;
-ghost use Rattle.value_rules.specs.Same.{same_value};
+ghost use Rattle.typing_rules.specs.Rules as rules;
+ghost use Rattle.typing_rules.specs.Same.{same_value};
 ghost use Rattle.plan_base.specs.declared.tree.Ty.{Ty as AType};
 ghost use Rattle.typing_rules.specs.Typing.{HasType};
-ghost use Rattle.value_rules.specs.Typed.{OperatorTakes};
+ghost use Rattle.typing_rules.specs.Typed.{OperatorTakes};
 ghost use Rattle.plan_values.specs.Answers.{Answers, IsFit};
 
 use crate::PrimFault;
@@ -25,7 +25,7 @@ pub fn binary(alloc: Global, op: Op, a: &Value, b: &Value) -> Result<Value, Prim
     apply_operator(alloc, op, a, b)
 }
 
-#[tactic(auto, unfolding(value_rules::specs::Rules::binary))]
+#[tactic(auto, unfolding(typing_rules::specs::Rules::binary))]
 fn apply_operator(alloc: Global, op: Op, a: &Value, b: &Value) -> Result<Value, PrimFault>
     ensures { Answers (rules.binary op a.now b.now) result }
 {

@@ -2,7 +2,7 @@ ghost use Rattle.std.specs.Prelude.{◌≡◌, ◌-◌, List, Some, slice_get};
 ghost use Rattle.std.specs.Option.{option_copied};
 ghost use Rattle.plan_base.specs.declared.tree.Value.{out-Value};
 ghost use Rattle.plan_base.specs.declared.tree.Value.TheOpen.{Value-F as layer};
-ghost use Rattle.value_rules.specs.Rules as rules;
+ghost use Rattle.typing_rules.specs.Rules as rules;
 ghost use Rattle.plan_base.specs.declared.tree.Ty.{Ty as AType};
 ghost use Rattle.plan_base.specs.declared.tree.Ty as ty;
 ghost use Rattle.typing_rules.specs.Typing.{HasType};
@@ -22,7 +22,7 @@ pub fn part(alloc: Global, i: u8, v: &Value) -> Result<Value, PrimFault>
     part_in(alloc, i, v)
 }
 
-#[tactic(auto, unfolding(value_rules::specs::Rules::part))]
+#[tactic(auto, unfolding(typing_rules::specs::Rules::part))]
 fn part_in(alloc: Global, i: u8, v: &Value) -> Result<Value, PrimFault>
     ensures { Answers (rules.part i v.now) result }
 {

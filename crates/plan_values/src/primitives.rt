@@ -2,10 +2,10 @@ ghost use Rattle.std.specs.Prelude.{◌≡◌, IfOk, List, pos};
 ghost use Rattle.plan_base.specs.declared.prim.Primitive.TheVariants as prim;
 ghost use Rattle.plan_base.specs.declared.tree.Value.{out-Value};
 ghost use Rattle.plan_base.specs.declared.tree.Value.TheVariants as value;
-ghost use Rattle.value_rules.specs.Rules as rules;
+ghost use Rattle.typing_rules.specs.Rules as rules;
 ghost use Rattle.plan_base.specs.declared.tree.Ty.{Ty as AType};
 ghost use Rattle.typing_rules.specs.Typing.{HaveTypes};
-ghost use Rattle.value_rules.specs.Typed.{PrimitiveTakes};
+ghost use Rattle.typing_rules.specs.Typed.{PrimitiveTakes};
 ghost use Rattle.plan_values.specs.Answers.{Answers, IsFit};
 
 use crate::PrimFault;
@@ -22,7 +22,7 @@ pub fn primitive(alloc: Global, p: Primitive, args: &Values) -> Result<Value, Pr
     apply_primitive(alloc, p, args)
 }
 
-#[tactic(auto, unfolding(value_rules::specs::Rules::primitive))]
+#[tactic(auto, unfolding(typing_rules::specs::Rules::primitive))]
 fn apply_primitive(alloc: Global, p: Primitive, args: &Values) -> Result<Value, PrimFault>
     ensures { Answers (rules.primitive p args.now) result }
 {
