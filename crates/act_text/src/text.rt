@@ -39,8 +39,7 @@ pub fn put_family(out: &mut Bytes, f: Family) -> Result<(), NoMemory>
 {
     let mut text = ShortText::new();
     text.family(f);
-    text.put(out)?;
-    Ok(())
+    text.put(out)
 }
 
 /// A number at the end of a line.
@@ -52,8 +51,7 @@ fn put_last(out: &mut Bytes, word: &[u8], n: u32) -> Result<(), NoMemory>
     text.byte(b'\n');
     text.number(u64::from(n));
     text.word(word);
-    text.put(out)?;
-    Ok(())
+    text.put(out)
 }
 
 /// What a visit left, and the end of its line, before no text.
@@ -75,8 +73,7 @@ fn put_rest(out: &mut Bytes, evals: u32, left: u32) -> Result<(), NoMemory>
 {
     let mut text = ShortText::new();
     write_rest(&mut text, evals, left);
-    text.put(out)?;
-    Ok(())
+    text.put(out)
 }
 
 /// The front of a line: its event, its head and a family.
@@ -95,8 +92,7 @@ fn put_front(
     text.family(f);
     text.byte(b' ');
     text.head(event, word, host);
-    text.put(out)?;
-    Ok(())
+    text.put(out)
 }
 
 /// A note.
@@ -110,10 +106,9 @@ fn put_note(
     ensures { OnOk result (out.new ≡ out.old ++ line_of event (spec.note_text host note.now)) }
 {
     match note {
-        Note::Print(value) => put_print(alloc, out, event, host, value)?,
-        Note::Port(port, value) => put_port(alloc, out, event, host, *port, value)?,
+        Note::Print(value) => put_print(alloc, out, event, host, value),
+        Note::Port(port, value) => put_port(alloc, out, event, host, *port, value),
     }
-    Ok(())
 }
 
 fn put_print(
@@ -173,11 +168,10 @@ fn put_end(
         (spec.end_text host f outcome.now evals left)) }
 {
     match outcome {
-        Outcome::Value(value) => put_ended(alloc, out, event, host, f, value, evals, left)?,
-        Outcome::Raised(x) => put_raised(out, event, host, f, x.0.as_slice(), evals, left)?,
-        Outcome::WorkSpent => put_spent(out, event, host, f, left)?,
+        Outcome::Value(value) => put_ended(alloc, out, event, host, f, value, evals, left),
+        Outcome::Raised(x) => put_raised(out, event, host, f, x.0.as_slice(), evals, left),
+        Outcome::WorkSpent => put_spent(out, event, host, f, left),
     }
-    Ok(())
 }
 
 /// The line of a visit that ended with a value.
@@ -198,11 +192,10 @@ fn put_ended(
         evals left)))))) }
 {
     match value {
-        Value::Unit => put_done(out, event, host, f, evals, left)?,
-        Value::Int(n) => put_integer(out, event, host, f, *n, evals, left)?,
-        _ => put_given(alloc, out, event, host, f, value, evals, left)?,
+        Value::Unit => put_done(out, event, host, f, evals, left),
+        Value::Int(n) => put_integer(out, event, host, f, *n, evals, left),
+        _ => put_given(alloc, out, event, host, f, value, evals, left),
     }
-    Ok(())
 }
 
 /// The line of a visit without a value. (So end most, so its line is written in one piece.)
@@ -224,8 +217,7 @@ fn put_done(
     text.family(f);
     text.byte(b' ');
     text.head(event, b"value", host);
-    text.put(out)?;
-    Ok(())
+    text.put(out)
 }
 
 /// The line of a visit that ended with a number, which is written in one piece too.
@@ -249,8 +241,7 @@ fn put_integer(
     text.family(f);
     text.byte(b' ');
     text.head(event, b"value", host);
-    text.put(out)?;
-    Ok(())
+    text.put(out)
 }
 
 fn put_given(
@@ -270,8 +261,7 @@ fn put_given(
 {
     put_front(out, event, b"value", host, f)?;
     print_value(alloc, value, out)?;
-    put_rest(out, evals, left)?;
-    Ok(())
+    put_rest(out, evals, left)
 }
 
 fn put_raised(
@@ -289,8 +279,7 @@ fn put_raised(
 {
     put_front(out, event, b"raised", host, f)?;
     out.add_all(name)?;
-    put_rest(out, evals, left)?;
-    Ok(())
+    put_rest(out, evals, left)
 }
 
 fn put_spent(out: &mut Bytes, event: u64, host: Host, f: Family, left: u32) -> Result<(), NoMemory>
@@ -305,8 +294,7 @@ fn put_spent(out: &mut Bytes, event: u64, host: Host, f: Family, left: u32) -> R
     text.family(f);
     text.byte(b' ');
     text.head(event, b"spent", host);
-    text.put(out)?;
-    Ok(())
+    text.put(out)
 }
 
 /// A handler that is called, with the bound that it has.
@@ -324,8 +312,7 @@ fn put_handled(
 {
     put_front(out, event, b"handler", host, f)?;
     out.add_all(name)?;
-    put_last(out, b" bound ", bound)?;
-    Ok(())
+    put_last(out, b" bound ", bound)
 }
 
 /// The word of a reason.
@@ -356,8 +343,7 @@ fn put_injected(
     text.byte(b'\n');
     text.bound(f, bound);
     text.head(event, b"inject", host);
-    text.put(out)?;
-    Ok(())
+    text.put(out)
 }
 
 /// A word, the host and a device.
@@ -377,8 +363,7 @@ fn put_on_device(
     text.byte(b'\n');
     text.device(dev);
     text.head(event, word, host);
-    text.put(out)?;
-    Ok(())
+    text.put(out)
 }
 
 /// A word, the host and an end.
@@ -397,8 +382,7 @@ fn put_plain(
     text.byte(b'\n');
     text.word(end);
     text.head(event, word, host);
-    text.put(out)?;
-    Ok(())
+    text.put(out)
 }
 
 /// Why bytes are no frame.
@@ -430,8 +414,7 @@ fn put_ticked(out: &mut Bytes, event: u64, host: Host, now: u64) -> Result<(), N
     text.number(now);
     text.word(b" now ");
     text.head(event, b"tick", host);
-    text.put(out)?;
-    Ok(())
+    text.put(out)
 }
 
 /// What was sent, before a text: the family of a packet, or that it is an advert.
@@ -463,8 +446,7 @@ fn put_queued(
     text.bound(f, bound);
     text.device(dev);
     text.head(event, b"queue", host);
-    text.put(out)?;
-    Ok(())
+    text.put(out)
 }
 
 fn put_dropped(
@@ -485,8 +467,7 @@ fn put_dropped(
     text.word(reason_word(reason));
     text.byte(b' ');
     text.head(event, b"drop", host);
-    text.put(out)?;
-    Ok(())
+    text.put(out)
 }
 
 /// The word of what a stamp was taken as.
@@ -530,8 +511,7 @@ fn put_stale(
     text.word(took_word(took));
     text.byte(b' ');
     text.head(event, b"drop", host);
-    text.put(out)?;
-    Ok(())
+    text.put(out)
 }
 
 fn put_taken(out: &mut Bytes, event: u64, host: Host, dev: Dev, what: What) -> Result<(), NoMemory>
@@ -545,8 +525,7 @@ fn put_taken(out: &mut Bytes, event: u64, host: Host, dev: Dev, what: What) -> R
     text.byte(b' ');
     text.device(dev);
     text.head(event, b"send", host);
-    text.put(out)?;
-    Ok(())
+    text.put(out)
 }
 
 /// Appends the line of an act at a host, with the number of its event. Where memory is refused, a part of it may stand behind
@@ -562,29 +541,28 @@ pub fn put_act_line(
     ensures { OnOk result (out.new ≡ out.old ++ spec.act_line event here act.now) }
 {
     match act {
-        Act::Injected(f, bound) => put_injected(out, event, here, *f, *bound)?,
-        Act::Arrived(dev) => put_on_device(out, event, b"arrive", here, *dev)?,
-        Act::Noted(note) => put_note(alloc, out, event, here, note)?,
+        Act::Injected(f, bound) => put_injected(out, event, here, *f, *bound),
+        Act::Arrived(dev) => put_on_device(out, event, b"arrive", here, *dev),
+        Act::Noted(note) => put_note(alloc, out, event, here, note),
         Act::Ended(f, outcome, evals, left) => put_end(
             alloc, out, event, here, *f, outcome, *evals, *left,
-        )?,
-        Act::Handled(f, name, bound) => put_handled(out, event, here, *f, name.as_slice(), *bound)?,
-        Act::Queued(dev, f, bound) => put_queued(out, event, here, *dev, *f, *bound)?,
-        Act::Dropped(reason, f, bound) => put_dropped(out, event, here, *reason, *f, *bound)?,
-        Act::Bad(refusal) => put_bad(alloc, out, event, here, refusal)?,
-        Act::Taken(dev, what) => put_taken(out, event, here, *dev, *what)?,
-        Act::Ticked(now) => put_ticked(out, event, here, *now)?,
-        Act::AdvertQueued(dev) => put_on_device(out, event, b"advert", here, *dev)?,
-        Act::Heard(dev) => put_on_device(out, event, b"heard", here, *dev)?,
-        Act::Asked => put_plain(out, event, b"arrive", here, b" control")?,
-        Act::Misplaced => put_plain(out, event, b"drop", here, b" BadFrame Misplaced")?,
-        Act::AdvertDropped(_) => put_plain(out, event, b"drop", here, b" QueueFull advert")?,
-        Act::AdvertSpent(_) => put_plain(out, event, b"drop", here, b" LinkSpent advert")?,
-        Act::Stale(took, what) => put_stale(out, event, here, *took, *what)?,
-        Act::SerialsSpent => put_plain(out, event, b"drop", here, b" SerialsSpent")?,
-        Act::NoMemory => put_plain(out, event, b"drop", here, b" NoMemory")?,
+        ),
+        Act::Handled(f, name, bound) => put_handled(out, event, here, *f, name.as_slice(), *bound),
+        Act::Queued(dev, f, bound) => put_queued(out, event, here, *dev, *f, *bound),
+        Act::Dropped(reason, f, bound) => put_dropped(out, event, here, *reason, *f, *bound),
+        Act::Bad(refusal) => put_bad(alloc, out, event, here, refusal),
+        Act::Taken(dev, what) => put_taken(out, event, here, *dev, *what),
+        Act::Ticked(now) => put_ticked(out, event, here, *now),
+        Act::AdvertQueued(dev) => put_on_device(out, event, b"advert", here, *dev),
+        Act::Heard(dev) => put_on_device(out, event, b"heard", here, *dev),
+        Act::Asked => put_plain(out, event, b"arrive", here, b" control"),
+        Act::Misplaced => put_plain(out, event, b"drop", here, b" BadFrame Misplaced"),
+        Act::AdvertDropped(_) => put_plain(out, event, b"drop", here, b" QueueFull advert"),
+        Act::AdvertSpent(_) => put_plain(out, event, b"drop", here, b" LinkSpent advert"),
+        Act::Stale(took, what) => put_stale(out, event, here, *took, *what),
+        Act::SerialsSpent => put_plain(out, event, b"drop", here, b" SerialsSpent"),
+        Act::NoMemory => put_plain(out, event, b"drop", here, b" NoMemory"),
     }
-    Ok(())
 }
 
 /// Appends the line of an act at a host, with the number of its event. Where memory is refused, `out` stays.

@@ -24,7 +24,9 @@ fn answer_text(alloc: Global, reckoning: Reckoning) -> Result<Bytes, NoMemory>
         → IfOk result (λ text. text ≡ audit_text (verdict_of links ls)) }
 {
     let verdict = judge(alloc, reckoning)?;
-    verdict_text(alloc, &verdict)
+    let text = verdict_text(alloc, &verdict);
+    drop(verdict);
+    text
 }
 
 /// Writes what is answered of logs.

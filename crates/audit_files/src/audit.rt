@@ -19,12 +19,20 @@ use std::alloc::Global;
 pub type LogNames = Items<Text>;
 
 /// The logs of a fleet and the links between its nodes.
-#[derive(Drop)]
 pub struct AuditFile {
     /// The names of the logs in the order of their lines, 1 to 16, each once.
     pub logs: LogNames,
     /// The links in the order of their lines, whose devices are 1 to 8 and each has one link at most.
     pub links: Links,
+}
+
+impl Drop for AuditFile {
+    fn drop(self) {
+        let AuditFile {
+            logs: _logs,
+            links: _links,
+        } = self;
+    }
 }
 
 /// The first word of a line of an audit.

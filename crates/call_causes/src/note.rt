@@ -155,10 +155,11 @@ fn push_note<N: Sink>(notes: &mut N, cause: Cause, note: &[u8]) -> Cause
     requires { note.now ≡ note_text cause }
     ensures { Pushed cause (N.state notes.old) (N.state notes.new) result }
 {
-    match put_all(notes, note) {
-        Ok(()) => cause,
-        Err(_) => Cause::WriteFault,
-    }
+    let Ok(()) = put_all(notes, note) else {
+        drop(cause);
+        return Cause::WriteFault;
+    };
+    cause
 }
 
 /// Writes the note of a cause and answers the cause. Where there is no memory for the note, the cause
@@ -169,6 +170,9 @@ pub fn settle<N: Sink>(alloc: Global, cause: Cause, notes: &mut N) -> Cause
 {
     match note_of(alloc, &cause) {
         Ok(note) => push_note(notes, cause, note.as_slice()),
-        Err(_) => push_note(notes, Cause::NoMemory, b"planet: no memory\n"),
+        Err(_) => {
+            drop(cause);
+            push_note(notes, Cause::NoMemory, b"planet: no memory\n")
+        }
     }
 }

@@ -27,11 +27,11 @@ use Rattle.typing_rules.proofs.Programs.{annotated_complete, fills_itself, depth
 use Rattle.plan_types.specs.Kept.{IsChecked}
 use Rattle.plan_lexer.specs.declared.token.Key.TheVariants as key
 use Rattle.printed_forms.specs.Printed.{program_text}
-use Rattle.round_trip.specs.Proper.{AreBytes, base_key, IsProperType, AreProperTypes, IsReadableType, IsProperCatch, IsProper, AreProper, AreProperClauses, AllProper, IsProperSvc, IsProperParam, IsProperFun, IsProperProgram}
-use Rattle.round_trip.specs.Proper as p
-use Rattle.round_trip.proofs.ProgramTokens.{program_lexes}
-use Rattle.round_trip.proofs.Within.{within_limits}
-use Rattle.round_trip.proofs.Declarations.{program_reads}
+use Rattle.checked_texts.specs.Proper.{AreBytes, base_key, IsProperType, AreProperTypes, IsReadableType, IsProperCatch, IsProper, AreProper, AreProperClauses, AllProper, IsProperSvc, IsProperParam, IsProperFun, IsProperProgram}
+use Rattle.checked_texts.specs.Proper as p
+use Rattle.checked_texts.proofs.ProgramTokens.{program_lexes}
+use Rattle.checked_texts.proofs.Within.{within_limits}
+use Rattle.checked_texts.proofs.Declarations.{program_reads}
 use Rattle.program_text.specs.Texts.{placed_result, typed_of, program_of, Says}
 use Rattle.program_text.proofs.Readings.{read_by}
 use Rattle.chunk_ranges.specs.Ranges.{catch_ranged, param_ranged, service_ranged}

@@ -20,13 +20,13 @@ use Rattle.chunk_types.specs.Chunks.{IsCheckedChunk}
 use Rattle.plan_parser.specs.Values.{value_of}
 use Rattle.plan_parser.specs.ReadTexts.{Reads}
 use Rattle.printed_forms.specs.Printed.{value_text}
-use Rattle.round_trip.specs.Proper.{IsReadableType, IsProperValue, AreProperValues}
-use Rattle.round_trip.specs.Proper as p
-use Rattle.round_trip.proofs.Segments.{lexes_whole}
-use Rattle.round_trip.proofs.ValueTokens.{value_part}
-use Rattle.round_trip.specs.Readable.{IsReadable, AreOfType, AreReadable}
-use Rattle.round_trip.specs.Readable as re
-use Rattle.round_trip.proofs.ValuesRead.{value_again}
+use Rattle.checked_texts.specs.Proper.{IsReadableType, IsProperValue, AreProperValues}
+use Rattle.checked_texts.specs.Proper as p
+use Rattle.checked_texts.proofs.Segments.{lexes_whole}
+use Rattle.checked_texts.proofs.ValueTokens.{value_part}
+use Rattle.checked_texts.specs.Readable.{IsReadable, AreOfType, AreReadable}
+use Rattle.checked_texts.specs.Readable as re
+use Rattle.checked_texts.proofs.ValuesRead.{value_again}
 use Rattle.chunk_ranges.proofs.TestLaws.{between, int_fits, max_parts, fold_within}
 use Rattle.checked_texts.specs.Exact.{value_exact, value_exact_level}
 use Rattle.checked_texts.specs.ReadBack.{plain, plain_level, reach, reach_level, IsReadBack}

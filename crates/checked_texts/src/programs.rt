@@ -1,7 +1,7 @@
 ghost use Rattle.std.specs.Prelude.{◌≡◌, IsTrue, Ok};
 ghost use Rattle.std.specs.List.{list_all};
 ghost use Rattle.printed_forms.specs.Printed.{program_text};
-ghost use Rattle.round_trip.specs.Proper.{IsProperProgram};
+ghost use Rattle.checked_texts.specs.Proper.{IsProperProgram};
 ghost use Rattle.program_text.specs.Texts.{Says, program_of};
 ghost use Rattle.checked_texts.specs.Exact.{function_exact, program_exact};
 

@@ -1,5 +1,8 @@
-ghost use Rattle.std.specs.Prelude.{◌≡◌, ◌-◌, ◌<◌};
+ghost use Rattle.std.specs.Prelude.{◌≡◌, ◌-◌, ◌<◌, List};
 ghost use Rattle.plan_items.specs.Reading.{many};
+ghost use Rattle.plan_base.specs.declared.tree.Expr.{Expr};
+ghost use Rattle.plan_base.specs.declared.tree.Clause.{Clause};
+ghost use Rattle.chunk_spelling.specs.Scan.{Reader};
 ghost use Rattle.chunk_spelling.specs.Exprs.{clauses_at, clauses_from};
 ghost use Rattle.chunk_codec.specs.Shapes as shape;
 ghost use Rattle.chunk_codec.specs.Reading.{Gives, expr_at, expr_behind, clause_at};
@@ -31,6 +34,40 @@ fn boxed_expr(alloc: Global, s: &mut Source<'_>, room: u32) -> Result<Boxed<Expr
     Ok(Boxed::new(alloc, expr)?)
 }
 
+/// What is behind the tag of an expression without parts.
+#[tactic(auto, unfolding(crate::specs::Reading::expr_behind))]
+fn leaf_with_tag(alloc: Global, s: &mut Source<'_>, tag: ExprTag) -> Result<Expr, SpellFault>
+    ensures { (inner : Reader Expr) (clauses : Reader (List Clause))
+        → Gives result s.new (expr_behind inner clauses tag s.old) }
+{
+    match tag {
+        ExprTag::Unit => Ok(Expr::Unit),
+        ExprTag::Bool => Ok(Expr::Bool(s.flag()?)),
+        ExprTag::Int => Ok(Expr::Int(s.int()?)),
+        ExprTag::Char => Ok(Expr::Char(s.scalar()?)),
+        ExprTag::Str => Ok(Expr::Str(s.text(alloc)?)),
+        ExprTag::Blob => Ok(Expr::Blob(s.blob(alloc)?)),
+        ExprTag::Host => Ok(Expr::Host(Host(s.word()?))),
+        ExprTag::Dev => Ok(Expr::Dev(Dev(s.word()?))),
+        ExprTag::Nil => Ok(Expr::Nil(Some(type_of(alloc, s, 7)?))),
+        ExprTag::Var => Ok(Expr::Var(s.name(alloc)?)),
+        _ => Err(SpellFault::NoMemory),
+    }
+}
+
+/// What is behind the tag of a `raise`.
+#[tactic(auto, unfolding(crate::specs::Reading::expr_behind))]
+fn raise_behind(alloc: Global, s: &mut Source<'_>) -> Result<Expr, SpellFault>
+    ensures { (inner : Reader Expr) (clauses : Reader (List Clause))
+        → Gives result s.new (expr_behind inner clauses ExprTag.Raise s.old) }
+{
+    let name = s.name(alloc)?;
+    match type_of(alloc, s, 8) {
+        Ok(ty) => Ok(Expr::Raise(name, Some(ty))),
+        Err(fault) => Err(fault),
+    }
+}
+
 /// What is behind an expression's tag.
 #[cycle(exprs)]
 #[tactic(auto, unfolding(crate::specs::Reading::expr_behind, crate::specs::Shapes::pair_behind, crate::specs::Shapes::fold_behind, crate::specs::Shapes::applied_behind))]
@@ -45,16 +82,6 @@ fn expr_with_tag(
         (clauses_at (clause_at (expr_at (room - 1)))) tag s.old) }
 {
     match tag {
-        ExprTag::Unit => Ok(Expr::Unit),
-        ExprTag::Bool => Ok(Expr::Bool(s.flag()?)),
-        ExprTag::Int => Ok(Expr::Int(s.int()?)),
-        ExprTag::Char => Ok(Expr::Char(s.scalar()?)),
-        ExprTag::Str => Ok(Expr::Str(s.text(alloc)?)),
-        ExprTag::Blob => Ok(Expr::Blob(s.blob(alloc)?)),
-        ExprTag::Host => Ok(Expr::Host(Host(s.word()?))),
-        ExprTag::Dev => Ok(Expr::Dev(Dev(s.word()?))),
-        ExprTag::Nil => Ok(Expr::Nil(Some(type_of(alloc, s, 7)?))),
-        ExprTag::Var => Ok(Expr::Var(s.name(alloc)?)),
         ExprTag::Tuple => tuple_behind(alloc, s, room),
         ExprTag::Call => applied_behind(alloc, s, room, Applied::Called),
         ExprTag::If => choice_behind(alloc, s, room),
@@ -65,11 +92,7 @@ fn expr_with_tag(
         ExprTag::Not => Ok(Expr::Not(boxed_expr(alloc, s, room - 1)?)),
         ExprTag::Binary => operation_behind(alloc, s, room),
         ExprTag::Part => part_behind(alloc, s, room),
-        ExprTag::Raise => {
-            let name = s.name(alloc)?;
-            let otype = Some(type_of(alloc, s, 8)?);
-            Ok(Expr::Raise(name, otype))
-        }
+        ExprTag::Raise => raise_behind(alloc, s),
         ExprTag::Try => handling_behind(alloc, s, room),
         ExprTag::Foldl => fold_behind(alloc, s, room, Fold::Left),
         ExprTag::Foldr => fold_behind(alloc, s, room, Fold::Right),
@@ -77,6 +100,7 @@ fn expr_with_tag(
         ExprTag::Eval => Ok(Expr::Eval(boxed_expr(alloc, s, room - 1)?)),
         ExprTag::OnRemote => remote_behind(alloc, s, room),
         ExprTag::OnNeighbor => neighbour_behind(alloc, s, room),
+        _ => leaf_with_tag(alloc, s, tag),
     }
 }
 
@@ -160,9 +184,19 @@ fn binding_behind(alloc: Global, s: &mut Source<'_>, room: u32) -> Result<Expr, 
 {
     let name = s.name(alloc)?;
     let ty = type_of(alloc, s, 8)?;
-    let first = boxed_expr(alloc, s, room - 1)?;
-    let second = boxed_expr(alloc, s, room - 1)?;
-    Ok(Expr::Let(name, ty, first, second))
+    match boxed_expr(alloc, s, room - 1) {
+        Ok(first) => match boxed_expr(alloc, s, room - 1) {
+            Ok(second) => Ok(Expr::Let(name, ty, first, second)),
+            Err(fault) => {
+                drop(ty);
+                Err(fault)
+            }
+        },
+        Err(fault) => {
+            drop(ty);
+            Err(fault)
+        }
+    }
 }
 
 /// What is behind the tag of an operator.

@@ -1,14 +1,15 @@
 ghost use Rattle.std.specs.Prelude.{◌≡◌};
 ghost use Rattle.plan_items.specs.Reading.{many};
 ghost use Rattle.chunk_spelling.specs.Scan.{name_field};
+ghost use Rattle.chunk_spelling.specs.Parts.{counted_at};
 ghost use Rattle.chunk_spelling.specs.Programs.{program_at};
-ghost use Rattle.chunk_codec.specs.Reading.{Gives, param_at, service_at, function_at, program_fields};
+ghost use Rattle.chunk_codec.specs.Reading.{Gives, type_at, param_at, service_at, function_at, program_fields};
 
 use crate::exprs::expr_of;
 use crate::source::Source;
 use crate::types::{type_of, types_of};
 use chunk_spelling::SpellFault;
-use plan_base::{Fun, Funs, Limit, Names, Param, Params, Program, Svc, Svcs};
+use plan_base::{Fun, Funs, Limit, Names, Param, Params, Program, Svc, Svcs, Tys};
 use plan_items::Items;
 use std::alloc::Global;
 
@@ -18,42 +19,80 @@ fn param_of(alloc: Global, s: &mut Source<'_>) -> Result<Param, SpellFault>
     ensures { Gives result s.new (param_at s.old) }
 {
     let name = s.name(alloc)?;
-    let ty = type_of(alloc, s, 8)?;
-    Ok(Param { name, ty })
+    match type_of(alloc, s, 8) {
+        Ok(ty) => Ok(Param { name, ty }),
+        Err(fault) => Err(fault),
+    }
+}
+
+/// The types of a service's parameters.
+#[tactic(auto, unfolding(chunk_spelling::specs::Parts::counted_at))]
+fn param_types(alloc: Global, s: &mut Source<'_>) -> Result<Tys, SpellFault>
+    ensures { Gives result s.new (counted_at Limit.Parameters 0 8 (type_at 8) s.old) }
+{
+    let count = s.count(Limit::Parameters, 0, 8)?;
+    types_of(alloc, s, 8, count)
 }
 
 /// A declared service.
-#[tactic(auto, unfolding(crate::specs::Reading::service_at, chunk_spelling::specs::Parts::counted_at))]
+#[tactic(auto, unfolding(crate::specs::Reading::service_at))]
 fn service_of(alloc: Global, s: &mut Source<'_>) -> Result<Svc, SpellFault>
     ensures { Gives result s.new (service_at s.old) }
 {
     let name = s.name(alloc)?;
+    match param_types(alloc, s) {
+        Ok(params) => match type_of(alloc, s, 8) {
+            Ok(result) => Ok(Svc {
+                name,
+                params,
+                result,
+            }),
+            Err(fault) => {
+                drop(params);
+                Err(fault)
+            }
+        },
+        Err(fault) => Err(fault),
+    }
+}
+
+/// The parameters of a function.
+#[tactic(auto, unfolding(chunk_spelling::specs::Parts::counted_at))]
+fn counted_params(alloc: Global, s: &mut Source<'_>) -> Result<Params, SpellFault>
+    ensures { Gives result s.new (counted_at Limit.Parameters 0 8 param_at s.old) }
+{
     let count = s.count(Limit::Parameters, 0, 8)?;
-    let params = types_of(alloc, s, 8, count)?;
-    let answer = type_of(alloc, s, 8)?;
-    Ok(Svc {
-        name,
-        params,
-        result: answer,
-    })
+    params_of(alloc, s, count)
 }
 
 /// A function.
-#[tactic(auto, unfolding(crate::specs::Reading::function_at, chunk_spelling::specs::Parts::counted_at))]
+#[tactic(auto, unfolding(crate::specs::Reading::function_at))]
 fn function_of(alloc: Global, s: &mut Source<'_>) -> Result<Fun, SpellFault>
     ensures { Gives result s.new (function_at s.old) }
 {
     let name = s.name(alloc)?;
-    let count = s.count(Limit::Parameters, 0, 8)?;
-    let params = params_of(alloc, s, count)?;
-    let answer = type_of(alloc, s, 8)?;
-    let body = expr_of(alloc, s, 64)?;
-    Ok(Fun {
-        name,
-        params,
-        result: answer,
-        body,
-    })
+    match counted_params(alloc, s) {
+        Ok(params) => match type_of(alloc, s, 8) {
+            Ok(result) => match expr_of(alloc, s, 64) {
+                Ok(body) => Ok(Fun {
+                    name,
+                    params,
+                    result,
+                    body,
+                }),
+                Err(fault) => {
+                    drop(params);
+                    drop(result);
+                    Err(fault)
+                }
+            },
+            Err(fault) => {
+                drop(params);
+                Err(fault)
+            }
+        },
+        Err(fault) => Err(fault),
+    }
 }
 
 /// So many parameters.

@@ -1,5 +1,9 @@
-ghost use Rattle.std.specs.Prelude.{◌≡◌, ◌-◌, IsTrue};
+ghost use Rattle.std.specs.Prelude.{◌≡◌, ◌-◌, ◌<◌, IsTrue};
 ghost use Rattle.plan_items.specs.Reading.{many};
+ghost use Rattle.plan_base.specs.declared.tree.Value.{Value};
+ghost use Rattle.plan_base.specs.declared.tree.Chunk.{Chunk};
+ghost use Rattle.chunk_spelling.specs.Parts.{counted_at};
+ghost use Rattle.chunk_spelling.specs.Scan.{Reader};
 ghost use Rattle.chunk_spelling.specs.Values.{may_open};
 ghost use Rattle.chunk_codec.specs.Reading.{Gives, value_at, value_behind, chunk_read, chunk_fields};
 
@@ -27,9 +31,27 @@ pub fn value_of(
     value_with_tag(alloc, s, nest, room, tag)
 }
 
+/// What is behind the tag of a value without parts.
+#[tactic(auto, unfolding(crate::specs::Reading::value_behind))]
+fn leaf_with_tag(alloc: Global, s: &mut Source<'_>, tag: ValueTag) -> Result<Value, SpellFault>
+    ensures { (inner : Reader Value) (chunk : Reader Chunk)
+        → Gives result s.new (value_behind inner chunk tag s.old) }
+{
+    match tag {
+        ValueTag::Unit => Ok(Value::Unit),
+        ValueTag::Bool => Ok(Value::Bool(s.flag()?)),
+        ValueTag::Int => Ok(Value::Int(s.int()?)),
+        ValueTag::Char => Ok(Value::Char(s.scalar()?)),
+        ValueTag::Str => Ok(Value::Str(s.text(alloc)?)),
+        ValueTag::Blob => Ok(Value::Blob(s.blob(alloc)?)),
+        ValueTag::Host => Ok(Value::Host(Host(s.word()?))),
+        ValueTag::Dev => Ok(Value::Dev(Dev(s.word()?))),
+        _ => Err(SpellFault::NoMemory),
+    }
+}
+
 /// What is behind a value's tag.
 #[cycle(values)]
-#[tactic(auto, unfolding(crate::specs::Reading::value_behind, chunk_spelling::specs::Parts::counted_at, chunk_spelling::specs::Parts::listed_at))]
 fn value_with_tag(
     alloc: Global,
     s: &mut Source<'_>,
@@ -42,29 +64,71 @@ fn value_with_tag(
         (chunk_read (nest - 1)) tag s.old) }
 {
     match tag {
-        ValueTag::Unit => Ok(Value::Unit),
-        ValueTag::Bool => Ok(Value::Bool(s.flag()?)),
-        ValueTag::Int => Ok(Value::Int(s.int()?)),
-        ValueTag::Char => Ok(Value::Char(s.scalar()?)),
-        ValueTag::Str => Ok(Value::Str(s.text(alloc)?)),
-        ValueTag::Blob => Ok(Value::Blob(s.blob(alloc)?)),
-        ValueTag::Host => Ok(Value::Host(Host(s.word()?))),
-        ValueTag::Dev => Ok(Value::Dev(Dev(s.word()?))),
-        ValueTag::Chunk => {
-            let chunk = chunk_of(alloc, s, nest - 1)?;
-            Ok(Value::Chunk(Boxed::new(alloc, chunk)?))
+        ValueTag::Chunk => chunk_behind(alloc, s, nest, room),
+        ValueTag::List => list_behind(alloc, s, nest, room),
+        ValueTag::Tuple => tuple_behind(alloc, s, nest, room),
+        _ => leaf_with_tag(alloc, s, tag),
+    }
+}
+
+/// What is behind the tag of a chunk.
+#[cycle(values)]
+#[tactic(auto, unfolding(crate::specs::Reading::value_behind))]
+fn chunk_behind(
+    alloc: Global,
+    s: &mut Source<'_>,
+    nest: u32,
+    room: u32,
+) -> Result<Value, SpellFault>
+    requires { 0 < nest }
+    ensures { Gives result s.new (value_behind (value_at nest (room - 1))
+        (chunk_read (nest - 1)) ValueTag.Chunk s.old) }
+{
+    let chunk = chunk_of(alloc, s, nest - 1)?;
+    Ok(Value::Chunk(Boxed::new(alloc, chunk)?))
+}
+
+/// What is behind the tag of a list.
+#[cycle(values)]
+#[tactic(auto, unfolding(crate::specs::Reading::value_behind, chunk_spelling::specs::Parts::listed_at))]
+fn list_behind(alloc: Global, s: &mut Source<'_>, nest: u32, room: u32) -> Result<Value, SpellFault>
+    requires { 0 < room }
+    ensures { Gives result s.new (value_behind (value_at nest (room - 1))
+        (chunk_read (nest - 1)) ValueTag.List s.old) }
+{
+    let ty = Boxed::new(alloc, type_of(alloc, s, 7)?)?;
+    match s.short() {
+        Ok(count) => match values_of(alloc, s, nest, room - 1, count) {
+            Ok(items) => Ok(Value::List(ty, items)),
+            Err(fault) => {
+                drop(ty);
+                Err(fault)
+            }
+        },
+        Err(fault) => {
+            drop(ty);
+            Err(fault)
         }
-        ValueTag::List => {
-            let ty = type_of(alloc, s, 7)?;
-            let count = s.short()?;
-            let items = values_of(alloc, s, nest, room - 1, count)?;
-            Ok(Value::List(Boxed::new(alloc, ty)?, items))
-        }
-        ValueTag::Tuple => {
-            let count = s.count(Limit::Parts, 2, 8)?;
-            let parts = values_of(alloc, s, nest, room - 1, u16::from(count))?;
-            Ok(Value::Tuple(parts))
-        }
+    }
+}
+
+/// What is behind the tag of a tuple.
+#[cycle(values)]
+#[tactic(auto, unfolding(crate::specs::Reading::value_behind, chunk_spelling::specs::Parts::counted_at))]
+fn tuple_behind(
+    alloc: Global,
+    s: &mut Source<'_>,
+    nest: u32,
+    room: u32,
+) -> Result<Value, SpellFault>
+    requires { 0 < room }
+    ensures { Gives result s.new (value_behind (value_at nest (room - 1))
+        (chunk_read (nest - 1)) ValueTag.Tuple s.old) }
+{
+    let count = s.count(Limit::Parts, 2, 8)?;
+    match values_of(alloc, s, nest, room - 1, u16::from(count)) {
+        Ok(parts) => Ok(Value::Tuple(parts)),
+        Err(fault) => Err(fault),
     }
 }
 
@@ -87,17 +151,40 @@ fn values_of(
     Ok(values)
 }
 
+/// The arguments of a chunk.
+#[cycle(values)]
+#[tactic(auto, unfolding(chunk_spelling::specs::Parts::counted_at))]
+fn args_of(alloc: Global, s: &mut Source<'_>, nest: u32) -> Result<Values, SpellFault>
+    ensures { Gives result s.new (counted_at Limit.Arguments 0 8 (value_at nest 8) s.old) }
+{
+    let count = s.count(Limit::Arguments, 0, 8)?;
+    match values_of(alloc, s, nest, 8, u16::from(count)) {
+        Ok(args) => Ok(args),
+        Err(fault) => Err(fault),
+    }
+}
+
 /// A chunk before its weight is judged.
 #[cycle(values)]
-#[tactic(auto, unfolding(crate::specs::Reading::chunk_fields, chunk_spelling::specs::Parts::counted_at))]
+#[tactic(auto, unfolding(crate::specs::Reading::chunk_fields))]
 fn fields_of(alloc: Global, s: &mut Source<'_>, nest: u32) -> Result<Chunk, SpellFault>
     ensures { Gives result s.new (chunk_fields (value_at nest 8) s.old) }
 {
     let code = Shared::new(alloc, program_of(alloc, s)?)?;
-    let entry = s.name(alloc)?;
-    let count = s.count(Limit::Arguments, 0, 8)?;
-    let args = values_of(alloc, s, nest, 8, u16::from(count))?;
-    Ok(Chunk { code, entry, args })
+    match s.name(alloc) {
+        Ok(entry) => match args_of(alloc, s, nest) {
+            Ok(args) => Ok(Chunk { code, entry, args }),
+            Err(fault) => {
+                drop(code);
+                drop(entry);
+                Err(fault)
+            }
+        },
+        Err(fault) => {
+            drop(code);
+            Err(fault)
+        }
+    }
 }
 
 /// A chunk inside which `nest` more may stand inside each other; an outermost one, where `nest` is 3, weighs at most 16,384 with its tag.
@@ -111,6 +198,7 @@ pub fn chunk_of(alloc: Global, s: &mut Source<'_>, nest: u32) -> Result<Chunk, S
     if is_light(nest, s.place().saturating_sub(start)) {
         Ok(chunk)
     } else {
+        drop(chunk);
         Err(SpellFault::OverLimit(Limit::Weight, start))
     }
 }

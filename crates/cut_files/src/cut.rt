@@ -18,7 +18,6 @@ use std::alloc::Global;
 const MOST_BYTES: usize = 262_144;
 
 /// A message to be cut.
-#[derive(Drop)]
 pub struct CutFile {
     /// The host that gathers its parts.
     pub dest: Host,
@@ -30,6 +29,18 @@ pub struct CutFile {
     pub bound: u32,
     /// The message, from 1 to 262,144 bytes.
     pub bytes: Bytes,
+}
+
+impl Drop for CutFile {
+    fn drop(self) {
+        let CutFile {
+            dest: _dest,
+            port: _port,
+            key: _key,
+            bound: _bound,
+            bytes: _bytes,
+        } = self;
+    }
 }
 
 /// The first word of a line.

@@ -153,7 +153,10 @@ fn sequence<S: Services>(
     ensures begun { (S.stands svc.new).begun ≡ (S.stands svc.old).begun }
 {
     match evaluate(alloc, codes, here, a, depth, state, svc) {
-        Ok(Flow::Done(_v)) => last_part(alloc, codes, here, e, 1, b, depth, state, svc),
+        Ok(Flow::Done(v)) => {
+            drop(v);
+            last_part(alloc, codes, here, e, 1, b, depth, state, svc)
+        }
         Ok(Flow::Wait(rest)) => Ok(inside(alloc, rest, StackFrame::Part(0, Items::new(alloc)))?),
         Err(stop) => Err(stop),
     }
@@ -188,11 +191,15 @@ fn choice<S: Services>(
     ensures begun { (S.stands svc.new).begun ≡ (S.stands svc.old).begun }
 {
     match evaluate(alloc, codes, here, t, depth, state, svc) {
-        Ok(Flow::Done(v)) => match as_bool(&v) {
-            Some(true) => last_part(alloc, codes, here, e, 1, a, depth, state, svc),
-            Some(false) => last_part(alloc, codes, here, e, 2, b, depth, state, svc),
-            None => Err(EvalStop::Wrong),
-        },
+        Ok(Flow::Done(v)) => {
+            let test = as_bool(&v);
+            drop(v);
+            match test {
+                Some(true) => last_part(alloc, codes, here, e, 1, a, depth, state, svc),
+                Some(false) => last_part(alloc, codes, here, e, 2, b, depth, state, svc),
+                None => Err(EvalStop::Wrong),
+            }
+        }
         Ok(Flow::Wait(rest)) => Ok(inside(alloc, rest, StackFrame::Part(0, Items::new(alloc)))?),
         Err(stop) => Err(stop),
     }
@@ -488,6 +495,7 @@ fn evaluate_part<S: Services>(
     ensures begun { (S.stands svc.new).begun ≡ (S.stands svc.old).begun }
 {
     let Some(part) = part_or_self(e, &frame) else {
+        drop(frame);
         return Err(EvalStop::Wrong);
     };
     if is_bound(&frame) {

@@ -91,7 +91,10 @@ fn near_host<S: Services>(
     match evaluate(alloc, codes, here, h, depth, state, svc) {
         Ok(Flow::Done(w)) => near_bound(alloc, codes, here, e, c, w, b, d, depth, state, svc),
         Ok(Flow::Wait(rest)) => Ok(inside(alloc, rest, behind_one(alloc, 1, c)?)?),
-        Err(stop) => Err(stop),
+        Err(stop) => {
+            drop(c);
+            Err(stop)
+        }
     }
 }
 
@@ -131,7 +134,11 @@ fn near_bound<S: Services>(
     match evaluate(alloc, codes, here, b, depth, state, svc) {
         Ok(Flow::Done(u)) => near_dev(alloc, codes, here, e, c, w, u, d, depth, state, svc),
         Ok(Flow::Wait(rest)) => Ok(inside(alloc, rest, behind_two(alloc, c, w)?)?),
-        Err(stop) => Err(stop),
+        Err(stop) => {
+            drop(c);
+            drop(w);
+            Err(stop)
+        }
     }
 }
 
@@ -169,8 +176,19 @@ fn near_dev<S: Services>(
     ensures begun { (S.stands svc.new).begun ≡ (S.stands svc.old).begun }
 {
     match evaluate(alloc, codes, here, d, depth, state, svc) {
-        Ok(Flow::Done(v)) => send_values(alloc, c, &w, &u, &v, state),
+        Ok(Flow::Done(v)) => {
+            let sent = send_values(alloc, c, &w, &u, &v, state);
+            drop(w);
+            drop(u);
+            drop(v);
+            sent
+        }
         Ok(Flow::Wait(rest)) => Ok(inside(alloc, rest, behind_three(alloc, c, w, u)?)?),
-        Err(stop) => Err(stop),
+        Err(stop) => {
+            drop(c);
+            drop(w);
+            drop(u);
+            Err(stop)
+        }
     }
 }

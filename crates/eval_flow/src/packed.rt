@@ -1,5 +1,5 @@
 //! Chunks of the program that evaluates them, which are weighed by its size.
-ghost use Rattle.std.specs.Prelude.{◌≡◌, ◌≤◌, ℕ, List, [], min, IfOk};
+ghost use Rattle.std.specs.Prelude.{◌≡◌, ◌≤◌, ℕ, List, [], min};
 ghost use Rattle.plan_base.specs.Sizes.{code_size, weight, nesting};
 ghost use Rattle.plan_base.specs.declared.tree.Expr.{Expr, Expr-F, out-Expr};
 ghost use Rattle.plan_base.specs.declared.tree.Program.{Program as AProgram};
@@ -17,8 +17,8 @@ ghost use Rattle.eval_flow.specs.Direct.{Flows, Lasts};
 
 use crate::here::Here;
 use crate::rest::Flow;
-use plan_base::{Chunk, Name, NoMemory, Program, Value, Values};
-use plan_items::{Boxed, Shared};
+use eval_steps::packed;
+use plan_base::{Name, Value, Values};
 use plan_meaning::EvalStop;
 use plan_sizes::{values_nesting, values_weight};
 use std::alloc::Global;
@@ -77,24 +77,6 @@ pub fn pay_packed(
         Weighing::Spent => Err(EvalStop::WorkSpent),
         Weighing::TooLarge => Err(too_large(alloc)),
     }
-}
-
-/// A chunk of this program as a value.
-fn packed(
-    alloc: Global,
-    code: &Shared<Program>,
-    entry: &Name,
-    args: Values,
-) -> Result<Value, NoMemory>
-    ensures { IfOk result (λ v. v ≡ value.Chunk
-        (record { code = code.now; entry = entry.now; args = args })) }
-{
-    let chunk = Chunk {
-        code: code.share()?,
-        entry: entry.copy(alloc)?,
-        args,
-    };
-    Ok(Value::Chunk(Boxed::new(alloc, chunk)?))
 }
 
 /// A chunk of this program, which is weighed before it is made.

@@ -1,5 +1,5 @@
 //! Sends to neighbours whose parts were evaluated on the native stack.
-ghost use Rattle.std.specs.Prelude.{◌≡◌, ◌∷◌, ◌++◌, [], ℕ, List, IfOk};
+ghost use Rattle.std.specs.Prelude.{◌≡◌, ◌∷◌, [], ℕ, List, IfOk};
 ghost use Rattle.plan_base.specs.declared.tree.Expr.{Expr, Expr-F, out-Expr};
 ghost use Rattle.plan_base.specs.declared.tree.Program.{Program};
 ghost use Rattle.service_api.specs.Services.{ServiceState};
@@ -11,21 +11,12 @@ ghost use Rattle.eval_flow.specs.Direct.{Flows, Lasts};
 
 use crate::back::ended_by_value;
 use crate::rest::Flow;
-use eval_steps::{StackFrame, neighbour_sent};
+use eval_steps::{StackFrame, neighbour_sent, with_more};
 use plan_base::{NoMemory, Value, Values};
 use plan_items::Items;
 use plan_meaning::EvalStop;
 use std::alloc::Global;
 use visit_state::State;
-
-/// Values with one more.
-fn with_more(held: Values, v: Value) -> Result<Values, NoMemory>
-    ensures { IfOk result (λ all. all ≡ held ++ v ∷ []) }
-{
-    let mut all = held;
-    all.add(v)?;
-    Ok(all)
-}
 
 /// A list of two values.
 #[cold]

@@ -6,7 +6,7 @@ use Rattle.plan_base.specs.declared.tree.Svc.{Svc}
 use Rattle.plan_base.specs.declared.tree.Program.{Program}
 use Rattle.plan_base.specs.declared.tree.Value.{Value}
 use Rattle.typing_rules.specs.TypingNames.{place_of, service_of, prim_of}
-use Rattle.value_rules.specs.Rules.{Given, gives, primitive}
+use Rattle.typing_rules.specs.Rules.{Given, gives, primitive}
 use Rattle.plan_meaning.specs.declared.stop.EvalStop.{EvalStop}
 use Rattle.plan_meaning.specs.declared.stop.EvalStop.TheVariants.{Raised, WorkSpent, Wrong, NoMemory}
 use Rattle.plan_meaning.specs.State.{VisitState}

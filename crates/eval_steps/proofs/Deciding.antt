@@ -15,7 +15,7 @@ use Rattle.plan_base.specs.declared.tree.Value as value
 use Rattle.plan_base.specs.declared.tree.Chunk.{Chunk}
 use Rattle.plan_base.specs.Trees.{ExprLayer}
 use Rattle.typing_rules.specs.TypingNames.{place_of}
-use Rattle.value_rules.specs.Rules.{Given, gives, raises, binary}
+use Rattle.typing_rules.specs.Rules.{Given, gives, raises, binary}
 use Rattle.plan_meaning.specs.declared.stop.EvalStop.TheVariants.{Raised, Wrong}
 use Rattle.plan_meaning.specs.State.{VisitState}
 use Rattle.plan_meaning.specs.Run.{Run, gave, stopped, quiet, ◌>>=◌, ◌>>◌, pure, or_wrong, given_value, weighed_value}

@@ -47,7 +47,7 @@ pub fn tuple_part(es: &Exprs, n: usize, held: Values, v: Value) -> Result<Next, 
 }
 
 /// A chunk as a value.
-fn packed(
+pub fn packed(
     alloc: Global,
     code: &Shared<Program>,
     entry: &Name,

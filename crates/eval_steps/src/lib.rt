@@ -17,10 +17,11 @@ mod walk;
 
 pub use call::begin_call;
 pub use fold::item_gave;
+pub use gather::packed;
 pub use given::frame_given;
 pub use kind::{Kind, kind_of};
 pub use next::Next;
-pub use operand::behind_one;
+pub use operand::{behind_one, with_more};
 pub use parts::part_at;
 pub use raise::frame_raised;
 pub use send::neighbour_sent;

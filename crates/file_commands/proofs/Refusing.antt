@@ -8,8 +8,8 @@ use Rattle.program_text.specs.declared.fault.TextFault.TheVariants as texts
 use Rattle.program_text.specs.Reasons.{fault_byte}
 use Rattle.packet_frame.specs.Decoding.{frame_of}
 use Rattle.program_text.specs.Texts.{program_of}
-use Rattle.program_faults.specs.Refusals.{HoldsNoMemory}
-use Rattle.program_faults.proofs.Whole.{text_own}
+use Rattle.file_faults.specs.ProgramRefusals.{HoldsNoMemory}
+use Rattle.file_faults.proofs.ProgramTexts.{text_own}
 use Rattle.file_faults.specs.Refusals.{FaultHolds}
 use Rattle.call_causes.specs.Causes.{cause_of, text_cause}
 use Rattle.call_causes.specs.declared.status.Refusal.TheVariants.{Line, At}

@@ -12,8 +12,8 @@ use Rattle.packet_frame.specs.Stamped.{StampedFirst}
 use Rattle.packet_frame.specs.Decoding.{unstamped_frame, read_by}
 use Rattle.packet_frame.proofs.OneAnswer.{first_is}
 use Rattle.packet_frame.proofs.Versions.{refused_by_two}
-use Rattle.frame_faults.specs.Refusals.{HoldsNoMemory}
-use Rattle.frame_faults.proofs.Whole.{frame_own, stamped_own}
+use Rattle.file_faults.specs.FrameRefusals.{HoldsNoMemory}
+use Rattle.file_faults.proofs.WholeFrames.{frame_own, stamped_own}
 use Rattle.call_causes.specs.Causes.{frame_cause}
 use Rattle.call_causes.specs.declared.status.Cause.{Cause}
 use Rattle.call_causes.specs.declared.status.Cause.TheVariants.{Refused}

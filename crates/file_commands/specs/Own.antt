@@ -1,8 +1,8 @@
 -- Refusals that are for a reason of the file's own: none is `NoMemory`, or holds it.
 use Rattle.call_causes.specs.declared.status.Refusal.{Refusal}
 use Rattle.call_causes.specs.declared.status.Refusal.TheVariants.{Line, At, Frame, BadHex, TooLong, Log, LogTooLong}
-use Rattle.program_faults.specs.Refusals as texts
-use Rattle.frame_faults.specs.Refusals as frames
+use Rattle.file_faults.specs.ProgramRefusals as texts
+use Rattle.file_faults.specs.FrameRefusals as frames
 use Rattle.file_faults.specs.Refusals.{ReasonHolds}
 
 -- a refusal for a reason of the file's own

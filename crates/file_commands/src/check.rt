@@ -40,10 +40,14 @@ fn line_of(alloc: Global, text: &[u8]) -> Result<String, Cause>
 {
     match read_program(alloc, text) {
         Err(fault) => Err(Cause::from(fault)),
-        Ok(checked) => match sizes_line(alloc, checked.program()) {
-            Ok(line) => Ok(line),
-            Err(AllocError) => Err(Cause::NoMemory),
-        },
+        Ok(checked) => {
+            let line = sizes_line(alloc, checked.program());
+            drop(checked);
+            match line {
+                Ok(line) => Ok(line),
+                Err(AllocError) => Err(Cause::NoMemory),
+            }
+        }
     }
 }
 

@@ -117,7 +117,11 @@ fn bytes_text(alloc: Global, bytes: &[u8]) -> Result<Bytes, Cause>
     ensures { Reads (framed_said (read_by (version_shown bytes.now) bytes.now)) result }
 {
     match frame_of_bytes(alloc, bytes) {
-        Ok(frame) => text_of(alloc, &frame),
+        Ok(frame) => {
+            let text = text_of(alloc, &frame);
+            drop(frame);
+            text
+        }
         Err(cause) => Err(cause),
     }
 }

@@ -1,3 +1,4 @@
+pub mod ProgramTexts
 pub mod LineHolds
 pub mod FileHolds
 pub mod ScheduleHolds
@@ -9,3 +10,7 @@ pub mod LogHolds
 pub mod CutHolds
 pub mod PortHolds
 pub mod AuditHolds
+pub mod FlatLaws
+pub mod Parts
+pub mod Fields
+pub mod WholeFrames

@@ -25,7 +25,7 @@ use Rattle.plan_base.specs.declared.ids.Host.{Host}
 use Rattle.plan_base.specs.declared.tree.Chunk.{Chunk}
 use Rattle.plan_base.specs.declared.tree.Fun.{Fun}
 use Rattle.plan_base.specs.declared.tree.Program.{Program}
-use Rattle.program_faults.proofs.Whole.{text_own}
+use Rattle.file_faults.proofs.ProgramTexts.{text_own}
 use Rattle.program_text.specs.Texts.{program_of, args_of_text}
 use Rattle.program_text.specs.declared.fault.TextFault.{TextFault}
 use Rattle.service_api.specs.declared.package.PackageName.{PackageName}

@@ -1,1 +1,4 @@
+pub mod ProgramRefusals
 pub mod Refusals
+pub mod Flat
+pub mod FrameRefusals

@@ -3,7 +3,7 @@ use Rattle.line_files.specs.declared.fault.LineReason.{LineReason}
 use Rattle.line_files.specs.declared.fault.LineReason.TheVariants.{ProgramRefused}
 use Rattle.line_files.specs.declared.fault.LineFault.{LineFault}
 use Rattle.line_files.specs.declared.fault.LineFault.TheVariants as faults
-use Rattle.program_faults.specs.Refusals.{HoldsNoMemory}
+use Rattle.file_faults.specs.ProgramRefusals.{HoldsNoMemory}
 
 -- a program's text is refused for no `NoMemory`
 abbrev pub ReasonHolds : LineReason → Type 0

@@ -1,7 +1,12 @@
-//! The law that running out of memory is no first refusal of a file of lines, nor inside of one.
+//! The law that running out of memory is no first refusal of a file of lines, nor inside of one; and what else is refused
+//! for the first thing that is wrong with it, which is never running out of memory: texts of programs, and bytes of frames.
 //!
 //! Each law stands on a function without code, so that contracts of other crates can name it.
 #![tactic(auto)]
+
+mod flat;
+mod frames;
+mod programs;
 
 ghost use Rattle.std.specs.Prelude.{◌≡◌, ℕ, List, Err};
 ghost use Rattle.line_files.specs.declared.fault.LineFault.{LineFault};
@@ -14,6 +19,12 @@ ghost use Rattle.cut_files.specs.Cuts.{cut_of};
 ghost use Rattle.port_files.specs.PortFiles.{port_of};
 ghost use Rattle.audit_files.specs.AuditFiles.{audit_of};
 ghost use Rattle.file_faults.specs.Refusals.{FaultHolds};
+
+pub use flat::{frame_faults_are_flat, readings_fail_first, stamped_faults_are_flat};
+pub use frames::{
+    frame_refusals_hold_no_memory, frames_are_refused_first, stamped_frames_are_refused_first,
+};
+pub use programs::{program_refusals_hold_no_memory, texts_are_refused_first};
 
 /// No first refusal of a file of lines is or holds `NoMemory`.
 #[tactic(auto, using(crate::proofs::ScheduleHolds::schedule_holds, crate::proofs::ConfigHolds::config_holds, crate::proofs::LogHolds::log_holds, crate::proofs::AskHolds::ask_holds, crate::proofs::FleetHolds::fleet_holds, crate::proofs::CutHolds::cut_holds, crate::proofs::PortHolds::port_holds, crate::proofs::AuditHolds::audit_holds))]

@@ -1,8 +1,14 @@
-//! The written grammar of types and expressions, the agenda of a reading, and the laws that the readers keep to both.
-//! The agenda goes up to whole programs; what it says of declarations is proved in `program_grammar`.
+//! The written grammar of types, expressions, declarations, programs and values, the agenda of a reading, and the laws that
+//! the readers keep to both.
 //!
 //! Each law stands on a function without code, so that contracts of other crates can name it.
+//!
+//! Of tokens stands here what is refused inside strings, chars, blobs and comments, and where.
 #![tactic(auto)]
+
+mod programs;
+mod tokens;
+mod values;
 
 ghost use Rattle.std.specs.Prelude.{◌≡◌, ◌≢◌, ◌↔◌, ℕ, suc, List, Ok, Err};
 ghost use Rattle.plan_base.specs.declared.tree.Ty.{Ty};
@@ -18,6 +24,20 @@ ghost use Rattle.grammar_laws.specs.Grammar.{TypeAt, ExprAt};
 ghost use Rattle.grammar_laws.specs.Follow.{EndsType, EndsExpr};
 ghost use Rattle.grammar_laws.specs.Agenda.{GrammarItem, a_type, whole, step, FirstRefusal};
 ghost use Rattle.grammar_laws.specs.Answers.{IsAnswered};
+
+pub use programs::{
+    bodies_are_judged_as_written, program_refusals_are_first, program_refusals_hold_no_memory,
+    programs_have_one_answer, programs_have_one_reading, programs_read_are_written,
+    programs_written_are_read, trees_are_written, what_is_judged,
+};
+pub use tokens::{
+    blobs_are_refused, chars_are_refused, comments_are_passed, strays_are_refused,
+    strings_are_refused, token_refusals_hold_no_memory,
+};
+pub use values::{
+    texts_are_refused_first, value_refusals_are_first, value_refusals_hold_no_memory,
+    values_have_one_answer, values_have_one_reading, values_read_are_written,
+};
 
 /// What is read as a type or an expression is one by the grammar.
 pub fn what_is_read_is_written()

@@ -10,7 +10,7 @@ use Rattle.network_plan.specs.declared.event.WorldEvent.{WorldEvent}
 use Rattle.network_plan.specs.declared.event.WorldEvent.TheVariants.{Tick}
 use Rattle.world_model.specs.declared.lines.Wired.{Wired}
 use Rattle.world_model.specs.World.{WorldState}
-use Rattle.wire_numbers.specs.Numbers.{lowest, highest}
+use Rattle.world_model.specs.Numbers.{lowest, highest}
 use Rattle.grow_run.specs.Grow.{event_of, drawn_choice, next_event}
 use Rattle.grow_run.specs.declared.choice.Choice.{Choice}
 use Rattle.grow_run.specs.declared.choice.Choice.TheVariants.{Deliver, Lose}

@@ -13,7 +13,7 @@ use Rattle.network_plan.specs.declared.event.WorldEvent.TheVariants as event
 use Rattle.grow_run.specs.declared.choice.Choice.{Choice}
 use Rattle.grow_run.specs.declared.choice.Choice.TheVariants as choice
 use Rattle.grow_run.specs.Draws.{seeded_generator, choose}
-use Rattle.wire_numbers.specs.Numbers.{lowest, highest}
+use Rattle.world_model.specs.Numbers.{lowest, highest}
 use Rattle.world_model.specs.World.{WorldState, happens, opening}
 
 -- a host with all packages

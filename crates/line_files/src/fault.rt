@@ -6,7 +6,6 @@ use program_text::TextFault;
 use std::alloc::AllocError;
 
 /// Why a line is outside a format.
-#[derive(Drop)]
 pub enum LineReason {
     /// The first line is not the header.
     BadHeader,
@@ -26,6 +25,22 @@ pub enum LineReason {
     ProgramRefused(Boxed<TextFault>),
     /// An entry, arguments or a combination of numbers that don't fit.
     BadArgument,
+}
+
+impl Drop for LineReason {
+    fn drop(self) {
+        match self {
+            LineReason::ProgramRefused(why) => drop(why),
+            LineReason::BadHeader
+            | LineReason::BadWord
+            | LineReason::BadNumber
+            | LineReason::UnknownHost
+            | LineReason::UnknownProgram
+            | LineReason::TwiceNamed
+            | LineReason::TooMany
+            | LineReason::BadArgument => {}
+        }
+    }
 }
 
 /// Why a file of lines has no value.

@@ -136,7 +136,10 @@ fn typed_chunk(
     match chunk_of(alloc, program, entry, args) {
         Ok(chunk) => Ok(chunk),
         Err(ChunkFault::NoMemory) => Err(LineStop::NoMemory),
-        Err(_) => Err(LineStop::Reason(LineReason::BadArgument)),
+        Err(fault) => {
+            drop(fault);
+            Err(LineStop::Reason(LineReason::BadArgument))
+        }
     }
 }
 

@@ -1,11 +1,24 @@
 -- The lines of keys, one key after the other.
-use Rattle.std.proofs.Common.{◌≡◌, ℕ, zero, suc, ◌+◌, ◌<◌, ◌≤◌, List, [], ◌∷◌, ◌++◌, length, drop, Some, refl, sym, ◌∙◌, ap, arith, append_assoc, append-nil}
+use Rattle.std.proofs.Common.{◌≡◌, ℕ, ℤ, zero, suc, ◌+◌, ◌<◌, ◌≤◌, List, [], ◌∷◌, ◌++◌, length, drop, Some, refl, sym, ◌∙◌, ap, arith, append_assoc, append-nil}
 use Rattle.std.specs.Prelude.{slice_get}
 use Rattle.frag_chunks.specs.declared.holding.Entry.{Entry}
 use Rattle.frag_chunks.specs.declared.gather.Held.{Held}
 use Rattle.frag_chunks.specs.Places.{entry_held}
 use Rattle.frag_chunks.specs.Gathers.{held_of}
 use Rattle.log_gather.specs.Texts.{held_line, keys_text}
+use Rattle.plan_base.specs.Trees.{trees}
+use Rattle.plan_base.specs.declared.tree.Value.{out-Value, Value-F}
+use Rattle.plan_base.specs.declared.tree.Value.TheVariants as value
+use Rattle.plan_printer.proofs.ValueLaws.{value_text_out}
+use Rattle.printed_forms.specs.Literals.{int_text}
+use Rattle.printed_forms.specs.Printed.{value_text, value_text_level, chunk_text}
+
+int_level : (key : ℤ) → out-Value (value.Int key) ≡ Value-F.Int key
+int_level key = grind (arith, trees)
+
+-- an int is printed as its number
+pub int_printed : (key : ℤ) → value_text (value.Int key) ≡ int_text key
+int_printed key = value_text_out (value.Int key) ∙ ap (value_text_level value_text chunk_text) (int_level key)
 
 next_key : (es : List Entry) (i : ℕ) (h : Held) → i < length es → Some h ≡ entry_held (slice_get es i) → keys_text (drop i es) ≡ held_line h ++ keys_text (drop (suc i) es)
 next_key [] i h l e = absurd (omega (arith, l))

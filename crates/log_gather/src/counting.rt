@@ -16,12 +16,20 @@ use service_api::{Note, Services};
 use std::alloc::Global;
 
 /// What was gathered so far, and how many notes found no room.
-#[derive(Drop)]
 pub struct Counting {
     /// What was gathered.
     pub gather: Gather,
     /// How many notes found no room; the count stands still at 2^64 - 1.
     pub skipped: u64,
+}
+
+impl Drop for Counting {
+    fn drop(self) {
+        let Counting {
+            gather: _gather,
+            skipped: _skipped,
+        } = self;
+    }
 }
 
 impl Counting {
@@ -83,7 +91,9 @@ fn count_event<S: Services>(
         → OnOk result (NodeStands S.stands node.new (node_step s event.now).node) }
 {
     let acts = node.step(alloc, event)?;
-    count_acts(alloc, acts.list.as_slice(), counting)
+    let counted = count_acts(alloc, acts.list.as_slice(), counting);
+    drop(acts);
+    counted
 }
 
 /// Makes an entry again, and adds its notes; one that found no memory has none.

@@ -1,22 +1,33 @@
 ghost use Rattle.std.specs.Prelude.{◌≡◌, ◌++◌, IfOk, OnOk};
 ghost use Rattle.hex.specs.Hex.{encode_lower};
+ghost use Rattle.printed_forms.specs.Literals.{int_text};
 ghost use Rattle.log_gather.specs.Texts as spec;
 
 use crate::counting::Counting;
 use act_text::put_number;
 use frag_chunks::{Gather, Held};
 use hex::encode;
-use plan_base::{Bytes, NoMemory, Value};
-use plan_printer::print_value;
+use plan_base::{Bytes, NoMemory};
 use std::alloc::Global;
 
+/// A number with its sign, `~` before a negative one, as an int of a program is printed.
+#[tactic(auto, unfolding(printed_forms::specs::Literals::int_text), using(std::proofs::Common::append_assoc))]
+fn put_int(number: i64, out: &mut Bytes) -> Result<(), NoMemory>
+    ensures { OnOk result (out.new ≡ out.old ++ int_text number) }
+{
+    if number >= 0 {
+        return put_number(out, number as u64);
+    }
+    out.add_all(b"~")?;
+    put_number(out, number.unsigned_abs())
+}
+
 /// A word and a key.
-fn put_key(alloc: Global, word: &[u8], key: i64, out: &mut Bytes) -> Result<(), NoMemory>
+fn put_key(word: &[u8], key: i64, out: &mut Bytes) -> Result<(), NoMemory>
     ensures { OnOk result (out.new ≡ out.old ++ spec.key_text word.now key) }
 {
     out.add_all(word)?;
-    print_value(alloc, &Value::Int(key), out)?;
-    Ok(())
+    put_int(key, out)
 }
 
 /// A word and a count.
@@ -33,7 +44,7 @@ fn put_count(word: &[u8], n: u64, out: &mut Bytes) -> Result<(), NoMemory>
 fn put_whole(alloc: Global, key: i64, bytes: &Bytes, out: &mut Bytes) -> Result<(), NoMemory>
     ensures { OnOk result (out.new ≡ out.old ++ spec.whole_line key bytes.now) }
 {
-    put_key(alloc, b"message ", key, out)?;
+    put_key(b"message ", key, out)?;
     put_count(b" bytes ", bytes.len() as u64, out)?;
     out.add_all(b" ")?;
     out.add_all(encode(alloc, bytes.as_slice())?.as_bytes())?;
@@ -43,16 +54,10 @@ fn put_whole(alloc: Global, key: i64, bytes: &Bytes, out: &mut Bytes) -> Result<
 
 /// The line of a message of which parts are missing.
 #[tactic(auto, unfolding(crate::specs::Texts::open_line))]
-fn put_open(
-    alloc: Global,
-    key: i64,
-    there: u32,
-    count: u32,
-    out: &mut Bytes,
-) -> Result<(), NoMemory>
+fn put_open(key: i64, there: u32, count: u32, out: &mut Bytes) -> Result<(), NoMemory>
     ensures { OnOk result (out.new ≡ out.old ++ spec.open_line key there count) }
 {
-    put_key(alloc, b"open ", key, out)?;
+    put_key(b"open ", key, out)?;
     put_count(b" has ", u64::from(there), out)?;
     put_count(b" of ", u64::from(count), out)?;
     out.add_all(b"\n")?;
@@ -65,9 +70,9 @@ fn put_held(alloc: Global, held: &Held, out: &mut Bytes) -> Result<(), NoMemory>
 {
     match held {
         Held::Whole(key, bytes) => put_whole(alloc, *key, bytes, out),
-        Held::Missing(key, there, count) => put_open(alloc, *key, *there, *count, out),
+        Held::Missing(key, there, count) => put_open(*key, *there, *count, out),
         Held::Spoiled(key) => {
-            put_key(alloc, b"spoiled ", *key, out)?;
+            put_key(b"spoiled ", *key, out)?;
             out.add_all(b"\n")?;
             Ok(())
         }
@@ -81,7 +86,9 @@ fn put_keys(alloc: Global, gather: &Gather, out: &mut Bytes) -> Result<(), NoMem
 {
     for i in 0..gather.len() {
         let held = gather.held(alloc, i)?;
-        put_held(alloc, &held, out)?;
+        let put = put_held(alloc, &held, out);
+        drop(held);
+        put?;
     }
     Ok(())
 }

@@ -39,6 +39,9 @@ pub fn lost_lines(alloc: Global, number: u64, here: Host) -> Result<Bytes, NoMem
     ensures { IfOk result (λ text. text ≡ lines_text here (entries_at number (act.NoMemory ∷ []))) }
 {
     let mut text = Bytes::new(alloc);
-    put_act(alloc, number, here, &Act::NoMemory, &mut text)?;
+    let lost = Act::NoMemory;
+    let put = put_act(alloc, number, here, &lost, &mut text);
+    drop(lost);
+    put?;
     Ok(text)
 }

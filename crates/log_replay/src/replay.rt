@@ -34,7 +34,9 @@ fn event_lines<S: Services>(
         node.old node.new result }
 {
     let acts = node.step(alloc, event)?;
-    step_lines(alloc, number, config.here, acts.list.as_slice())
+    let text = step_lines(alloc, number, config.here, acts.list.as_slice());
+    drop(acts);
+    text
 }
 
 /// Makes an entry again, and gives its lines.
@@ -134,7 +136,33 @@ pub fn begin_node<S: Services + Drop>(
     Node::new(alloc, config, services)
 }
 
+/// Writes the trace of a log at a new node: its first line, the lines of the entries, and `end`.
 #[tactic(auto, using(node_io::proofs::SinkLaws::prefix_none, crate::proofs::ReplayLaws::trace_begun))]
+fn write_log<S: Services, K: Sink>(
+    alloc: Global,
+    node: &mut Node<S>,
+    log: &Log,
+    out: &mut K,
+) -> Result<(), ReplayFault>
+    requires keeps { KeepsLog log.now }
+    requires version { version_of node.old ≡ log.now.node.version }
+    ensures { (s : NodeState) → NodeStands S.stands node.old s
+        → Prints (whole_trace log.now.node.here (played_entries 0 s log.now.events))
+        (K.state out.old) (K.state out.new) result }
+{
+    let Ok(()) = put_all(out, b"planet trace 1\n") else {
+        return Err(ReplayFault::WriteFault);
+    };
+    if let Err(fault) = write_entries(alloc, node, &log.node, log.events.as_slice(), out) {
+        return Err(fault);
+    }
+    match put_all(out, b"end\n") {
+        Ok(()) => Ok(()),
+        Err(_) => Err(ReplayFault::WriteFault),
+    }
+}
+
+#[tactic(auto, using(node_io::proofs::SinkLaws::prefix_none))]
 /// Writes the trace of a log: its first line, the lines of each entry's step at a new node with these services, with
 /// `drop @H NoMemory` for one that found no memory, and `end`. Conditions: the log keeps its rules, and no `begin` of the
 /// services is open. Where it fails, what was written is a prefix of the trace.
@@ -154,14 +182,5 @@ pub fn run_log<S: Services + Drop, K: Sink>(
     let Ok(mut node) = begin_node(alloc, &log.node, services) else {
         return Err(ReplayFault::NoMemory);
     };
-    let Ok(()) = put_all(out, b"planet trace 1\n") else {
-        return Err(ReplayFault::WriteFault);
-    };
-    if let Err(fault) = write_entries(alloc, &mut node, &log.node, log.events.as_slice(), out) {
-        return Err(fault);
-    }
-    match put_all(out, b"end\n") {
-        Ok(()) => Ok(()),
-        Err(_) => Err(ReplayFault::WriteFault),
-    }
+    write_log(alloc, &mut node, log, out)
 }

@@ -5,7 +5,7 @@ ghost use Rattle.world_model.specs.World.{WorldState};
 ghost use Rattle.world_model.specs.Sound.{event_fits};
 ghost use Rattle.world_model.specs.Counts.{late_in};
 ghost use Rattle.world_model.specs.declared.lines.Line.TheVariants as line;
-ghost use Rattle.wire_numbers.specs.Numbers as numbers;
+ghost use Rattle.world_model.specs.Numbers as numbers;
 ghost use Rattle.net_world.specs.Stands.{NetworkStands, WorldStands, IsActed};
 
 use crate::ends::{hand_off, was_handed, wire_place};
@@ -21,8 +21,7 @@ use plan_items::Items;
 use service_api::Services;
 use spelled_frame::SpelledFrame;
 use std::alloc::Global;
-use wire_numbers::{highest, lowest};
-use world_model::{Handing, Line, Lines, LinkEnd, Wire, Wired, far_end};
+use world_model::{Handing, Line, Lines, LinkEnd, Wire, Wired, far_end, highest, lowest};
 
 /// The number of frames that the wire holds.
 const MOST_ON_WIRE: usize = 4096;

@@ -8,7 +8,7 @@ ghost use Rattle.world_model.specs.Sound.{IsSound, event_within, event_typed};
 ghost use Rattle.world_model.specs.Visits.{EndsWell, event_visits};
 ghost use Rattle.network_laws.specs.Roads.{BringsNone};
 ghost use Rattle.network_laws.specs.Routes.{Reached, KeepsRoutes};
-ghost use Rattle.wire_numbers.specs.Numbers as numbers;
+ghost use Rattle.world_model.specs.Numbers as numbers;
 ghost use Rattle.net_world.specs.Stands.{WorldStands, IsHappened};
 
 use crate::network::Network;

@@ -10,8 +10,8 @@ use Rattle.packet_frame.specs.declared.frame.PlainFrame.{PlainFrame}
 use Rattle.packet_frame.specs.declared.frame.PlainStamped.{PlainStamped}
 use Rattle.dv_routing.specs.Routing.{Routing, route_cost}
 use Rattle.dv_routing.proofs.Costs.{same_host}
-use Rattle.route_laws.specs.Network.{Wiring, RouteFrame, Parcel, Told, Node, Network, routing_of as of_node, routings, routing_at, cost_by, cost_at as cut_cost, IsAt, with_node, Goes, Stays, Then}
-use Rattle.route_laws.proofs.Lookups.{routings_set, routings_get}
+use Rattle.network_laws.specs.Network.{Wiring, RouteFrame, Parcel, Told, Node, Network, routing_of as of_node, routings, routing_at, cost_by, cost_at as cut_cost, IsAt, with_node, Goes, Stays, Then}
+use Rattle.network_laws.proofs.Lookups.{routings_set, routings_get}
 use Rattle.node_model.specs.declared.acts.Lane.{Lane}
 use Rattle.node_model.specs.State.{Queues, NodeState, routing_of, is_host}
 use Rattle.world_model.specs.declared.lines.LinkEnd.{LinkEnd}

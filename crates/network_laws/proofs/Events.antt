@@ -17,10 +17,10 @@ use Rattle.spelled_frame.specs.Spelled.{what_of}
 use Rattle.dv_routing.specs.Routing.{Routing, all_routes, is_among}
 use Rattle.dv_routing.specs.Laws.{HostsHold}
 use Rattle.service_api.specs.Routes.{hop}
-use Rattle.route_laws.specs.Network.{Wiring, RouteFrame, Node, Network, with_node as with_cut, with_queue, Sent, Leaves, Goes, Stays, Then}
-use Rattle.route_laws.specs.Truths.{RoutesHold as CutHolds}
-use Rattle.route_laws.proofs.Keep.{goes_keep}
-use Rattle.route_laws.proofs.Lookups.{all_get, all_remove}
+use Rattle.network_laws.specs.Network.{Wiring, RouteFrame, Node, Network, with_node as with_cut, with_queue, Sent, Leaves, Goes, Stays, Then}
+use Rattle.network_laws.specs.Truths.{RoutesHold as CutHolds}
+use Rattle.network_laws.proofs.Keep.{goes_keep}
+use Rattle.network_laws.proofs.Lookups.{all_get, all_remove}
 use Rattle.node_model.specs.declared.acts.Act.{Act}
 use Rattle.node_model.specs.declared.acts.Act.TheVariants.{Taken}
 use Rattle.node_model.specs.declared.acts.Lane.{Lane}

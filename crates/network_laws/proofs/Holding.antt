@@ -16,10 +16,10 @@ use Rattle.dv_routing.specs.Laws.{HostsHold}
 use Rattle.dv_routing.proofs.Best.{route_own}
 use Rattle.dv_routing.proofs.Costs.{same_host}
 use Rattle.dv_routing.proofs.Hops.{hop_leads, known_hops}
-use Rattle.route_laws.specs.Network.{routings, cost_at as cut_cost}
-use Rattle.route_laws.specs.Truths.{IsKnown, FrameTrue, RoutesHold as CutHolds, IsHop as CutHop}
-use Rattle.route_laws.specs.Walks as cut_walks
-use Rattle.route_laws.proofs.Walking as laws
+use Rattle.network_laws.specs.Network.{routings, cost_at as cut_cost}
+use Rattle.network_laws.specs.Truths.{IsKnown, FrameTrue, RoutesHold as CutHolds, IsHop as CutHop}
+use Rattle.network_laws.specs.Walks as cut_walks
+use Rattle.network_laws.proofs.Walking as laws
 use Rattle.node_model.specs.State.{NodeState, routing_of, is_host}
 use Rattle.node_model.specs.Fits.{QueuesKeep}
 use Rattle.world_model.specs.declared.lines.LinkEnd.{LinkEnd}

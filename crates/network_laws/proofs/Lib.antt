@@ -1,3 +1,8 @@
+pub mod Lookups
+pub mod Truth
+pub mod Keep
+pub mod Walking
+pub mod CutPlaces
 pub mod Cut
 pub mod Steps
 pub mod Holding

@@ -7,7 +7,7 @@ use Rattle.plan_meaning.specs.declared.sent.Sent.{Sent}
 use Rattle.dv_routing.specs.Routing.{route, own_route, all_routes}
 use Rattle.dv_routing.proofs.Best.{route_own}
 use Rattle.dv_routing.proofs.Hops.{hop_leads}
-use Rattle.route_laws.specs.Network.{Wiring, RouteFrame, Parcel, Node, Network, IsAt, with_node, queued_frame, Moves, Routed, Handed}
+use Rattle.network_laws.specs.Network.{Wiring, RouteFrame, Parcel, Node, Network, IsAt, with_node, queued_frame, Moves, Routed, Handed}
 use Rattle.network_laws.specs.Led.{IsLed}
 
 pub led_moves : (far : Wiring) (w : Network) (at : ℕ) (node : Node) (s : Sent) (queue : List RouteFrame) → IsAt w at node

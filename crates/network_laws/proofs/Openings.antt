@@ -16,10 +16,10 @@ use Rattle.dv_routing.specs.Sorted.{sorted_into}
 use Rattle.dv_routing.proofs.Best.{first_or_later}
 use Rattle.dv_routing.proofs.Costs.{eqb_self}
 use Rattle.dv_routing.proofs.Sorting.{sorted_same}
-use Rattle.route_laws.specs.Network.{RouteFrame, Node, routings, routing_at}
-use Rattle.route_laws.specs.Truths.{IsLinked, IsFresh, IsOpening}
-use Rattle.route_laws.proofs.Lookups.{all_get}
-use Rattle.route_laws.proofs.Walking.{opening_true}
+use Rattle.network_laws.specs.Network.{RouteFrame, Node, routings, routing_at}
+use Rattle.network_laws.specs.Truths.{IsLinked, IsFresh, IsOpening}
+use Rattle.network_laws.proofs.Lookups.{all_get}
+use Rattle.network_laws.proofs.Walking.{opening_true}
 use Rattle.node_model.specs.State.{routing_of, no_lane, no_queues, new_node}
 use Rattle.node_model.specs.Fits.{QueuesKeep}
 use Rattle.node_model.proofs.HostLaws.{same_among}

@@ -11,8 +11,8 @@ use Rattle.network_plan.specs.declared.event.WorldEvent.{WorldEvent}
 use Rattle.dv_routing.specs.Routing.{route_cost}
 use Rattle.dv_routing.specs.Laws.{NoRise}
 use Rattle.dv_routing.proofs.Rises.{at_most_some, no_rise_at}
-use Rattle.route_laws.specs.Network.{routings, cost_at as cut_cost, Goes, Stays}
-use Rattle.route_laws.proofs.Keep.{goes_rise}
+use Rattle.network_laws.specs.Network.{routings, cost_at as cut_cost, Goes, Stays}
+use Rattle.network_laws.proofs.Keep.{goes_rise}
 use Rattle.world_model.specs.declared.lines.Entry.{Entry}
 use Rattle.world_model.specs.declared.lines.Wired.{Wired}
 use Rattle.world_model.specs.World.{Cables, WorldState, far_end, happens, entry_at, entries, world_after, history_of, opening}

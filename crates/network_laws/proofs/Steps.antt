@@ -35,7 +35,7 @@ use Rattle.plan_meaning.specs.Laws.{left_by}
 use Rattle.dv_routing.specs.Routing.{Routing, all_routes, own_advert}
 use Rattle.dv_routing.proofs.Best.{contains_later}
 use Rattle.dv_routing.proofs.Costs.{same_host}
-use Rattle.route_laws.specs.Network.{Wiring, RouteFrame, Told, Network, IsAt, with_node, queued_frame, Moves, Tells, Hears, Goes, Stays, Then}
+use Rattle.network_laws.specs.Network.{Wiring, RouteFrame, Told, Network, IsAt, with_node, queued_frame, Moves, Tells, Hears, Goes, Stays, Then}
 use Rattle.network_laws.specs.Led.{IsLed}
 use Rattle.network_laws.proofs.Leading.{visit_led}
 use Rattle.network_laws.proofs.Moving.{led_moves}

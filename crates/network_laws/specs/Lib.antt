@@ -1,3 +1,6 @@
+pub mod Network
+pub mod Truths
+pub mod Walks
 pub mod Roads
 pub mod Routes
 pub mod Led

@@ -12,7 +12,7 @@ ghost use Rattle.plan_meaning.specs.State.{VisitState};
 ghost use Rattle.plan_meaning.specs.Meaning.{meaning, visited_chunk};
 ghost use Rattle.plan_meaning.specs.Laws.{left_by};
 ghost use Rattle.dv_routing.specs.Routing.{all_routes};
-ghost use Rattle.route_laws.specs.Network.{Wiring, RouteFrame, Parcel, Node, Network, IsAt, with_node, queued_frame, Moves};
+ghost use Rattle.network_laws.specs.Network.{Wiring, RouteFrame, Parcel, Node, Network, IsAt, with_node, queued_frame, Moves};
 ghost use Rattle.network_laws.specs.Led.{IsLed, IsLedIn};
 
 /// A beginning within the rules is reached.

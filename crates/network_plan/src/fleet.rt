@@ -3,7 +3,6 @@ use plan_base::{Host, Text};
 use plan_items::Items;
 
 /// A request to inject a chunk at a serving node.
-#[derive(Drop)]
 pub struct AskFile {
     /// The port to which it is sent, not 0.
     pub to: u16,
@@ -15,11 +14,29 @@ pub struct AskFile {
     pub chunk: CheckedChunk,
 }
 
+impl Drop for AskFile {
+    fn drop(self) {
+        let AskFile {
+            to: _to,
+            from: _from,
+            bound: _bound,
+            chunk: _chunk,
+        } = self;
+    }
+}
+
 /// Several nodes and requests that are started together.
-#[derive(Drop)]
 pub struct Fleet {
     /// What is started, in order, 1 to 64.
     pub children: Kids,
+}
+
+impl Drop for Fleet {
+    fn drop(self) {
+        let Fleet {
+            children: _children,
+        } = self;
+    }
 }
 
 /// A list of children.

@@ -40,7 +40,6 @@ pub fn first_link(version: Version) -> u64
 }
 
 /// The log of a node: how it began, with serial number 1, and what happened to it.
-#[derive(Drop)]
 pub struct Log {
     /// How it began.
     pub node: NodeConfig,
@@ -48,4 +47,14 @@ pub struct Log {
     pub missing: Packages,
     /// What happened, in order, at most 50,000.
     pub events: LogEvents,
+}
+
+impl Drop for Log {
+    fn drop(self) {
+        let Log {
+            node: _node,
+            missing: _missing,
+            events: _events,
+        } = self;
+    }
 }

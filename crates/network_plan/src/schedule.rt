@@ -16,7 +16,6 @@ pub struct Schedule {
 }
 
 /// A network: hosts and the links between them.
-#[derive(Drop)]
 pub struct Topology {
     /// The hosts in the order of their lines, at most 32, all different.
     pub hosts: HostSpecs,
@@ -24,6 +23,16 @@ pub struct Topology {
     pub links: Links,
     /// The version of its nodes.
     pub version: Version,
+}
+
+impl Drop for Topology {
+    fn drop(self) {
+        let Topology {
+            hosts: _hosts,
+            links: _links,
+            version: _version,
+        } = self;
+    }
 }
 
 /// A list of hosts.

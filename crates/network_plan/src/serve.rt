@@ -24,7 +24,6 @@ pub struct Inject {
 pub type Injects = Items<Inject>;
 
 /// How a node serves.
-#[derive(Drop)]
 pub struct ServeConfig {
     /// How the node begins, with serial number 1.
     pub node: NodeConfig,
@@ -42,4 +41,19 @@ pub struct ServeConfig {
     pub devs: DevPorts,
     /// Its injections in the order of their lines, whose chunks weigh at most 16,777,216 in sum.
     pub at: Injects,
+}
+
+impl Drop for ServeConfig {
+    fn drop(self) {
+        let ServeConfig {
+            node: _node,
+            missing: _missing,
+            port: _port,
+            control: _control,
+            period: _period,
+            log: _log,
+            devs: _devs,
+            at: _at,
+        } = self;
+    }
 }

@@ -45,7 +45,6 @@ pub enum AskStage {
 }
 
 /// What the lines of a request have said so far.
-#[derive(Drop)]
 pub struct AskReading {
     /// Which line comes next.
     pub stage: AskStage,
@@ -63,6 +62,21 @@ pub struct AskReading {
     pub program: OpenProgram,
     /// The program once they are read.
     pub checked: Option<Checked>,
+}
+
+impl Drop for AskReading {
+    fn drop(self) {
+        let AskReading {
+            stage: _stage,
+            to: _to,
+            from: _from,
+            bound: _bound,
+            entry: _entry,
+            entry_line: _entry_line,
+            program: _program,
+            checked: _checked,
+        } = self;
+    }
 }
 
 impl AskReading {

@@ -52,7 +52,10 @@ fn checked_chunk(alloc: Global, chunk: Chunk) -> Result<Option<CheckedChunk>, No
     match check_chunk(alloc, chunk, None) {
         Ok(chunk) => Ok(Some(chunk)),
         Err(ChunkFault::NoMemory) => Err(NoMemory),
-        Err(_) => Ok(None),
+        Err(fault) => {
+            drop(fault);
+            Ok(None)
+        }
     }
 }
 

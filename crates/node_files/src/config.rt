@@ -333,15 +333,23 @@ impl ConfigReading {
         let turn = number(words, 1, 1_000_000)?;
         expect(words, b"inject")?;
         let (chunk, bound, handler) = injection(alloc, self.version, program, words)?;
-        let weight = add_weight(self.weight, &chunk)?;
-        self.at.add(Inject {
-            turn,
-            bound,
-            chunk,
-            handler,
-        })?;
-        self.weight = weight;
-        Ok(())
+        match add_weight(self.weight, &chunk) {
+            Ok(weight) => {
+                self.at.add(Inject {
+                    turn,
+                    bound,
+                    chunk,
+                    handler,
+                })?;
+                self.weight = weight;
+                Ok(())
+            }
+            Err(reason) => {
+                drop(chunk);
+                drop(handler);
+                Err(LineStop::Reason(reason))
+            }
+        }
     }
 
     /// A line behind its first word.
@@ -470,6 +478,8 @@ impl ConfigReading {
     fn into_config(self) -> ServeConfig
         ensures { result ≡ spec.config_said self }
     {
+        drop(self.program);
+        drop(self.checked);
         ServeConfig {
             node: NodeConfig {
                 here: self.here,
@@ -511,9 +521,13 @@ impl LineFile for ConfigReading {
     fn end(self, alloc: Global, number: u32) -> Result<ServeConfig, LineFault> {
         let _unused = alloc;
         match self.stage {
-            ConfigStage::Header => Err(LineFault::Line(number, LineReason::BadHeader)),
+            ConfigStage::Header => {
+                drop(self);
+                Err(LineFault::Line(number, LineReason::BadHeader))
+            }
             ConfigStage::Tail(_) => Ok(self.into_config()),
             ConfigStage::Wants(_) | ConfigStage::Inside => {
+                drop(self);
                 Err(LineFault::Line(number, LineReason::BadWord))
             }
         }

@@ -148,8 +148,14 @@ fn inject_entry(
     let bound = number(words, 0, 65_535)?;
     let chunk = chunk(alloc, words)?;
     let handler = handler(alloc, version, chunk.chunk().code.get(), words)?;
-    words.end()?;
-    Ok(LogEvent::Step(Event::Inject(chunk, bound, handler)))
+    match words.end() {
+        Ok(()) => Ok(LogEvent::Step(Event::Inject(chunk, bound, handler))),
+        Err(reason) => {
+            drop(chunk);
+            drop(handler);
+            Err(LineStop::Reason(reason))
+        }
+    }
 }
 
 /// `frame D HEX` behind its first word. Reasons: `BadWord`, `BadNumber`, `BadArgument`.
@@ -484,9 +490,13 @@ impl LineFile for LogReading {
     fn end(self, alloc: Global, number: u32) -> Result<Log, LineFault> {
         let _unused = alloc;
         match self.stage {
-            LogStage::Header => Err(LineFault::Line(number, LineReason::BadHeader)),
+            LogStage::Header => {
+                drop(self);
+                Err(LineFault::Line(number, LineReason::BadHeader))
+            }
             LogStage::Events => Ok(self.into_log()),
             LogStage::Host | LogStage::Boot | LogStage::Hosts | LogStage::Node(_) => {
+                drop(self);
                 Err(LineFault::Line(number, LineReason::BadWord))
             }
         }

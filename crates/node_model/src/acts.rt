@@ -1,4 +1,4 @@
-use link_queue::Queue;
+use crate::queue::Queue;
 use link_window::Took;
 use packet_frame::FrameFault;
 use plan_base::{Dev, Family, Name};
@@ -26,7 +26,6 @@ pub enum Reason {
 pub type ActList = Items<Act>;
 
 /// One thing that a node did.
-#[derive(Drop)]
 pub enum Act {
     /// It took in a chunk as a packet of this family with this bound.
     Injected(Family, u32),
@@ -66,6 +65,29 @@ pub enum Act {
     SerialsSpent,
     /// A step was dropped, since it found no memory. No step has this act.
     NoMemory,
+}
+
+impl Drop for Act {
+    fn drop(self) {
+        match self {
+            Act::Noted(note) => drop(note),
+            Act::Ended(_, outcome, _, _) => drop(outcome),
+            Act::Handled(_, name, _) => drop(name),
+            Act::Bad(refusal) => drop(refusal),
+            Act::Injected(_, _) => {}
+            Act::Arrived(_) => {}
+            Act::Queued(_, _, _) => {}
+            Act::Dropped(_, _, _) => {}
+            Act::AdvertQueued(_) => {}
+            Act::AdvertDropped(_) => {}
+            Act::AdvertSpent(_) => {}
+            Act::Stale(_, _) => {}
+            Act::Heard(_) => {}
+            Act::Ticked(_) => {}
+            Act::Taken(_, _) => {}
+            Act::Asked | Act::Misplaced | Act::SerialsSpent | Act::NoMemory => {}
+        }
+    }
 }
 
 /// What a step of a node gives.

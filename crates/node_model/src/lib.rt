@@ -1,8 +1,9 @@
-//! What a node does: the types of its acts, its state, and its step at each event as a definition.
+//! What a node does: the types of its acts, its state, and its step at each event as a definition; and the queue of a device.
 #![tactic(auto)]
 
 mod acts;
 mod laws;
+mod queue;
 
 pub use acts::{Act, ActList, Acts, Lane, Reason, Sending, Sendings};
 pub use laws::{
@@ -11,4 +12,5 @@ pub use laws::{
 };
 pub use link_window::Took;
 pub use network_plan::Event;
+pub use queue::{MOST_QUEUED, Queue};
 pub use spelled_frame::What;

@@ -72,8 +72,8 @@ module _ (queues : Queues) (s : Sending) (d : Dev) (x : PlainStamped) (e : d ≡
   pub queues_so : (y : PlainStamped) (new : Queues) → y ≡ s.frame → true ≡ has_room queues d x → new ≡ queue_push queues d y (slice_get queues d.0) → new ≡ send_queues queues s
   queues_so y new g h k = queues_by true new h (k ∙ (λ i. queue_push queues (e i) (g i) (slice_get queues (e i).0)))
 
-  pub dropped_so : (dropped spent r : Act) → false ≡ has_room queues d x → dropped ≡ s.dropped → spent ≡ s.spent → r ≡ drop_by (slice_get queues d.0) dropped spent → r ≡ send_act queues s
-  dropped_so dropped spent r h g k l = act_by false r h (l ∙ (λ i. drop_by (slice_get queues (e i).0) (g i) (k i)) ∙ drop_is (slice_get queues s.dev.0) s)
+  pub dropped_so : (r : Act) → false ≡ has_room queues d x → r ≡ drop_by (slice_get queues s.dev.0) s.dropped s.spent → r ≡ send_act queues s
+  dropped_so r h l = act_by false r h (l ∙ drop_is (slice_get queues s.dev.0) s)
 
   pub stays_so : (new : Queues) → false ≡ has_room queues d x → new ≡ queues → new ≡ send_queues queues s
   stays_so new h k = queues_by false new h k

@@ -2,8 +2,7 @@ ghost use Rattle.std.specs.Prelude.{◌≡◌, ◌∷◌, IfOk, IsTrue, slice_ge
 ghost use Rattle.node_model.specs.State.{no_queues};
 ghost use Rattle.node_parts.specs.Queued.{has_first, is_filled, queued_at, TakesFirst};
 
-use link_queue::Queue;
-use node_model::Lane;
+use node_model::{Lane, Queue};
 use plan_base::NoMemory;
 use plan_items::Items;
 use spelled_frame::SpelledFrame;

@@ -12,11 +12,20 @@ pub type Leavings = Items<Leaving>;
 
 /// A frame to be queued: on which device, and the bound that was paid, where it holds a packet. Contracts see it with the act
 /// where it is queued or dropped; only the one that comes true is made.
-#[derive(Drop)]
 pub struct Leaving {
     dev: Dev,
     frame: SpelledFrame,
     bound: u32,
+}
+
+impl Drop for Leaving {
+    fn drop(self) {
+        let Leaving {
+            dev: _dev,
+            frame: _frame,
+            bound: _bound,
+        } = self;
+    }
 }
 
 impl Model for Leaving {
@@ -87,7 +96,12 @@ impl Leaving {
     pub(crate) fn into_frame(self) -> SpelledFrame
         ensures { result ≡ self.frame }
     {
-        self.frame
+        let Leaving {
+            dev: _dev,
+            frame,
+            bound: _bound,
+        } = self;
+        frame
     }
 
     /// The act where its device has room. Takes no memory.

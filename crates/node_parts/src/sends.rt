@@ -12,7 +12,7 @@ use spelled_frame::SpelledFrame;
 use std::alloc::AllocError;
 
 /// The number of frames that a device's queue holds.
-const MOST_QUEUED: u32 = link_queue::MOST_QUEUED;
+const MOST_QUEUED: u32 = node_model::MOST_QUEUED;
 
 /// Whether a device's queue has room.
 fn lane_room(lane: &Lane) -> bool
@@ -68,12 +68,17 @@ fn queue_frame(lanes: &mut [Lane], dev: Dev, frame: SpelledFrame)
 }
 
 /// The act of a frame that isn't queued.
-fn drop_act(lanes: &[Lane], dev: Dev, dropped: Act, spent: Act) -> Act
-    ensures { result ≡ drops.drop_by (slice_get lanes.now dev.0) dropped spent }
+fn drop_act(lanes: &[Lane], sending: &Leaving) -> Act
+    ensures { result ≡ drops.drop_by (slice_get lanes.now sending.now.dev.0) sending.now.dropped
+        sending.now.spent }
 {
-    match lanes.get(dev.0 as usize) {
-        None => dropped,
-        Some(lane) => if lane_room(lane) { spent } else { dropped },
+    match lanes.get(sending.dev().0 as usize) {
+        None => sending.dropped(),
+        Some(lane) => if lane_room(lane) {
+            sending.spent()
+        } else {
+            sending.dropped()
+        },
     }
 }
 
@@ -89,7 +94,7 @@ pub fn send_one(lanes: &mut [Lane], sending: Leaving) -> Act
         queue_frame(lanes, dev, sending.into_frame());
         queued
     } else {
-        drop_act(lanes, dev, sending.dropped(), sending.spent())
+        drop_act(lanes, &sending)
     }
 }
 
@@ -118,6 +123,20 @@ fn note_all(acts: &mut Vec<Act>, notes: Notes)
     }
 }
 
+/// Adds the notes of a visit, its end and the act of its handler, if there is one. Condition: there is room for them. Takes no
+/// memory.
+fn add_end(acts: &mut Vec<Act>, notes: Notes, end: Act, handled: Option<Act>)
+    requires { vec_len acts.old + length notes + 2 ≤ vec_capacity acts.old }
+    ensures { acts.new.items ≡ acts.old.items ++
+        (map Noted notes ++ (end ∷ option_to_list handled)) }
+{
+    note_all(acts, notes);
+    acts.push_reserved(end);
+    if let Some(act) = handled {
+        acts.push_reserved(act);
+    }
+}
+
 /// What a step lists: some acts, the notes of a visit, its end and the act of its handler, if there is one, with room for its
 /// sends.
 pub fn begin_acts(
@@ -132,12 +151,17 @@ pub fn begin_acts(
     ensures room { IfOk result (λ acts. vec_len acts + sends ≤ vec_capacity acts) }
 {
     let mut acts = before.into_vec();
-    acts.reserve(notes.len() + 1)?;
-    note_all(&mut acts, notes);
-    acts.push_reserved(end);
-    if let Some(act) = handled {
-        acts.push(act)?;
+    match acts.reserve(notes.len() + 2) {
+        Ok(()) => {
+            add_end(&mut acts, notes, end, handled);
+            acts.reserve(sends)?;
+            Ok(acts)
+        }
+        Err(refused) => {
+            drop(notes);
+            drop(end);
+            drop(handled);
+            Err(refused)
+        }
     }
-    acts.reserve(sends)?;
-    Ok(acts)
 }

@@ -43,7 +43,6 @@ pub struct Stamped {
 }
 
 /// A chunk that was read, where it is typed.
-#[tactic(auto, using(crate::proofs::Carried::chunk_is_formed, crate::proofs::Carried::chunk_is_full, crate::proofs::Carried::chunk_is_small))]
 fn typed_chunk(
     alloc: Global,
     chunk: Chunk,
@@ -117,11 +116,13 @@ fn checked_packet(
         chunk,
         handler,
     } = p;
-    let chunk = typed_chunk(alloc, chunk, known)?;
-    with_handler(
-        CheckedPacket::of(family, dest, bound, route, chunk),
-        handler,
-    )
+    match typed_chunk(alloc, chunk, known) {
+        Ok(chunk) => with_handler(
+            CheckedPacket::of(family, dest, bound, route, chunk),
+            handler,
+        ),
+        Err(fault) => Err(fault),
+    }
 }
 
 /// A frame that was read, where its chunk is typed and its handler may handle.
@@ -139,9 +140,15 @@ fn checked_frame(
         (CarriesIll plain e ⊎ CarriesNoHandler plain e)) }
 {
     match plain {
-        PlainFrame::Packet(p) => Ok(Frame::Packet(checked_packet(alloc, p, known)?)),
+        PlainFrame::Packet(p) => match checked_packet(alloc, p, known) {
+            Ok(packet) => Ok(Frame::Packet(packet)),
+            Err(fault) => Err(fault),
+        },
         PlainFrame::Advert(a) => Ok(Frame::Advert(a)),
-        PlainFrame::Ask(bound, chunk) => Ok(Frame::Ask(bound, typed_chunk(alloc, chunk, known)?)),
+        PlainFrame::Ask(bound, chunk) => match typed_chunk(alloc, chunk, known) {
+            Ok(chunk) => Ok(Frame::Ask(bound, chunk)),
+            Err(fault) => Err(fault),
+        },
     }
 }
 
@@ -156,8 +163,10 @@ pub fn get_frame(alloc: Global, bytes: &[u8], known: Option<&Checked>) -> Result
         (λ e. e ≡ FrameFault.NoMemory) }
     ensures fault { IfErr result (λ e. (e ≡ FrameFault.NoMemory) ⊎ FrameFirst e bytes.now) }
 {
-    let plain = get_plain_frame(alloc, bytes)?;
-    checked_frame(alloc, plain, known)
+    match get_plain_frame(alloc, bytes) {
+        Ok(plain) => checked_frame(alloc, plain, known),
+        Err(fault) => Err(fault),
+    }
 }
 
 /// A frame of version 2 that was read, where its chunk is typed and its handler may handle.
@@ -175,15 +184,16 @@ fn checked_stamped(
         (CarriesIll plain.frame e ⊎ CarriesNoHandler plain.frame e)) }
 {
     let PlainStamped { stamp, frame } = plain;
-    let frame = checked_frame(alloc, frame, known)?;
-    Ok(Stamped { stamp, frame })
+    match checked_frame(alloc, frame, known) {
+        Ok(frame) => Ok(Stamped { stamp, frame }),
+        Err(fault) => Err(fault),
+    }
 }
 
 /// Reads a frame as a node of version 2 does.
 ///
 /// Ok exactly where all the bytes, at most 16,512, are its spelling, its chunk is typed, and the code of that chunk has the
 /// function that its handler names, if any, which may handle; otherwise the first fault.
-#[tactic(auto, using(crate::proofs::Carried::two_spelled, crate::proofs::Carried::two_only))]
 pub fn get_frame2(
     alloc: Global,
     bytes: &[u8],
@@ -194,6 +204,8 @@ pub fn get_frame2(
         (λ y. stamped_plain y ≡ x) (λ e. e ≡ FrameFault.NoMemory) }
     ensures fault { IfErr result (λ e. (e ≡ FrameFault.NoMemory) ⊎ StampedFirst e bytes.now) }
 {
-    let plain = get_plain_stamped(alloc, bytes)?;
-    checked_stamped(alloc, plain, known)
+    match get_plain_stamped(alloc, bytes) {
+        Ok(plain) => checked_stamped(alloc, plain, known),
+        Err(fault) => Err(fault),
+    }
 }

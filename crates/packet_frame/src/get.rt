@@ -86,7 +86,6 @@ pub fn bound_of(c: &mut Cursor<'_>) -> Result<u32, FrameFault>
 }
 
 /// The name of a routing function.
-#[tactic(auto, using(crate::proofs::Carries::route_read, crate::proofs::Carries::route_refused))]
 pub fn route_of(alloc: Global, c: &mut Cursor<'_>) -> Result<Name, FrameFault>
     ensures { Gives result c.new (route_at (from_front c.old)) }
 {
@@ -94,7 +93,6 @@ pub fn route_of(alloc: Global, c: &mut Cursor<'_>) -> Result<Name, FrameFault>
 }
 
 /// The chunk that a frame carries.
-#[tactic(auto, using(crate::proofs::Carries::chunk_read, crate::proofs::Carries::chunk_refused))]
 pub fn chunk_of(alloc: Global, c: &mut Cursor<'_>) -> Result<Chunk, FrameFault>
     ensures { Gives result c.new (carried_at (from_front c.old)) }
 {
@@ -111,15 +109,17 @@ pub fn packet_of(alloc: Global, c: &mut Cursor<'_>) -> Result<PlainFrame, FrameF
     let dest = Host(word_of(c)?);
     let bound = bound_of(c)?;
     let route = route_of(alloc, c)?;
-    let chunk = chunk_of(alloc, c)?;
-    Ok(PlainFrame::Packet(Packet {
-        family: Family { source, serial },
-        dest,
-        bound,
-        route,
-        chunk,
-        handler: None,
-    }))
+    match chunk_of(alloc, c) {
+        Ok(chunk) => Ok(PlainFrame::Packet(Packet {
+            family: Family { source, serial },
+            dest,
+            bound,
+            route,
+            chunk,
+            handler: None,
+        })),
+        Err(fault) => Err(fault),
+    }
 }
 
 /// How many rows an advert has.
@@ -203,8 +203,10 @@ pub fn ask_of(alloc: Global, c: &mut Cursor<'_>) -> Result<PlainFrame, FrameFaul
         (from_front c.old)) }
 {
     let bound = bound_of(c)?;
-    let chunk = chunk_of(alloc, c)?;
-    Ok(PlainFrame::Ask(bound, chunk))
+    match chunk_of(alloc, c) {
+        Ok(chunk) => Ok(PlainFrame::Ask(bound, chunk)),
+        Err(fault) => Err(fault),
+    }
 }
 
 /// The form of a kind.
@@ -255,6 +257,7 @@ pub fn get_plain_frame(alloc: Global, bytes: &[u8]) -> Result<PlainFrame, FrameF
     let frame = frame_of(alloc, &mut c)?;
     let end = c.at();
     if (end as usize) < bytes.len() {
+        drop(frame);
         return Err(FrameFault::Trailing(end));
     }
     Ok(frame)

@@ -65,11 +65,13 @@ fn plain_ask(alloc: Global, c: &mut Cursor<'_>) -> Result<PlainStamped, FrameFau
         (from_front c.old)) }
 {
     let bound = bound_of(c)?;
-    let chunk = chunk_of(alloc, c)?;
-    Ok(PlainStamped {
-        stamp: None,
-        frame: PlainFrame::Ask(bound, chunk),
-    })
+    match chunk_of(alloc, c) {
+        Ok(chunk) => Ok(PlainStamped {
+            stamp: None,
+            frame: PlainFrame::Ask(bound, chunk),
+        }),
+        Err(fault) => Err(fault),
+    }
 }
 
 /// A packet behind its stamp.
@@ -84,18 +86,20 @@ fn stamped_packet(alloc: Global, c: &mut Cursor<'_>) -> Result<PlainStamped, Fra
     let dest = Host(word_of(c)?);
     let bound = bound_of(c)?;
     let route = route_of(alloc, c)?;
-    let chunk = chunk_of(alloc, c)?;
-    Ok(PlainStamped {
-        stamp: Some(Stamp { boot, link }),
-        frame: PlainFrame::Packet(Packet {
-            family: Family { source, serial },
-            dest,
-            bound,
-            route,
-            chunk,
-            handler: None,
+    match chunk_of(alloc, c) {
+        Ok(chunk) => Ok(PlainStamped {
+            stamp: Some(Stamp { boot, link }),
+            frame: PlainFrame::Packet(Packet {
+                family: Family { source, serial },
+                dest,
+                bound,
+                route,
+                chunk,
+                handler: None,
+            }),
         }),
-    })
+        Err(fault) => Err(fault),
+    }
 }
 
 /// A packet with a handler behind its stamp.
@@ -111,18 +115,20 @@ fn stamped_handled(alloc: Global, c: &mut Cursor<'_>) -> Result<PlainStamped, Fr
     let bound = bound_of(c)?;
     let route = route_of(alloc, c)?;
     let handler = route_of(alloc, c)?;
-    let chunk = chunk_of(alloc, c)?;
-    Ok(PlainStamped {
-        stamp: Some(Stamp { boot, link }),
-        frame: PlainFrame::Packet(Packet {
-            family: Family { source, serial },
-            dest,
-            bound,
-            route,
-            chunk,
-            handler: Some(handler),
+    match chunk_of(alloc, c) {
+        Ok(chunk) => Ok(PlainStamped {
+            stamp: Some(Stamp { boot, link }),
+            frame: PlainFrame::Packet(Packet {
+                family: Family { source, serial },
+                dest,
+                bound,
+                route,
+                chunk,
+                handler: Some(handler),
+            }),
         }),
-    })
+        Err(fault) => Err(fault),
+    }
 }
 
 /// An advert behind its stamp.
@@ -182,6 +188,7 @@ pub fn get_plain_stamped(alloc: Global, bytes: &[u8]) -> Result<PlainStamped, Fr
     let frame = stamped_of(alloc, &mut c)?;
     let end = c.at();
     if (end as usize) < bytes.len() {
+        drop(frame);
         return Err(FrameFault::Trailing(end));
     }
     Ok(frame)

@@ -49,7 +49,6 @@ pub fn put_rows(rows: &[AdvertRow], out: &mut Out)
 }
 
 /// The number of bytes of a chunk. Condition: it keeps the limits of its spelling.
-#[tactic(auto, using(crate::proofs::Sizes::chunk_small, chunk_spelling::proofs::LengthLaws::chunk_length))]
 pub fn size_of(c: &CheckedChunk) -> u32
     requires { a_whole_chunk.Fits c.now }
     ensures size { result ≡ length (chunk_bytes c.now) }
@@ -59,7 +58,6 @@ pub fn size_of(c: &CheckedChunk) -> u32
 }
 
 /// Puts a chunk. Conditions: it keeps the limits of its spelling, and the bytes have room.
-#[tactic(auto, using(crate::proofs::Sizes::chunk_can))]
 pub fn put_carried(c: &Chunk, out: &mut Out)
     requires fits { a_whole_chunk.Fits c.now }
     requires room { length (chunk_bytes c.now) ≤ out.old.room }
@@ -70,7 +68,6 @@ pub fn put_carried(c: &Chunk, out: &mut Out)
 }
 
 /// The frame of an advert. Conditions: at most 32 rows, whose hosts ascend and whose costs are at most 65,535.
-#[tactic(auto, using(crate::proofs::Sizes::spells_advert, crate::proofs::Sizes::rows_size))]
 pub fn put_advert(alloc: Global, a: &Advert) -> Result<Bytes, NoMemory>
     requires { FrameFits (Plain.Advert a.now) }
     ensures { IfOk result (λ b. SpellsFrame b (Plain.Advert a.now)) }
@@ -108,7 +105,6 @@ pub fn put_way(family: Family, dest: Host, out: &mut Out)
 }
 
 /// The frame of a packet with another bound. Conditions: that bound is at most 65,535, and it has no handler.
-#[tactic(auto, using(crate::proofs::Sizes::packet_spelled, crate::proofs::Sizes::route_short))]
 pub fn put_packet(alloc: Global, packet: &CheckedPacket, new_bound: u32) -> Result<Bytes, NoMemory>
     requires bound { new_bound ≤ 65535 }
     requires plain { packet.now.handler ≡ None }
@@ -128,7 +124,6 @@ pub fn put_packet(alloc: Global, packet: &CheckedPacket, new_bound: u32) -> Resu
 }
 
 /// The frame of an ask. Condition: the bound is at most 65,535.
-#[tactic(auto, using(crate::proofs::Sizes::ask_spelled))]
 pub fn put_ask(alloc: Global, bound: u32, c: &CheckedChunk) -> Result<Bytes, NoMemory>
     requires { bound ≤ 65535 }
     ensures { IfOk result (λ b. SpellsFrame b (Plain.Ask bound c.now)) }

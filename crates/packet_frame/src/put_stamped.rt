@@ -28,7 +28,6 @@ fn put_stamped_head(kind: u8, s: Stamp, out: &mut Out)
 }
 
 /// The frame of an advert under version 2. Conditions: at most 32 rows, whose hosts ascend and whose costs are at most 65,535.
-#[tactic(auto, using(crate::proofs::StampedSizes::spells_advert2, crate::proofs::Sizes::rows_size))]
 pub fn put_advert2(alloc: Global, a: &Advert, s: Stamp) -> Result<Bytes, NoMemory>
     requires { FrameFits (Plain.Advert a.now) }
     ensures { IfOk result (λ b. SpellsStamped b (record
@@ -44,7 +43,6 @@ pub fn put_advert2(alloc: Global, a: &Advert, s: Stamp) -> Result<Bytes, NoMemor
 }
 
 /// The frame of a packet without a handler.
-#[tactic(auto, using(crate::proofs::Sizes::route_short))]
 fn put_plain2(
     alloc: Global,
     packet: &CheckedPacket,
@@ -69,7 +67,6 @@ fn put_plain2(
 }
 
 /// The frame of a packet with a handler.
-#[tactic(auto, using(crate::proofs::Sizes::route_short))]
 fn put_handled(
     alloc: Global,
     packet: &CheckedPacket,

@@ -1,5 +1,5 @@
 /// A primitive: a function that every program may call and no program declares.
-#[derive(Clone, Copy, PartialEq, Eq)]
+#[derive(Clone, Copy)]
 pub enum Primitive {
     /// `hd`, the first item of a list.
     Hd,

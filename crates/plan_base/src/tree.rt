@@ -144,7 +144,6 @@ pub struct Clause {
 pub type Svcs = Items<Svc>;
 
 /// A declared service.
-#[derive(Drop)]
 pub struct Svc {
     /// Its name.
     pub name: Name,
@@ -152,6 +151,17 @@ pub struct Svc {
     pub params: Tys,
     /// The type of its answer.
     pub result: Ty,
+}
+
+impl Drop for Svc {
+    fn drop(self) {
+        let Svc {
+            name: _name,
+            params: _params,
+            result,
+        } = self;
+        drop(result);
+    }
 }
 
 /// A list of parameters.
@@ -170,7 +180,6 @@ pub struct Param {
 pub type Funs = Items<Fun>;
 
 /// A function of a program.
-#[derive(Drop)]
 pub struct Fun {
     /// Its name.
     pub name: Name,
@@ -180,6 +189,19 @@ pub struct Fun {
     pub result: Ty,
     /// What it computes.
     pub body: Expr,
+}
+
+impl Drop for Fun {
+    fn drop(self) {
+        let Fun {
+            name: _name,
+            params: _params,
+            result,
+            body,
+        } = self;
+        drop(result);
+        drop(body);
+    }
 }
 
 /// A program: services, exceptions and functions, at most 64 of each and at least one function.
@@ -192,7 +214,8 @@ pub struct Program {
     pub funs: Funs,
 }
 
-// (with a drop of its own, so that a crate which lets a program go need not prove again how its expressions are dropped)
+// (as a service and a function with a drop of its own, so that a crate which lets a program go need not prove again how its
+// expressions are dropped)
 impl Drop for Program {
     fn drop(self) {
         let Program {
@@ -282,7 +305,7 @@ pub struct Packet {
 }
 
 /// A place in a draft: a declaration or an expression, by its number from 0.
-#[derive(Clone, Copy, PartialEq, Eq)]
+#[derive(Clone, Copy)]
 pub enum Place {
     /// A declaration.
     Decl(u32),

@@ -1,6 +1,7 @@
 ghost use Rattle.std.specs.Prelude.{◌≡◌, IfOk};
 
 use plan_base::NoMemory;
+use plan_items::Items;
 use std::alloc::Global;
 
 /// Trees that are copied whole.
@@ -8,4 +9,25 @@ pub trait Copied {
     /// The same tree.
     fn copy(&self, alloc: Global) -> Result<Self, NoMemory>
         ensures { IfOk result (λ t. t ≡ self.now) };
+}
+
+/// The same trees.
+pub fn copy_items<T: Copied + Drop>(alloc: Global, items: &[T]) -> Result<Items<T>, NoMemory>
+    ensures { IfOk result (λ copies. copies ≡ items.now) }
+{
+    let mut done = Items::new(alloc);
+    for item in items {
+        done.add(item.copy(alloc)?)?;
+    }
+    Ok(done)
+}
+
+/// The same tree, where there is one.
+pub fn copy_option<T: Copied + Drop>(alloc: Global, item: &Option<T>) -> Result<Option<T>, NoMemory>
+    ensures { IfOk result (λ copied. copied ≡ item.now) }
+{
+    match item {
+        None => Ok(None),
+        Some(item) => Ok(Some(item.copy(alloc)?)),
+    }
 }

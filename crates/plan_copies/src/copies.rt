@@ -1,7 +1,7 @@
-ghost use Rattle.std.specs.Prelude.{◌≡◌, [], IfOk};
+ghost use Rattle.std.specs.Prelude.{◌≡◌, [], ◌∷◌, ◌++◌, IfOk, OnOk};
 ghost use Rattle.plan_base.specs.declared.tree.Expr.{Expr};
 
-use crate::copied::Copied;
+use crate::copied::{Copied, copy_items, copy_option};
 use plan_base::{
     Chunk, Clause, Clauses, Draft, Exn, Expr, Exprs, Fun, Funs, Name, Names, NoMemory, Packet,
     Param, Params, Places, Program, Svc, Svcs, Ty, Tys, Value, Values,
@@ -33,8 +33,24 @@ fn copy_type(alloc: Global, t: &Ty) -> Result<Ty, NoMemory>
         Ty::Host => Ok(Ty::Host),
         Ty::Dev => Ok(Ty::Dev),
         Ty::Chunk => Ok(Ty::Chunk),
-        Ty::List(item) => Ok(Ty::List(Boxed::new(alloc, copy_type(alloc, item.get())?)?)),
-        Ty::Tuple(parts) => Ok(Ty::Tuple(copy_types(alloc, parts.as_slice())?)),
+        Ty::List(item) => match copy_boxed_type(alloc, item) {
+            Ok(item) => Ok(Ty::List(item)),
+            Err(fault) => Err(fault),
+        },
+        Ty::Tuple(parts) => match copy_types(alloc, parts.as_slice()) {
+            Ok(parts) => Ok(Ty::Tuple(parts)),
+            Err(fault) => Err(fault),
+        },
+    }
+}
+
+#[cycle(copy_type)]
+fn copy_boxed_type(alloc: Global, t: &Boxed<Ty>) -> Result<Boxed<Ty>, NoMemory>
+    ensures { IfOk result (λ u. u ≡ t.now) }
+{
+    match copy_type(alloc, t.get()) {
+        Ok(copied) => Ok(Boxed::new(alloc, copied)?),
+        Err(fault) => Err(fault),
     }
 }
 
@@ -45,26 +61,28 @@ pub fn copy_types(alloc: Global, types: &[Ty]) -> Result<Tys, NoMemory>
 {
     let mut done = Items::new(alloc);
     for t in types {
-        done.add(copy_type(alloc, t)?)?;
+        add_type(alloc, t, &mut done)?;
     }
     Ok(done)
 }
 
-fn copy_option_type(alloc: Global, t: &Option<Ty>) -> Result<Option<Ty>, NoMemory>
-    ensures { IfOk result (λ u. u ≡ t.now) }
+/// Adds the same type.
+#[cycle(copy_type)]
+fn add_type(alloc: Global, t: &Ty, done: &mut Tys) -> Result<(), NoMemory>
+    ensures { OnOk result (done.new ≡ done.old ++ t.now ∷ []) }
 {
-    match t {
-        Some(t) => Ok(Some(t.copy(alloc)?)),
-        None => Ok(None),
+    match copy_type(alloc, t) {
+        Ok(copied) => Ok(done.add(copied)?),
+        Err(fault) => Err(fault),
     }
 }
 
-fn copy_option_name(alloc: Global, name: &Option<Name>) -> Result<Option<Name>, NoMemory>
-    ensures { IfOk result (λ n. n ≡ name.now) }
-{
-    match name {
-        Some(name) => Ok(Some(name.copy(alloc)?)),
-        None => Ok(None),
+impl Copied for Name {
+    /// The same name.
+    fn copy(&self, alloc: Global) -> Result<Name, NoMemory>
+        ensures { IfOk result (λ n. n ≡ self.now) }
+    {
+        Name::copy(self, alloc)
     }
 }
 
@@ -72,11 +90,7 @@ fn copy_option_name(alloc: Global, name: &Option<Name>) -> Result<Option<Name>, 
 pub fn copy_names(alloc: Global, names: &[Name]) -> Result<Names, NoMemory>
     ensures { IfOk result (λ copies. copies ≡ names.now) }
 {
-    let mut done = Items::new(alloc);
-    for name in names {
-        done.add(name.copy(alloc)?)?;
-    }
-    Ok(done)
+    copy_items(alloc, names)
 }
 
 impl Copied for Expr {
@@ -121,7 +135,10 @@ fn copy_leaf(alloc: Global, e: &Expr) -> Result<Expr, NoMemory>
         Expr::Blob(b) => Ok(Expr::Blob(b.copy(alloc)?)),
         Expr::Host(h) => Ok(Expr::Host(*h)),
         Expr::Dev(d) => Ok(Expr::Dev(*d)),
-        Expr::Nil(t) => Ok(Expr::Nil(copy_option_type(alloc, t)?)),
+        Expr::Nil(t) => match copy_option(alloc, t) {
+            Ok(t) => Ok(Expr::Nil(t)),
+            Err(fault) => Err(fault),
+        },
         Expr::Var(x) => Ok(Expr::Var(x.copy(alloc)?)),
         Expr::Raise(x, t) => copy_raise(alloc, x, t),
         _ => Err(NoMemory),
@@ -132,7 +149,11 @@ fn copy_leaf(alloc: Global, e: &Expr) -> Result<Expr, NoMemory>
 fn copy_raise(alloc: Global, x: &Name, t: &Option<Ty>) -> Result<Expr, NoMemory>
     ensures { IfOk result (λ copied. copied ≡ Expr.Raise x.now t.now) }
 {
-    Ok(Expr::Raise(x.copy(alloc)?, copy_option_type(alloc, t)?))
+    let x = x.copy(alloc)?;
+    match copy_option(alloc, t) {
+        Ok(t) => Ok(Expr::Raise(x, t)),
+        Err(fault) => Err(fault),
+    }
 }
 
 /// An expression with one part or a list of parts; the others have functions of their own.
@@ -142,18 +163,30 @@ fn copy_row(alloc: Global, e: &Expr) -> Result<Expr, NoMemory>
     ensures { IfOk result (λ f. f ≡ e.now) }
 {
     match e {
-        Expr::Tuple(es) => Ok(Expr::Tuple(copy_exprs(alloc, es.as_slice())?)),
-        Expr::Call(f, es) => {
-            let (f, es) = copy_call(alloc, f, es)?;
-            Ok(Expr::Call(f, es))
-        }
-        Expr::ChunkOf(f, es) => {
-            let (f, es) = copy_call(alloc, f, es)?;
-            Ok(Expr::ChunkOf(f, es))
-        }
-        Expr::Not(a) => Ok(Expr::Not(copy_boxed(alloc, a)?)),
-        Expr::Part(i, a) => Ok(Expr::Part(*i, copy_boxed(alloc, a)?)),
-        Expr::Eval(c) => Ok(Expr::Eval(copy_boxed(alloc, c)?)),
+        Expr::Tuple(es) => match copy_exprs(alloc, es.as_slice()) {
+            Ok(es) => Ok(Expr::Tuple(es)),
+            Err(fault) => Err(fault),
+        },
+        Expr::Call(f, es) => match copy_call(alloc, f, es) {
+            Ok((f, es)) => Ok(Expr::Call(f, es)),
+            Err(fault) => Err(fault),
+        },
+        Expr::ChunkOf(f, es) => match copy_call(alloc, f, es) {
+            Ok((f, es)) => Ok(Expr::ChunkOf(f, es)),
+            Err(fault) => Err(fault),
+        },
+        Expr::Not(a) => match copy_boxed(alloc, a) {
+            Ok(a) => Ok(Expr::Not(a)),
+            Err(fault) => Err(fault),
+        },
+        Expr::Part(i, a) => match copy_boxed(alloc, a) {
+            Ok(a) => Ok(Expr::Part(*i, a)),
+            Err(fault) => Err(fault),
+        },
+        Expr::Eval(c) => match copy_boxed(alloc, c) {
+            Ok(c) => Ok(Expr::Eval(c)),
+            Err(fault) => Err(fault),
+        },
         _ => Err(NoMemory),
     }
 }
@@ -165,30 +198,30 @@ fn copy_pair(alloc: Global, e: &Expr) -> Result<Expr, NoMemory>
     ensures { IfOk result (λ f. f ≡ e.now) }
 {
     match e {
-        Expr::Then(a, b) => {
-            let (a, b) = copy_two(alloc, a, b)?;
-            Ok(Expr::Then(a, b))
-        }
-        Expr::And(a, b) => {
-            let (a, b) = copy_two(alloc, a, b)?;
-            Ok(Expr::And(a, b))
-        }
-        Expr::Or(a, b) => {
-            let (a, b) = copy_two(alloc, a, b)?;
-            Ok(Expr::Or(a, b))
-        }
-        Expr::Binary(op, a, b) => {
-            let (a, b) = copy_two(alloc, a, b)?;
-            Ok(Expr::Binary(*op, a, b))
-        }
-        Expr::Foldl(f, a, l) => {
-            let (f, a, l) = copy_named(alloc, f, a, l)?;
-            Ok(Expr::Foldl(f, a, l))
-        }
-        Expr::Foldr(f, a, l) => {
-            let (f, a, l) = copy_named(alloc, f, a, l)?;
-            Ok(Expr::Foldr(f, a, l))
-        }
+        Expr::Then(a, b) => match copy_two(alloc, a, b) {
+            Ok((a, b)) => Ok(Expr::Then(a, b)),
+            Err(fault) => Err(fault),
+        },
+        Expr::And(a, b) => match copy_two(alloc, a, b) {
+            Ok((a, b)) => Ok(Expr::And(a, b)),
+            Err(fault) => Err(fault),
+        },
+        Expr::Or(a, b) => match copy_two(alloc, a, b) {
+            Ok((a, b)) => Ok(Expr::Or(a, b)),
+            Err(fault) => Err(fault),
+        },
+        Expr::Binary(op, a, b) => match copy_two(alloc, a, b) {
+            Ok((a, b)) => Ok(Expr::Binary(*op, a, b)),
+            Err(fault) => Err(fault),
+        },
+        Expr::Foldl(f, a, l) => match copy_named(alloc, f, a, l) {
+            Ok((f, a, l)) => Ok(Expr::Foldl(f, a, l)),
+            Err(fault) => Err(fault),
+        },
+        Expr::Foldr(f, a, l) => match copy_named(alloc, f, a, l) {
+            Ok((f, a, l)) => Ok(Expr::Foldr(f, a, l)),
+            Err(fault) => Err(fault),
+        },
         _ => Err(NoMemory),
     }
 }
@@ -203,8 +236,13 @@ fn copy_if(
 ) -> Result<Expr, NoMemory>
     ensures { IfOk result (λ copied. copied ≡ Expr.If c.now a.now b.now) }
 {
-    let (a, b) = copy_two(alloc, a, b)?;
-    Ok(Expr::If(copy_boxed(alloc, c)?, a, b))
+    match copy_two(alloc, a, b) {
+        Ok((a, b)) => match copy_boxed(alloc, c) {
+            Ok(c) => Ok(Expr::If(c, a, b)),
+            Err(fault) => Err(fault),
+        },
+        Err(fault) => Err(fault),
+    }
 }
 
 #[cycle(copy_expr)]
@@ -218,8 +256,13 @@ fn copy_let(
 ) -> Result<Expr, NoMemory>
     ensures { IfOk result (λ copied. copied ≡ Expr.Let x.now t.now a.now b.now) }
 {
-    let (x, a, b) = copy_named(alloc, x, a, b)?;
-    Ok(Expr::Let(x, t.copy(alloc)?, a, b))
+    match copy_named(alloc, x, a, b) {
+        Ok((x, a, b)) => match t.copy(alloc) {
+            Ok(t) => Ok(Expr::Let(x, t, a, b)),
+            Err(fault) => Err(fault),
+        },
+        Err(fault) => Err(fault),
+    }
 }
 
 #[cycle(copy_expr)]
@@ -227,10 +270,13 @@ fn copy_let(
 fn copy_try(alloc: Global, a: &Boxed<Expr>, clauses: &Clauses) -> Result<Expr, NoMemory>
     ensures { IfOk result (λ copied. copied ≡ Expr.Try a.now clauses.now) }
 {
-    Ok(Expr::Try(
-        copy_boxed(alloc, a)?,
-        copy_clauses(alloc, clauses.as_slice())?,
-    ))
+    match copy_boxed(alloc, a) {
+        Ok(a) => match copy_clauses(alloc, clauses.as_slice()) {
+            Ok(clauses) => Ok(Expr::Try(a, clauses)),
+            Err(fault) => Err(fault),
+        },
+        Err(fault) => Err(fault),
+    }
 }
 
 #[cycle(copy_expr)]
@@ -244,8 +290,13 @@ fn copy_on_remote(
 ) -> Result<Expr, NoMemory>
     ensures { IfOk result (λ copied. copied ≡ Expr.OnRemote c.now h.now n.now r.now) }
 {
-    let (r, h, n) = copy_named(alloc, r, h, n)?;
-    Ok(Expr::OnRemote(copy_boxed(alloc, c)?, h, n, r))
+    match copy_named(alloc, r, h, n) {
+        Ok((r, h, n)) => match copy_boxed(alloc, c) {
+            Ok(c) => Ok(Expr::OnRemote(c, h, n, r)),
+            Err(fault) => Err(fault),
+        },
+        Err(fault) => Err(fault),
+    }
 }
 
 #[cycle(copy_expr)]
@@ -259,9 +310,13 @@ fn copy_on_neighbor(
 ) -> Result<Expr, NoMemory>
     ensures { IfOk result (λ copied. copied ≡ Expr.OnNeighbor c.now h.now n.now d.now) }
 {
-    let (c, h) = copy_two(alloc, c, h)?;
-    let (n, d) = copy_two(alloc, n, d)?;
-    Ok(Expr::OnNeighbor(c, h, n, d))
+    match copy_two(alloc, c, h) {
+        Ok((c, h)) => match copy_two(alloc, n, d) {
+            Ok((n, d)) => Ok(Expr::OnNeighbor(c, h, n, d)),
+            Err(fault) => Err(fault),
+        },
+        Err(fault) => Err(fault),
+    }
 }
 
 /// A name and a list of arguments.
@@ -269,7 +324,11 @@ fn copy_on_neighbor(
 fn copy_call(alloc: Global, f: &Name, args: &Exprs) -> Result<(Name, Exprs), NoMemory>
     ensures { IfOk result (λ copied. copied ≡ (f.now, args.now)) }
 {
-    Ok((f.copy(alloc)?, copy_exprs(alloc, args.as_slice())?))
+    let f = f.copy(alloc)?;
+    match copy_exprs(alloc, args.as_slice()) {
+        Ok(args) => Ok((f, args)),
+        Err(fault) => Err(fault),
+    }
 }
 
 /// A name and two parts.
@@ -282,8 +341,11 @@ fn copy_named(
 ) -> Result<(Name, Boxed<Expr>, Boxed<Expr>), NoMemory>
     ensures { IfOk result (λ copied. copied ≡ (x.now, a.now, b.now)) }
 {
-    let (a, b) = copy_two(alloc, a, b)?;
-    Ok((x.copy(alloc)?, a, b))
+    let x = x.copy(alloc)?;
+    match copy_two(alloc, a, b) {
+        Ok((a, b)) => Ok((x, a, b)),
+        Err(fault) => Err(fault),
+    }
 }
 
 /// Two parts.
@@ -295,7 +357,13 @@ fn copy_two(
 ) -> Result<(Boxed<Expr>, Boxed<Expr>), NoMemory>
     ensures { IfOk result (λ copied. copied ≡ (a.now, b.now)) }
 {
-    Ok((copy_boxed(alloc, a)?, copy_boxed(alloc, b)?))
+    match copy_boxed(alloc, a) {
+        Ok(a) => match copy_boxed(alloc, b) {
+            Ok(b) => Ok((a, b)),
+            Err(fault) => Err(fault),
+        },
+        Err(fault) => Err(fault),
+    }
 }
 
 /// One part.
@@ -303,7 +371,10 @@ fn copy_two(
 fn copy_boxed(alloc: Global, e: &Boxed<Expr>) -> Result<Boxed<Expr>, NoMemory>
     ensures { IfOk result (λ f. f ≡ e.now) }
 {
-    Ok(Boxed::new(alloc, copy_expr(alloc, e.get())?)?)
+    match copy_expr(alloc, e.get()) {
+        Ok(copied) => Ok(Boxed::new(alloc, copied)?),
+        Err(fault) => Err(fault),
+    }
 }
 
 /// The same expressions.
@@ -313,9 +384,20 @@ pub fn copy_exprs(alloc: Global, exprs: &[Expr]) -> Result<Exprs, NoMemory>
 {
     let mut done = Items::new(alloc);
     for e in exprs {
-        done.add(copy_expr(alloc, e)?)?;
+        add_expr(alloc, e, &mut done)?;
     }
     Ok(done)
+}
+
+/// Adds the same expression.
+#[cycle(copy_expr)]
+fn add_expr(alloc: Global, e: &Expr, done: &mut Exprs) -> Result<(), NoMemory>
+    ensures { OnOk result (done.new ≡ done.old ++ e.now ∷ []) }
+{
+    match copy_expr(alloc, e) {
+        Ok(copied) => Ok(done.add(copied)?),
+        Err(fault) => Err(fault),
+    }
 }
 
 /// The same clauses.
@@ -325,9 +407,20 @@ pub fn copy_clauses(alloc: Global, clauses: &[Clause]) -> Result<Clauses, NoMemo
 {
     let mut done = Items::new(alloc);
     for clause in clauses {
-        done.add(copy_clause(alloc, clause)?)?;
+        add_clause(alloc, clause, &mut done)?;
     }
     Ok(done)
+}
+
+/// Adds the same clause.
+#[cycle(copy_expr)]
+fn add_clause(alloc: Global, clause: &Clause, done: &mut Clauses) -> Result<(), NoMemory>
+    ensures { OnOk result (done.new ≡ done.old ++ clause.now ∷ []) }
+{
+    match copy_clause(alloc, clause) {
+        Ok(copied) => Ok(done.add(copied)?),
+        Err(fault) => Err(fault),
+    }
 }
 
 #[cycle(copy_expr)]
@@ -335,10 +428,11 @@ pub fn copy_clauses(alloc: Global, clauses: &[Clause]) -> Result<Clauses, NoMemo
 fn copy_clause(alloc: Global, clause: &Clause) -> Result<Clause, NoMemory>
     ensures { IfOk result (λ c. c ≡ clause.now) }
 {
-    Ok(Clause {
-        name: copy_option_name(alloc, &clause.name)?,
-        body: copy_expr(alloc, &clause.body)?,
-    })
+    let name = copy_option(alloc, &clause.name)?;
+    match copy_expr(alloc, &clause.body) {
+        Ok(body) => Ok(Clause { name, body }),
+        Err(fault) => Err(fault),
+    }
 }
 
 impl Copied for Clause {
@@ -355,11 +449,16 @@ impl Copied for Svc {
     fn copy(&self, alloc: Global) -> Result<Svc, NoMemory>
         ensures { IfOk result (λ s. s ≡ self.now) }
     {
-        Ok(Svc {
-            name: self.name.copy(alloc)?,
-            params: copy_types(alloc, self.params.as_slice())?,
-            result: self.result.copy(alloc)?,
-        })
+        let name = self.name.copy(alloc)?;
+        let params = copy_types(alloc, self.params.as_slice())?;
+        match self.result.copy(alloc) {
+            Ok(result) => Ok(Svc {
+                name,
+                params,
+                result,
+            }),
+            Err(fault) => Err(fault),
+        }
     }
 }
 
@@ -367,11 +466,7 @@ impl Copied for Svc {
 pub fn copy_svcs(alloc: Global, svcs: &[Svc]) -> Result<Svcs, NoMemory>
     ensures { IfOk result (λ copies. copies ≡ svcs.now) }
 {
-    let mut done = Items::new(alloc);
-    for svc in svcs {
-        done.add(svc.copy(alloc)?)?;
-    }
-    Ok(done)
+    copy_items(alloc, svcs)
 }
 
 impl Copied for Param {
@@ -379,10 +474,11 @@ impl Copied for Param {
     fn copy(&self, alloc: Global) -> Result<Param, NoMemory>
         ensures { IfOk result (λ p. p ≡ self.now) }
     {
-        Ok(Param {
-            name: self.name.copy(alloc)?,
-            ty: self.ty.copy(alloc)?,
-        })
+        let name = self.name.copy(alloc)?;
+        match self.ty.copy(alloc) {
+            Ok(ty) => Ok(Param { name, ty }),
+            Err(fault) => Err(fault),
+        }
     }
 }
 
@@ -390,11 +486,7 @@ impl Copied for Param {
 pub fn copy_params(alloc: Global, params: &[Param]) -> Result<Params, NoMemory>
     ensures { IfOk result (λ copies. copies ≡ params.now) }
 {
-    let mut done = Items::new(alloc);
-    for param in params {
-        done.add(param.copy(alloc)?)?;
-    }
-    Ok(done)
+    copy_items(alloc, params)
 }
 
 impl Copied for Fun {
@@ -402,12 +494,37 @@ impl Copied for Fun {
     fn copy(&self, alloc: Global) -> Result<Fun, NoMemory>
         ensures { IfOk result (λ f. f ≡ self.now) }
     {
-        Ok(Fun {
-            name: self.name.copy(alloc)?,
-            params: copy_params(alloc, self.params.as_slice())?,
-            result: self.result.copy(alloc)?,
-            body: self.body.copy(alloc)?,
-        })
+        let name = self.name.copy(alloc)?;
+        let params = copy_params(alloc, self.params.as_slice())?;
+        match self.result.copy(alloc) {
+            Ok(answer) => with_body(alloc, name, params, answer, &self.body),
+            Err(fault) => Err(fault),
+        }
+    }
+}
+
+/// A function of these parts, with the same body.
+fn with_body(
+    alloc: Global,
+    name: Name,
+    params: Params,
+    answer: Ty,
+    body: &Expr,
+) -> Result<Fun, NoMemory>
+    ensures { IfOk result (λ f. f ≡ record
+        { name = name; params = params; result = answer; body = body.now }) }
+{
+    match copy_expr(alloc, body) {
+        Ok(body) => Ok(Fun {
+            name,
+            params,
+            result: answer,
+            body,
+        }),
+        Err(fault) => {
+            drop(answer);
+            Err(fault)
+        }
     }
 }
 
@@ -415,11 +532,7 @@ impl Copied for Fun {
 pub fn copy_funs(alloc: Global, funs: &[Fun]) -> Result<Funs, NoMemory>
     ensures { IfOk result (λ copies. copies ≡ funs.now) }
 {
-    let mut done = Items::new(alloc);
-    for fun in funs {
-        done.add(fun.copy(alloc)?)?;
-    }
-    Ok(done)
+    copy_items(alloc, funs)
 }
 
 impl Copied for Program {
@@ -478,12 +591,31 @@ fn copy_value(alloc: Global, v: &Value) -> Result<Value, NoMemory>
         Value::Blob(b) => Ok(Value::Blob(b.copy(alloc)?)),
         Value::Host(h) => Ok(Value::Host(*h)),
         Value::Dev(d) => Ok(Value::Dev(*d)),
-        Value::Chunk(c) => Ok(Value::Chunk(Boxed::new(alloc, copy_chunk(alloc, c.get())?)?)),
-        Value::List(t, items) => Ok(Value::List(
-            Boxed::new(alloc, t.get().copy(alloc)?)?,
-            copy_values(alloc, items.as_slice())?,
-        )),
-        Value::Tuple(parts) => Ok(Value::Tuple(copy_values(alloc, parts.as_slice())?)),
+        Value::Chunk(c) => match copy_boxed_chunk(alloc, c) {
+            Ok(c) => Ok(Value::Chunk(c)),
+            Err(fault) => Err(fault),
+        },
+        Value::List(t, items) => match copy_boxed_type(alloc, t) {
+            Ok(t) => match copy_values(alloc, items.as_slice()) {
+                Ok(items) => Ok(Value::List(t, items)),
+                Err(fault) => Err(fault),
+            },
+            Err(fault) => Err(fault),
+        },
+        Value::Tuple(parts) => match copy_values(alloc, parts.as_slice()) {
+            Ok(parts) => Ok(Value::Tuple(parts)),
+            Err(fault) => Err(fault),
+        },
+    }
+}
+
+#[cycle(copy_value)]
+fn copy_boxed_chunk(alloc: Global, c: &Boxed<Chunk>) -> Result<Boxed<Chunk>, NoMemory>
+    ensures { IfOk result (λ d. d ≡ c.now) }
+{
+    match copy_chunk(alloc, c.get()) {
+        Ok(copied) => Ok(Boxed::new(alloc, copied)?),
+        Err(fault) => Err(fault),
     }
 }
 
@@ -501,9 +633,20 @@ pub fn copy_values(alloc: Global, values: &[Value]) -> Result<Values, NoMemory>
 {
     let mut done = room_for(alloc, values.len())?;
     for v in values {
-        done.add(copy_value(alloc, v)?)?;
+        add_value(alloc, v, &mut done)?;
     }
     Ok(done)
+}
+
+/// Adds the same value.
+#[cycle(copy_value)]
+fn add_value(alloc: Global, v: &Value, done: &mut Values) -> Result<(), NoMemory>
+    ensures { OnOk result (done.new ≡ done.old ++ v.now ∷ []) }
+{
+    match copy_value(alloc, v) {
+        Ok(copied) => Ok(done.add(copied)?),
+        Err(fault) => Err(fault),
+    }
 }
 
 #[cycle(copy_value)]
@@ -511,11 +654,12 @@ pub fn copy_values(alloc: Global, values: &[Value]) -> Result<Values, NoMemory>
 fn copy_chunk(alloc: Global, c: &Chunk) -> Result<Chunk, NoMemory>
     ensures { IfOk result (λ d. d ≡ c.now) }
 {
-    Ok(Chunk {
-        code: c.code.share()?,
-        entry: c.entry.copy(alloc)?,
-        args: copy_values(alloc, c.args.as_slice())?,
-    })
+    let code = c.code.share()?;
+    let entry = c.entry.copy(alloc)?;
+    match copy_values(alloc, c.args.as_slice()) {
+        Ok(args) => Ok(Chunk { code, entry, args }),
+        Err(fault) => Err(fault),
+    }
 }
 
 impl Copied for Chunk {
@@ -540,10 +684,7 @@ impl Copied for Exn {
 pub fn copy_handler(alloc: Global, handler: &Option<Name>) -> Result<Option<Name>, NoMemory>
     ensures { IfOk result (λ h. h ≡ handler.now) }
 {
-    match handler {
-        None => Ok(None),
-        Some(name) => Ok(Some(name.copy(alloc)?)),
-    }
+    copy_option(alloc, handler)
 }
 
 impl Copied for Packet {

@@ -170,7 +170,10 @@ fn around(alloc: Global, bound: Bound, body: Node) -> Result<Node, ParseFault>
     } = bound;
     match boxed_two(alloc, value, body) {
         Ok((value, body, below)) => Ok(over(alloc, Expr::Let(name, ty, value, body), at, below)),
-        Err(fault) => Err(fault),
+        Err(fault) => {
+            drop(ty);
+            Err(fault)
+        }
     }
 }
 

@@ -82,9 +82,15 @@ fn raise_typed(alloc: Global, room: u32, ahead: &mut Ahead<'_>, at: u32) -> Resu
         Ok(t) => match ahead.need_symbol(Symbol::BracketClose) {
             Ok(()) => match name_at(alloc, ahead) {
                 Ok(name) => Ok(leaf(alloc, Expr::Raise(name, Some(t)), at)),
-                Err(fault) => Err(fault),
+                Err(fault) => {
+                    drop(t);
+                    Err(fault)
+                }
             },
-            Err(fault) => Err(fault),
+            Err(fault) => {
+                drop(t);
+                Err(fault)
+            }
         },
         Err(fault) => Err(fault),
     }
@@ -144,9 +150,15 @@ impl<F: Fn(Global, u32, Level, &mut Ahead<'_>) -> Result<Node, ParseFault>> Expr
                         ty,
                         value,
                     }),
-                    Err(fault) => Err(fault),
+                    Err(fault) => {
+                        drop(ty);
+                        Err(fault)
+                    }
                 },
-                Err(fault) => Err(fault),
+                Err(fault) => {
+                    drop(ty);
+                    Err(fault)
+                }
             },
             Err(fault) => Err(fault),
         }

@@ -23,4 +23,4 @@ pub use level::Level;
 pub use levels::expr_to;
 pub use node::{MOST_DEPTH, Node};
 pub use reader::name_at;
-pub use types::{MOST_PARTS, begins_type, opens, past_type, type_to};
+pub use types::{MOST_PARTS, begins_type, one_type, opens, past_type, type_to};

@@ -20,7 +20,7 @@ use plan_lexer::{Symbol, TokenKind};
 use std::alloc::Global;
 
 /// What reads expressions, where so many further constructs may open.
-#[derive(Clone, Copy)]
+#[derive(Drop)]
 pub struct ExprReader<F> {
     pub alloc: Global,
     pub room: u32,

@@ -133,13 +133,14 @@ fn judge_type(alloc: Global, start: u32, words: usize, base: Ty) -> Result<Ty, P
 {
     let depth = base.depth() as usize;
     if words > MOST_TYPE_DEPTH || depth + words > MOST_TYPE_DEPTH {
+        drop(base);
         return Err(ParseFault::TooDeep(start));
     }
     lists_of(alloc, words as u32, base)
 }
 
 /// One type, as a list.
-fn one_type(alloc: Global, ty: Ty) -> Result<Tys, ParseFault>
+pub fn one_type(alloc: Global, ty: Ty) -> Result<Tys, ParseFault>
     ensures { Answers (Ok (ty ∷ [])) result }
 {
     let mut types = Items::new(alloc);
@@ -148,7 +149,7 @@ fn one_type(alloc: Global, ty: Ty) -> Result<Tys, ParseFault>
 }
 
 /// What reads types, with the function that reads those inside one more open construct.
-#[derive(Clone, Copy)]
+#[derive(Drop)]
 pub struct TypeReader<F> {
     pub alloc: Global,
     pub room: u32,
@@ -212,7 +213,10 @@ impl<F: Fn(Global, u32, &mut Ahead<'_>) -> Result<Ty, ParseFault>> TypeReader<F>
     {
         match ahead.need_symbol(Symbol::ParenClose) {
             Ok(()) => Ok(first),
-            Err(fault) => Err(fault),
+            Err(fault) => {
+                drop(first);
+                Err(fault)
+            }
         }
     }
 

@@ -5,7 +5,7 @@ use crate::LexFault;
 use crate::text::byte_at;
 
 /// What stands before a byte of a comment, as far as it may open or close one.
-#[derive(Clone, Copy, PartialEq, Eq)]
+#[derive(Clone, Copy)]
 pub(crate) enum Before {
     /// A `(` that belongs to no `(*` yet.
     Paren,

@@ -4,7 +4,7 @@ ghost use Rattle.plan_lexer.specs.CharItems.{continuation, shortest, two_bytes, 
 use crate::text::byte_at;
 
 /// What stands at the front of the rest of a string or char.
-#[derive(Clone, Copy, PartialEq, Eq)]
+#[derive(Drop)]
 pub(crate) enum CharItem {
     /// The closing quote.
     Closes,

@@ -13,7 +13,7 @@ use Rattle.plan_base.specs.declared.tree.Value.{Value}
 use Rattle.plan_base.specs.declared.tree.Chunk.{Chunk}
 use Rattle.plan_base.specs.Sizes.{weight, nesting}
 use Rattle.typing_rules.specs.Typing.{IsSmall, HasType}
-use Rattle.value_rules.specs.Rules.{Given, gives, raises, unfit, too_large}
+use Rattle.typing_rules.specs.Rules.{Given, gives, raises, unfit, too_large}
 use Rattle.service_api.specs.declared.answer.Note.{Note}
 use Rattle.service_api.specs.declared.answer.Answer.{Answer}
 use Rattle.service_api.specs.declared.answer.Answer.TheVariants.{Gives, Raises}
@@ -27,7 +27,7 @@ use Rattle.plan_meaning.specs.Run.{After, gave, stopped, RunStep, Run, «next»,
 use Rattle.plan_meaning.specs.Meaning.{pay_eval, no_bound, is_paid, bound_of, sent_packet, sent_by, send_remote, is_next, not_neighbour, send_neighbour}
 use Rattle.plan_meaning.specs.Safe.{AreGoodNotes, IsGoodSent, IsGoodState, Holds, IsRight, Yields}
 use Rattle.plan_meaning.proofs.Formed.{IsFormed, well_formed}
-use Rattle.value_rules.specs.Typed.{Fits}
+use Rattle.typing_rules.specs.Typed.{Fits}
 use Rattle.plan_meaning.proofs.Keeps.{Keeps}
 
 pub raised_not_wrong : (x : Exn) → Raised x ≢ Wrong

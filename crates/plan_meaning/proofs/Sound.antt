@@ -33,7 +33,7 @@ use Rattle.typing_rules.specs.Typing.{IsSmall, literal_type, HasTy, literal, var
 use Rattle.plan_base.specs.WellFormed.{has_from_to, names_all_but_last, well_formed_type, formed_expr, formed_chunk, well_formed_program, IsWellFormedProgram, IsWellFormedExpr}
 use Rattle.typing_rules.specs.Typing as typing
 use Rattle.typing_rules.specs.TypingNames.{place_of, service_of, prim_of, binding, param_types, part_of, of_list, makes}
-use Rattle.value_rules.specs.Rules as rules
+use Rattle.typing_rules.specs.Rules as rules
 use Rattle.service_api.specs.Services.{IsGoodChunk, AreGoodValues}
 use Rattle.plan_meaning.specs.State.{VisitState}
 use Rattle.plan_meaning.specs.Run.{Run, ◌>>◌, pure}
@@ -41,14 +41,14 @@ use Rattle.plan_meaning.specs.Meaning as m
 use Rattle.plan_meaning.specs.Meaning.{Env, Runs, as_bool, bool_at, as_int, int_at, as_host, host_at, as_dev, dev_at, as_chunk, chunk_at, as_items, items_at, value_of, value_if, bound_behind, bound, pay_eval, send_remote, send_neighbour, values_behind, values, entered_function, applied_at, applied_function, served_or, called_by, called_name, left_along, right_along, handled_exception, visited_chunk, opened_at, opened_expression, node, run_to, meaning, catches}
 use Rattle.plan_meaning.specs.Safe.{HasEnv, IsGoodState, Yields}
 use Rattle.plan_items.proofs.Bools.{and_left, and_right, both_true}
-use Rattle.value_rules.proofs.Shapes.{shape_at}
+use Rattle.typing_rules.proofs.Shapes.{shape_at}
 use Rattle.plan_meaning.proofs.Totals.{sum_bounds, largest_bounds}
 use Rattle.plan_meaning.proofs.Formed as form
 use Rattle.plan_meaning.proofs.Formed.{IsFormed, AllFormed, FormedLevel, formed_of, well_formed, level_formed, items_formed}
 use Rattle.plan_meaning.proofs.Keeps as keeps
 use Rattle.plan_meaning.proofs.Keeps.{Keeps}
-use Rattle.value_rules.specs.Typed.{Fits}
-use Rattle.value_rules.proofs.Fitting as given
+use Rattle.typing_rules.specs.Typed.{Fits}
+use Rattle.typing_rules.proofs.Fitting as given
 use Rattle.plan_meaning.proofs.Right.{Good, Mild}
 use Rattle.plan_meaning.proofs.Halting.{Halts, HaltsAt, Inv, pure_halts, raise_halts, known_halts, cond_halts, mild_halts, then_halts, known_then_halts, rescue_halts, given_halts, whole_halts, paid_halts, remote_halts, neighbour_halts, serve_halts}
 use Rattle.plan_meaning.proofs.Within.{meaning_is_fixed}

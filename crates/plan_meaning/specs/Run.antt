@@ -5,7 +5,7 @@ use Rattle.plan_base.specs.declared.tree.Exn.{Exn}
 use Rattle.plan_base.specs.declared.tree.Svc.{Svc}
 use Rattle.plan_base.specs.declared.tree.Value.{Value}
 use Rattle.plan_base.specs.Sizes.{weight, nesting}
-use Rattle.value_rules.specs.Rules.{Given, gives, raises, unfit, too_large}
+use Rattle.typing_rules.specs.Rules.{Given, gives, raises, unfit, too_large}
 use Rattle.service_api.specs.declared.answer.Note.{Note}
 use Rattle.service_api.specs.declared.answer.Answer.{Answer}
 use Rattle.service_api.specs.declared.answer.Answer.TheVariants.{Gives, Raises}

@@ -191,8 +191,13 @@ fn with_function(
     let start = ahead.place();
     ahead.skip();
     let head = head_at(alloc, ahead)?;
-    let body = expr_to(alloc, MOST_OPEN + 1, Level::Whole, ahead)?;
-    with_body(gathered, start, head, body, ahead)
+    match expr_to(alloc, MOST_OPEN + 1, Level::Whole, ahead) {
+        Ok(body) => with_body(gathered, start, head, body, ahead),
+        Err(fault) => {
+            drop(head);
+            Err(fault)
+        }
+    }
 }
 
 /// One more declaration.

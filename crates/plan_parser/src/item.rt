@@ -108,7 +108,10 @@ fn add_item(values: &mut Values, types: &mut Tys, item: TypedValue) -> Result<()
     let TypedValue { value, ty } = item;
     match values.add(value) {
         Ok(()) => Ok(types.add(ty)?),
-        Err(_refused) => Err(ParseFault::NoMemory),
+        Err(_refused) => {
+            drop(ty);
+            Err(ParseFault::NoMemory)
+        }
     }
 }
 
@@ -151,9 +154,15 @@ fn boxed_twice(alloc: Global, ty: Ty) -> Result<(Boxed<Ty>, Boxed<Ty>), ParseFau
                 Ok(ty) => Ok((copy, ty)),
                 Err(_refused) => Err(ParseFault::NoMemory),
             },
-            Err(_refused) => Err(ParseFault::NoMemory),
+            Err(_refused) => {
+                drop(ty);
+                Err(ParseFault::NoMemory)
+            }
         },
-        Err(_refused) => Err(ParseFault::NoMemory),
+        Err(_refused) => {
+            drop(ty);
+            Err(ParseFault::NoMemory)
+        }
     }
 }
 

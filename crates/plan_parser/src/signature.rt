@@ -6,7 +6,9 @@ ghost use Rattle.plan_grammar.specs.Begins as begins;
 ghost use Rattle.plan_parser.specs.Signatures as spec;
 
 use plan_base::{Limit, Name, Param, Params, Svc, Ty, Tys};
-use plan_grammar::{Ahead, ParseFault, Wanted, begins_type, name_at, past_type, type_to};
+use plan_grammar::{
+    Ahead, ParseFault, Wanted, begins_type, name_at, one_type, past_type, type_to,
+};
 use plan_items::Items;
 use plan_lexer::Symbol;
 use std::alloc::Global;
@@ -54,15 +56,6 @@ fn more_types(alloc: Global, ahead: &mut Ahead<'_>, types: Tys) -> Result<Tys, P
         }
         types.add(inner_type(alloc, ahead)?)?;
     }
-    Ok(types)
-}
-
-/// One type, as a list.
-fn one_type(alloc: Global, ty: Ty) -> Result<Tys, ParseFault>
-    ensures { Answers (Ok (ty ∷ [])) result }
-{
-    let mut types = Items::new(alloc);
-    types.add(ty)?;
     Ok(types)
 }
 
@@ -261,7 +254,10 @@ fn head_of(
                     params,
                     result,
                 }),
-                Err(fault) => Err(fault),
+                Err(fault) => {
+                    drop(result);
+                    Err(fault)
+                }
             },
             Err(fault) => Err(fault),
         },

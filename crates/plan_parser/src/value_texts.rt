@@ -34,7 +34,8 @@ fn argument_at(alloc: Global, ahead: &mut Ahead<'_>) -> Result<Value, ParseFault
 {
     match value_to(alloc, 1, MOST_NESTED + 1, ahead) {
         Ok(item) => {
-            let TypedValue { value, ty: _ty } = item;
+            let TypedValue { value, ty } = item;
+            drop(ty);
             Ok(value)
         }
         Err(fault) => Err(fault),
@@ -96,7 +97,8 @@ fn value_of(alloc: Global, tokens: &[Token], end: u32) -> Result<Value, ParseFau
     let item = value_to(alloc, 0, MOST_NESTED + 1, &mut ahead)?;
     match need_end(&ahead) {
         Ok(()) => {
-            let TypedValue { value, ty: _ty } = item;
+            let TypedValue { value, ty } = item;
+            drop(ty);
             Ok(value)
         }
         Err(fault) => {

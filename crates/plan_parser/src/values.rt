@@ -20,7 +20,7 @@ use std::alloc::Global;
 pub const MOST_NESTED: u32 = 7;
 
 /// What reads values, with the function that reads those inside one more list or tuple.
-#[derive(Clone, Copy)]
+#[derive(Drop)]
 pub struct ValueReader<F> {
     pub alloc: Global,
     /// The brackets that are open around the whole value, at most 1.
@@ -50,7 +50,8 @@ fn judge_item(t: &Ty, at: u32, item: TypedValue, ahead: &Ahead<'_>) -> Result<Va
         drop(item);
         return Err(ParseFault::Expected(Wanted::AValue, at));
     }
-    let TypedValue { value, ty: _ty } = item;
+    let TypedValue { value, ty } = item;
+    drop(ty);
     Ok(value)
 }
 
@@ -216,11 +217,20 @@ impl<F: Fn(Global, u32, u32, &mut Ahead<'_>) -> Result<TypedValue, ParseFault>> 
             Ok(items) => match self.more_items(ahead, &ty, items) {
                 Ok(items) => match ahead.need_symbol(Symbol::BracketClose) {
                     Ok(()) => list_of(self.alloc, ty, items),
-                    Err(fault) => Err(fault),
+                    Err(fault) => {
+                        drop(ty);
+                        Err(fault)
+                    }
                 },
-                Err(fault) => Err(fault),
+                Err(fault) => {
+                    drop(ty);
+                    Err(fault)
+                }
             },
-            Err(fault) => Err(fault),
+            Err(fault) => {
+                drop(ty);
+                Err(fault)
+            }
         }
     }
 
@@ -236,9 +246,15 @@ impl<F: Fn(Global, u32, u32, &mut Ahead<'_>) -> Result<TypedValue, ParseFault>> 
         match fits(self.room, at, &t) {
             Ok(()) => match ahead.need_symbol(Symbol::BracketClose) {
                 Ok(()) => list_of(self.alloc, t, Items::new(self.alloc)),
-                Err(fault) => Err(fault),
+                Err(fault) => {
+                    drop(t);
+                    Err(fault)
+                }
             },
-            Err(fault) => Err(fault),
+            Err(fault) => {
+                drop(t);
+                Err(fault)
+            }
         }
     }
 

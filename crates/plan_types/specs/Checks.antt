@@ -17,6 +17,11 @@ abbrev pub Meets : {A : Type 0} → Result (A × ℕ) TypeFault → Result A Typ
 Meets want (Ok a) node = want ≡ Ok (a, node)
 Meets want (Err f) node = f ≢ NoMemory → want ≡ Err f
 
+-- the same of a part that leaves its answer in what it was lent
+abbrev pub Leaves : {A B : Type 0} → Result (A × ℕ) TypeFault → Result B TypeFault → A → ℕ → Type 0
+Leaves want (Ok b) a node = want ≡ Ok (a, node)
+Leaves want (Err f) a node = f ≢ NoMemory → want ≡ Err f
+
 -- the answer is as wanted, unless memory is refused
 abbrev pub Gives : {A : Type 0} → Result A TypeFault → Result A TypeFault → Type 0
 Gives want (Ok a) = want ≡ Ok a

@@ -22,7 +22,10 @@ fn copies(alloc: Global, e: &Expr, ty: &Ty) -> Result<(Expr, Ty), NoMemory>
     match ty.copy(alloc) {
         Ok(ty) => match e.copy(alloc) {
             Ok(e) => Ok((e, ty)),
-            Err(NoMemory) => Err(NoMemory),
+            Err(NoMemory) => {
+                drop(ty);
+                Err(NoMemory)
+            }
         },
         Err(NoMemory) => Err(NoMemory),
     }
@@ -39,7 +42,13 @@ fn literal(
 ) -> Result<(Expr, Ty), TypeFault>
     ensures { Meets (spec.settled_type at (option_copied want.entry) e.now ty node) result node }
 {
-    settle_type(alloc, at, node, want, e.copy(alloc)?, ty)
+    match e.copy(alloc) {
+        Ok(e) => settle_type(alloc, at, node, want, e, ty),
+        Err(NoMemory) => {
+            drop(ty);
+            Err(TypeFault::NoMemory)
+        }
+    }
 }
 
 /// A name that was bound.
@@ -82,7 +91,10 @@ fn empty_as_written(alloc: Global, e: &Expr, item: &Ty) -> Result<(Expr, Ty), No
     match list_of(alloc, item) {
         Ok(ty) => match e.copy(alloc) {
             Ok(e) => Ok((e, ty)),
-            Err(NoMemory) => Err(NoMemory),
+            Err(NoMemory) => {
+                drop(ty);
+                Err(NoMemory)
+            }
         },
         Err(NoMemory) => Err(NoMemory),
     }
@@ -101,9 +113,15 @@ fn empty_of_items(
     match item.copy(alloc) {
         Ok(given) => match list_of(alloc, item) {
             Ok(ty) => shallow(alloc, at, node, want, Expr::Nil(Some(given)), ty),
-            Err(NoMemory) => Err(TypeFault::NoMemory),
+            Err(NoMemory) => {
+                drop(given);
+                Err(TypeFault::NoMemory)
+            }
         },
-        Err(NoMemory) => Err(TypeFault::NoMemory),
+        Err(NoMemory) => {
+            drop(item);
+            Err(TypeFault::NoMemory)
+        }
     }
 }
 
@@ -139,9 +157,16 @@ fn raise_of_type(alloc: Global, name: &Name, ty: &Ty) -> Result<(Expr, Ty), NoMe
     match ty.copy(alloc) {
         Ok(given) => match ty.copy(alloc) {
             Ok(ty) => Ok((Expr::Raise(name, Some(given)), ty)),
-            Err(NoMemory) => Err(NoMemory),
+            Err(NoMemory) => {
+                drop(given);
+                drop(name);
+                Err(NoMemory)
+            }
         },
-        Err(NoMemory) => Err(NoMemory),
+        Err(NoMemory) => {
+            drop(name);
+            Err(NoMemory)
+        }
     }
 }
 

@@ -9,7 +9,7 @@ ghost use Rattle.plan_types.specs.Checks.{Meets, Nests, below};
 
 use crate::checker::Checker;
 use crate::names::{earlier, fun_of};
-use crate::settle::{items_of, list_of, settle_type};
+use crate::settle::{items_of, list_of, refuse_expr, settle_type};
 use crate::state::{Scope, State};
 use plan_base::{Expr, Exprs, Name, NoMemory, Param, Place, Primitive, Program, Ty, Tys};
 use plan_copies::Copied;
@@ -100,10 +100,12 @@ fn given_of(alloc: Global, prim: Primitive, types: &[Ty]) -> Result<Option<Ty>, 
 }
 
 /// The same, where there must be one.
-fn type_given(alloc: Global, at: u32, prim: Primitive, types: &[Ty]) -> Result<Ty, TypeFault>
-    ensures { (node : ℕ) → Meets (spec.or_refuse (spec.given_of prim types.now) (TypeFault.WrongShape (Place.Node at)) node) result node }
+fn type_given(alloc: Global, at: u32, prim: Primitive, types: Tys) -> Result<Ty, TypeFault>
+    ensures { (node : ℕ) → Meets (spec.or_refuse (spec.given_of prim types) (TypeFault.WrongShape (Place.Node at)) node) result node }
 {
-    match given_of(alloc, prim, types) {
+    let given = given_of(alloc, prim, types.as_slice());
+    drop(types);
+    match given {
         Ok(Some(ty)) => Ok(ty),
         Ok(None) => Err(TypeFault::WrongShape(Place::Node(at))),
         Err(NoMemory) => Err(TypeFault::NoMemory),
@@ -124,59 +126,90 @@ fn call_of(
 {
     match f.copy(alloc) {
         Ok(f) => settle_type(alloc, at, node, want, Expr::Call(f, given), ty),
-        Err(NoMemory) => Err(TypeFault::NoMemory),
+        Err(NoMemory) => {
+            drop(given);
+            drop(ty);
+            Err(TypeFault::NoMemory)
+        }
     }
 }
 
-/// `foldl` over those, where the function gives what it begins with.
+/// A chunk whose entry has that name, with those arguments.
+fn chunk_of(
+    alloc: Global,
+    at: u32,
+    node: u32,
+    want: Option<&Ty>,
+    f: &Name,
+    given: Exprs,
+) -> Result<(Expr, Ty), TypeFault>
+    ensures { Meets (spec.settled_type at (option_copied want.entry) (Expr.ChunkOf f.now given) Ty.Chunk node) result node }
+{
+    match f.copy(alloc) {
+        Ok(f) => settle_type(alloc, at, node, want, Expr::ChunkOf(f, given), Ty::Chunk),
+        Err(NoMemory) => {
+            drop(given);
+            Err(TypeFault::NoMemory)
+        }
+    }
+}
+
+/// `foldl` over those.
 fn left_fold(
     alloc: Global,
-    at: u32,
-    node: u32,
-    want: Option<&Ty>,
     f: &Name,
     start: Boxed<Expr>,
     items: Boxed<Expr>,
-    begun: &Ty,
-    gives: &Ty,
-) -> Result<(Expr, Ty), TypeFault>
-    ensures { Meets ((if same_type gives.now begun.now then spec.settled_type at (option_copied want.entry) (Expr.Foldl f.now start items) begun.now else spec.refuse (TypeFault.WrongShape (Place.Node at))) node) result node }
+) -> Result<Expr, NoMemory>
+    ensures { IfOk result (λ e. e ≡ Expr.Foldl f.now start items) }
 {
-    if !gives.is(begun) {
-        return Err(TypeFault::WrongShape(Place::Node(at)));
-    }
-    match begun.copy(alloc) {
-        Ok(ty) => match f.copy(alloc) {
-            Ok(f) => settle_type(alloc, at, node, want, Expr::Foldl(f, start, items), ty),
-            Err(NoMemory) => Err(TypeFault::NoMemory),
-        },
-        Err(NoMemory) => Err(TypeFault::NoMemory),
+    match f.copy(alloc) {
+        Ok(f) => Ok(Expr::Foldl(f, start, items)),
+        Err(NoMemory) => {
+            drop(start);
+            drop(items);
+            Err(NoMemory)
+        }
     }
 }
 
-/// `foldr` over those, where the function gives what it begins with.
+/// `foldr` over those.
 fn right_fold(
+    alloc: Global,
+    f: &Name,
+    start: Boxed<Expr>,
+    items: Boxed<Expr>,
+) -> Result<Expr, NoMemory>
+    ensures { IfOk result (λ e. e ≡ Expr.Foldr f.now start items) }
+{
+    match f.copy(alloc) {
+        Ok(f) => Ok(Expr::Foldr(f, start, items)),
+        Err(NoMemory) => {
+            drop(start);
+            drop(items);
+            Err(NoMemory)
+        }
+    }
+}
+
+/// A fold whose function must give what it begins with.
+fn folded(
     alloc: Global,
     at: u32,
     node: u32,
     want: Option<&Ty>,
-    f: &Name,
-    start: Boxed<Expr>,
-    items: Boxed<Expr>,
+    whole: Expr,
     begun: &Ty,
     gives: &Ty,
 ) -> Result<(Expr, Ty), TypeFault>
-    ensures { Meets ((if same_type gives.now begun.now then spec.settled_type at (option_copied want.entry) (Expr.Foldr f.now start items) begun.now else spec.refuse (TypeFault.WrongShape (Place.Node at))) node) result node }
+    ensures { Meets ((if same_type gives.now begun.now then spec.settled_type at (option_copied want.entry) whole begun.now else spec.refuse (TypeFault.WrongShape (Place.Node at))) node) result node }
 {
     if !gives.is(begun) {
-        return Err(TypeFault::WrongShape(Place::Node(at)));
+        return refuse_expr(whole, TypeFault::WrongShape(Place::Node(at)));
     }
     match begun.copy(alloc) {
-        Ok(ty) => match f.copy(alloc) {
-            Ok(f) => settle_type(alloc, at, node, want, Expr::Foldr(f, start, items), ty),
-            Err(NoMemory) => Err(TypeFault::NoMemory),
-        },
-        Err(NoMemory) => Err(TypeFault::NoMemory),
+        Ok(ty) => settle_type(alloc, at, node, want, whole, ty),
+        Err(NoMemory) => refuse_expr(whole, TypeFault::NoMemory),
     }
 }
 
@@ -219,7 +252,10 @@ impl<
             return Err(TypeFault::Arity(Place::Node(at)));
         }
         match self.parts(scope, state, Some(wants), es.as_slice()) {
-            Ok((given, _types)) => Ok(given),
+            Ok((given, types)) => {
+                drop(types);
+                Ok(given)
+            }
             Err(fault) => Err(fault),
         }
     }
@@ -244,7 +280,10 @@ impl<
         match self.arguments(scope, state, at, wants, es) {
             Ok(given) => match ty.copy(self.alloc) {
                 Ok(ty) => call_of(self.alloc, at, state.node, want, f, given, ty),
-                Err(NoMemory) => Err(TypeFault::NoMemory),
+                Err(NoMemory) => {
+                    drop(given);
+                    Err(TypeFault::NoMemory)
+                }
             },
             Err(fault) => Err(fault),
         }
@@ -270,9 +309,12 @@ impl<
             return Err(TypeFault::Arity(Place::Node(at)));
         }
         match self.parts(scope, state, None, es.as_slice()) {
-            Ok((given, types)) => match type_given(self.alloc, at, prim, types.as_slice()) {
+            Ok((given, types)) => match type_given(self.alloc, at, prim, types) {
                 Ok(ty) => call_of(self.alloc, at, state.node, want, f, given, ty),
-                Err(fault) => Err(fault),
+                Err(fault) => {
+                    drop(given);
+                    Err(fault)
+                }
             },
             Err(fault) => Err(fault),
         }
@@ -295,7 +337,13 @@ impl<
         ensures keeps { state.new.ctx ≡ state.old.ctx }
     {
         match takes(self.alloc, prim) {
-            Ok(Some(wants)) => self.check_call(scope, state, at, want, f, es, &wants, &makes(prim)),
+            Ok(Some(wants)) => {
+                let ty = makes(prim);
+                let found = self.check_call(scope, state, at, want, f, es, &wants, &ty);
+                drop(wants);
+                drop(ty);
+                found
+            }
             Ok(None) => self.of_items(scope, state, at, want, f, prim, es),
             Err(NoMemory) => Err(TypeFault::NoMemory),
         }
@@ -321,7 +369,11 @@ impl<
             None => return Err(not_earlier(scope.code, f, at)),
         };
         match param_types(self.alloc, fun.params.as_slice()) {
-            Ok(wants) => self.check_call(scope, state, at, want, f, es, &wants, &fun.result),
+            Ok(wants) => {
+                let found = self.check_call(scope, state, at, want, f, es, &wants, &fun.result);
+                drop(wants);
+                found
+            }
             Err(NoMemory) => Err(TypeFault::NoMemory),
         }
     }
@@ -364,7 +416,11 @@ impl<
     {
         let item = item.copy(self.alloc)?;
         match list_of(self.alloc, item) {
-            Ok(list) => self.wanting_boxed(scope, state, &list, e),
+            Ok(list) => {
+                let found = self.wanting_boxed(scope, state, &list, e);
+                drop(list);
+                found
+            }
             Err(NoMemory) => Err(TypeFault::NoMemory),
         }
     }
@@ -393,18 +449,15 @@ impl<
             [first, second] => {
                 let start = self.wanting_boxed(scope, state, &first.ty, a)?;
                 match self.wanting_list(scope, state, &second.ty, l) {
-                    Ok(items) => left_fold(
-                        self.alloc,
-                        at,
-                        state.node,
-                        want,
-                        f,
-                        start,
-                        items,
-                        &first.ty,
-                        &fun.result,
-                    ),
-                    Err(fault) => Err(fault),
+                    Ok(items) => {
+                        let whole = left_fold(self.alloc, f, start, items)?;
+                        let (begun, gives) = (&first.ty, &fun.result);
+                        folded(self.alloc, at, state.node, want, whole, begun, gives)
+                    }
+                    Err(fault) => {
+                        drop(start);
+                        Err(fault)
+                    }
                 }
             }
             _ => Err(TypeFault::Arity(Place::Node(at))),
@@ -435,18 +488,15 @@ impl<
             [first, second] => {
                 let start = self.wanting_boxed(scope, state, &second.ty, a)?;
                 match self.wanting_list(scope, state, &first.ty, l) {
-                    Ok(items) => right_fold(
-                        self.alloc,
-                        at,
-                        state.node,
-                        want,
-                        f,
-                        start,
-                        items,
-                        &second.ty,
-                        &fun.result,
-                    ),
-                    Err(fault) => Err(fault),
+                    Ok(items) => {
+                        let whole = right_fold(self.alloc, f, start, items)?;
+                        let (begun, gives) = (&second.ty, &fun.result);
+                        folded(self.alloc, at, state.node, want, whole, begun, gives)
+                    }
+                    Err(fault) => {
+                        drop(start);
+                        Err(fault)
+                    }
                 }
             }
             _ => Err(TypeFault::Arity(Place::Node(at))),
@@ -473,18 +523,10 @@ impl<
             None => return Err(TypeFault::UnknownName(Place::Node(at))),
         };
         let wants = param_types(self.alloc, fun.params.as_slice())?;
-        match self.arguments(scope, state, at, &wants, es) {
-            Ok(given) => match f.copy(self.alloc) {
-                Ok(f) => settle_type(
-                    self.alloc,
-                    at,
-                    state.node,
-                    want,
-                    Expr::ChunkOf(f, given),
-                    Ty::Chunk,
-                ),
-                Err(NoMemory) => Err(TypeFault::NoMemory),
-            },
+        let given = self.arguments(scope, state, at, &wants, es);
+        drop(wants);
+        match given {
+            Ok(given) => chunk_of(self.alloc, at, state.node, want, f, given),
             Err(fault) => Err(fault),
         }
     }

@@ -4,7 +4,7 @@
 ghost use Rattle.std.specs.Prelude.{◌≡◌, ◌≢◌, ◌++◌, ◌∷◌, [], ◌≤◌, length, Some, Ok, Err, OnOk, MatchResult};
 ghost use Rattle.std.specs.Option.{option_copied};
 ghost use Rattle.typing_rules.specs.TypingOrder as spec;
-ghost use Rattle.plan_types.specs.Checks.{Meets, Nests, below};
+ghost use Rattle.plan_types.specs.Checks.{Leaves, Meets, Nests, below};
 
 use crate::settle::want_at;
 use crate::state::{Scope, State};
@@ -60,7 +60,10 @@ impl<
         ensures keeps { state.new.ctx ≡ state.old.ctx }
     {
         match self.run(scope, state, Some(ty), e) {
-            Ok((found, _ty)) => Ok(found),
+            Ok((found, found_type)) => {
+                drop(found_type);
+                Ok(found)
+            }
             Err(fault) => Err(fault),
         }
     }
@@ -98,20 +101,45 @@ impl<
         match self.run(scope, state, want, e.get()) {
             Ok((found, ty)) => match Boxed::new(self.alloc, found) {
                 Ok(found) => Ok((found, ty)),
-                Err(_refused) => Err(TypeFault::NoMemory),
+                Err(_refused) => {
+                    drop(ty);
+                    Err(TypeFault::NoMemory)
+                }
             },
             Err(fault) => Err(fault),
         }
     }
 
-    /// Parts from the left.
+    /// Adds parts from the left, and their types.
     #[tactic(auto, unfolding(typing_rules::specs::TypingOrder::parts_from))]
-    pub fn parts(
+    fn add_parts(
         &self,
         scope: &Scope<'_>,
         state: &mut State,
         wants: Option<&Tys>,
         mut all: &[Expr],
+        done: &mut Exprs,
+        types: &mut Tys,
+    ) -> Result<(), TypeFault>
+        requires { Nests self.now.depth (F.pre self.now.run) (F.post self.now.run) }
+        ensures meets { Leaves (spec.parts_from scope.now.code.now scope.now.seen (below scope.now self.now.depth) done.old types.old state.old.ctx (option_copied wants.entry) all.entry.now state.old.node) result (done.new, types.new) state.new.node }
+        ensures keeps { state.new.ctx ≡ state.old.ctx }
+    {
+        while let [e, rest @ ..] = all {
+            let found = self.run(scope, state, want_at(wants, types.len()), e)?;
+            add_part(done, types, found)?;
+            all = rest;
+        }
+        Ok(())
+    }
+
+    /// Parts from the left.
+    pub fn parts(
+        &self,
+        scope: &Scope<'_>,
+        state: &mut State,
+        wants: Option<&Tys>,
+        all: &[Expr],
     ) -> Result<(Exprs, Tys), TypeFault>
         requires { Nests self.now.depth (F.pre self.now.run) (F.post self.now.run) }
         ensures meets { Meets (spec.parts scope.now.code.now scope.now.seen (below scope.now self.now.depth) state.old.ctx (option_copied wants.entry) all.entry.now state.old.node) result state.new.node }
@@ -119,12 +147,14 @@ impl<
     {
         let mut done = Items::new(self.alloc);
         let mut types = Items::new(self.alloc);
-        while let [e, rest @ ..] = all {
-            let found = self.run(scope, state, want_at(wants, types.len()), e)?;
-            add_part(&mut done, &mut types, found)?;
-            all = rest;
+        match self.add_parts(scope, state, wants, all, &mut done, &mut types) {
+            Ok(()) => Ok((done, types)),
+            Err(fault) => {
+                drop(done);
+                drop(types);
+                Err(fault)
+            }
         }
-        Ok((done, types))
     }
 
     /// A clause with the wanted type.
@@ -142,7 +172,10 @@ impl<
         let name = copy_name(self.alloc, &clause.name)?;
         match self.wanting(scope, state, ty, &clause.body) {
             Ok(body) => Ok(Clause { name, body }),
-            Err(fault) => Err(fault),
+            Err(fault) => {
+                drop(name);
+                Err(fault)
+            }
         }
     }
 

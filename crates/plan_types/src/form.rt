@@ -69,17 +69,20 @@ impl<
         ensures keeps { state.new.ctx ≡ state.old.ctx }
     {
         match self.run_boxed(scope, state, None, a) {
-            Ok((part, ty)) => match part_type(self.alloc, at, number, &ty) {
-                Ok(item) => settle_type(
-                    self.alloc,
-                    at,
-                    state.node,
-                    want,
-                    Expr::Part(number, part),
-                    item,
-                ),
-                Err(fault) => Err(fault),
-            },
+            Ok((part, ty)) => {
+                let item = part_type(self.alloc, at, number, &ty);
+                drop(ty);
+                match item {
+                    Ok(item) => {
+                        let whole = Expr::Part(number, part);
+                        settle_type(self.alloc, at, state.node, want, whole, item)
+                    }
+                    Err(fault) => {
+                        drop(part);
+                        Err(fault)
+                    }
+                }
+            }
             Err(fault) => Err(fault),
         }
     }
@@ -103,9 +106,17 @@ impl<
             Ok(test) => match self.run_boxed(scope, state, want, b) {
                 Ok((first, ty)) => match self.wanting_boxed(scope, state, &ty, c) {
                     Ok(other) => Ok((Expr::If(test, first, other), ty)),
-                    Err(fault) => Err(fault),
+                    Err(fault) => {
+                        drop(test);
+                        drop(first);
+                        drop(ty);
+                        Err(fault)
+                    }
                 },
-                Err(fault) => Err(fault),
+                Err(fault) => {
+                    drop(test);
+                    Err(fault)
+                }
             },
             Err(fault) => Err(fault),
         }
@@ -131,9 +142,15 @@ impl<
             Ok(bound) => match self.inside(scope, state, want, name, ty, b) {
                 Ok((body, result)) => match bound_in(self.alloc, name, ty, bound, body) {
                     Ok(whole) => Ok((whole, result)),
-                    Err(NoMemory) => Err(TypeFault::NoMemory),
+                    Err(NoMemory) => {
+                        drop(result);
+                        Err(TypeFault::NoMemory)
+                    }
                 },
-                Err(fault) => Err(fault),
+                Err(fault) => {
+                    drop(bound);
+                    Err(fault)
+                }
             },
             Err(fault) => Err(fault),
         }
@@ -177,7 +194,10 @@ impl<
         match self.wanting_boxed(scope, state, &Ty::Unit, a) {
             Ok(first) => match self.run_boxed(scope, state, want, b) {
                 Ok((last, ty)) => Ok((Expr::Then(first, last), ty)),
-                Err(fault) => Err(fault),
+                Err(fault) => {
+                    drop(first);
+                    Err(fault)
+                }
             },
             Err(fault) => Err(fault),
         }
@@ -208,7 +228,10 @@ impl<
                     Expr::And(first, second),
                     Ty::Bool,
                 ),
-                Err(fault) => Err(fault),
+                Err(fault) => {
+                    drop(first);
+                    Err(fault)
+                }
             },
             Err(fault) => Err(fault),
         }
@@ -239,7 +262,10 @@ impl<
                     Expr::Or(first, second),
                     Ty::Bool,
                 ),
-                Err(fault) => Err(fault),
+                Err(fault) => {
+                    drop(first);
+                    Err(fault)
+                }
             },
             Err(fault) => Err(fault),
         }
@@ -286,7 +312,11 @@ impl<
         match self.run_boxed(scope, state, want, a) {
             Ok((tried, ty)) => match self.clauses(scope, state, &ty, clauses.as_slice()) {
                 Ok(handlers) => Ok((Expr::Try(tried, handlers), ty)),
-                Err(fault) => Err(fault),
+                Err(fault) => {
+                    drop(tried);
+                    drop(ty);
+                    Err(fault)
+                }
             },
             Err(fault) => Err(fault),
         }
@@ -343,9 +373,16 @@ impl<
                         let whole = routed(self.alloc, chunk, host, bound, route)?;
                         settle_type(self.alloc, at, state.node, want, whole, Ty::Unit)
                     }
-                    Err(fault) => Err(fault),
+                    Err(fault) => {
+                        drop(chunk);
+                        drop(host);
+                        Err(fault)
+                    }
                 },
-                Err(fault) => Err(fault),
+                Err(fault) => {
+                    drop(chunk);
+                    Err(fault)
+                }
             },
             Err(fault) => Err(fault),
         }
@@ -376,11 +413,23 @@ impl<
                         let whole = Expr::OnNeighbor(chunk, host, bound, dev);
                         settle_type(self.alloc, at, state.node, want, whole, Ty::Unit)
                     }
-                    Err(fault) => Err(fault),
+                    Err(fault) => {
+                        drop(chunk);
+                        drop(host);
+                        drop(bound);
+                        Err(fault)
+                    }
                 },
-                Err(fault) => Err(fault),
+                Err(fault) => {
+                    drop(chunk);
+                    drop(host);
+                    Err(fault)
+                }
             },
-            Err(fault) => Err(fault),
+            Err(fault) => {
+                drop(chunk);
+                Err(fault)
+            }
         }
     }
 }
@@ -411,7 +460,10 @@ fn binding_of(alloc: Global, name: &Name, ty: &Ty) -> Result<Param, NoMemory>
     match ty.copy(alloc) {
         Ok(ty) => match name.copy(alloc) {
             Ok(name) => Ok(Param { name, ty }),
-            Err(NoMemory) => Err(NoMemory),
+            Err(NoMemory) => {
+                drop(ty);
+                Err(NoMemory)
+            }
         },
         Err(NoMemory) => Err(NoMemory),
     }
@@ -429,7 +481,12 @@ fn routed(
 {
     match route.copy(alloc) {
         Ok(route) => Ok(Expr::OnRemote(chunk, host, bound, route)),
-        Err(NoMemory) => Err(NoMemory),
+        Err(NoMemory) => {
+            drop(chunk);
+            drop(host);
+            drop(bound);
+            Err(NoMemory)
+        }
     }
 }
 
@@ -448,6 +505,10 @@ fn bound_in(
             let Param { name, ty } = param;
             Ok(Expr::Let(name, ty, bound, body))
         }
-        Err(NoMemory) => Err(NoMemory),
+        Err(NoMemory) => {
+            drop(bound);
+            drop(body);
+            Err(NoMemory)
+        }
     }
 }

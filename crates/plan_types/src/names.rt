@@ -1,6 +1,6 @@
 //! How names are found: exceptions, functions and bindings.
 
-ghost use Rattle.std.specs.Prelude.{◌≡◌, not};
+ghost use Rattle.std.specs.Prelude.{◌≡◌, not, take, drop};
 ghost use Rattle.std.specs.List.{list_any};
 ghost use Rattle.std.specs.Option.{option_copied};
 ghost use Rattle.typing_rules.specs.TypingNames as spec;
@@ -16,9 +16,9 @@ pub fn has_name(names: &[Name], name: &Name) -> bool
     names.iter().any(|n| n.is(name))
 }
 
-/// Whether an exception of that name is built in.
-pub fn is_built_in(name: &Name) -> bool
-    ensures { result ≡ spec.has_name spec.built_in name.now }
+/// Whether operators and primitives raise an exception of that name.
+fn is_of_values(name: &Name) -> bool
+    ensures { result ≡ spec.has_name (take 5 spec.built_in) name.now }
 {
     let name = name.as_slice();
     b"Overflow".as_slice() == name
@@ -26,12 +26,26 @@ pub fn is_built_in(name: &Name) -> bool
         || b"Empty".as_slice() == name
         || b"BadIndex".as_slice() == name
         || b"TooLarge".as_slice() == name
-        || b"NoBound".as_slice() == name
+}
+
+/// Whether sends and services raise an exception of that name.
+fn is_of_sends(name: &Name) -> bool
+    ensures { result ≡ spec.has_name (drop 5 spec.built_in) name.now }
+{
+    let name = name.as_slice();
+    b"NoBound".as_slice() == name
         || b"NoService".as_slice() == name
         || b"NoRoute".as_slice() == name
         || b"NotNeighbor".as_slice() == name
         || b"TableFull".as_slice() == name
         || b"NotFound".as_slice() == name
+}
+
+/// Whether an exception of that name is built in.
+pub fn is_built_in(name: &Name) -> bool
+    ensures { result ≡ spec.has_name spec.built_in name.now }
+{
+    is_of_values(name) || is_of_sends(name)
 }
 
 /// Whether the exception may be raised in the program.

@@ -33,24 +33,26 @@ impl<
         want: Option<&Ty>,
         op: Op,
         first: Boxed<Expr>,
-        ty: &Ty,
+        ty: Ty,
         b: &Boxed<Expr>,
         gives: Ty,
     ) -> Result<(Expr, Ty), TypeFault>
         requires { Nests self.now.depth (F.pre self.now.run) (F.post self.now.run) }
-        ensures meets { Meets (spec.after (spec.wanting scope.now.code.now scope.now.seen (below scope.now self.now.depth) state.old.ctx ty.now b.now state.old.node) (λ q. spec.settled_type at (option_copied want.entry) (x.Binary op first q) gives)) result state.new.node }
+        ensures meets { Meets (spec.after (spec.wanting scope.now.code.now scope.now.seen (below scope.now self.now.depth) state.old.ctx ty b.now state.old.node) (λ q. spec.settled_type at (option_copied want.entry) (x.Binary op first q) gives)) result state.new.node }
         ensures keeps { state.new.ctx ≡ state.old.ctx }
     {
-        match self.wanting_boxed(scope, state, ty, b) {
-            Ok(second) => settle_type(
-                self.alloc,
-                at,
-                state.node,
-                want,
-                Expr::Binary(op, first, second),
-                gives,
-            ),
-            Err(fault) => Err(fault),
+        let found = self.wanting_boxed(scope, state, &ty, b);
+        drop(ty);
+        match found {
+            Ok(second) => {
+                let whole = Expr::Binary(op, first, second);
+                settle_type(self.alloc, at, state.node, want, whole, gives)
+            }
+            Err(fault) => {
+                drop(first);
+                drop(gives);
+                Err(fault)
+            }
         }
     }
 
@@ -71,15 +73,15 @@ impl<
         ensures keeps { state.new.ctx ≡ state.old.ctx }
     {
         match self.wanting_boxed(scope, state, &ty, b) {
-            Ok(second) => settle_type(
-                self.alloc,
-                at,
-                state.node,
-                want,
-                Expr::Binary(op, first, second),
-                ty,
-            ),
-            Err(fault) => Err(fault),
+            Ok(second) => {
+                let whole = Expr::Binary(op, first, second);
+                settle_type(self.alloc, at, state.node, want, whole, ty)
+            }
+            Err(fault) => {
+                drop(first);
+                drop(ty);
+                Err(fault)
+            }
         }
     }
 
@@ -107,7 +109,7 @@ impl<
                 want,
                 op,
                 first,
-                &Ty::Int,
+                Ty::Int,
                 b,
                 Ty::Int,
             ),
@@ -136,6 +138,8 @@ impl<
                 if is_joined(&ty) {
                     self.joined_operand(scope, state, at, want, op, first, ty, b)
                 } else {
+                    drop(first);
+                    drop(ty);
                     Err(TypeFault::WrongShape(Place::Node(at)))
                 }
             }
@@ -167,7 +171,7 @@ impl<
                 want,
                 op,
                 first,
-                &ty,
+                ty,
                 b,
                 Ty::Bool,
             ),
@@ -194,8 +198,10 @@ impl<
         match self.run_boxed(scope, state, None, a) {
             Ok((first, ty)) => {
                 if is_ordered(&ty) {
-                    self.second_operand(scope, state, at, want, op, first, &ty, b, Ty::Bool)
+                    self.second_operand(scope, state, at, want, op, first, ty, b, Ty::Bool)
                 } else {
+                    drop(first);
+                    drop(ty);
                     Err(TypeFault::WrongShape(Place::Node(at)))
                 }
             }
@@ -222,17 +228,20 @@ impl<
         match self.run_boxed(scope, state, items_of(want), a) {
             Ok((first, item)) => match list_of(self.alloc, item) {
                 Ok(ty) => match self.wanting_boxed(scope, state, &ty, b) {
-                    Ok(second) => shallow(
-                        self.alloc,
-                        at,
-                        state.node,
-                        want,
-                        Expr::Binary(op, first, second),
-                        ty,
-                    ),
-                    Err(fault) => Err(fault),
+                    Ok(second) => {
+                        let whole = Expr::Binary(op, first, second);
+                        shallow(self.alloc, at, state.node, want, whole, ty)
+                    }
+                    Err(fault) => {
+                        drop(first);
+                        drop(ty);
+                        Err(fault)
+                    }
                 },
-                Err(NoMemory) => Err(TypeFault::NoMemory),
+                Err(NoMemory) => {
+                    drop(first);
+                    Err(TypeFault::NoMemory)
+                }
             },
             Err(fault) => Err(fault),
         }

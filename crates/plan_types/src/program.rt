@@ -157,15 +157,14 @@ fn body(
         ctx: copy_params(alloc, d.params.as_slice())?,
         node,
     };
-    let found = check_expr(
-        alloc,
-        MOST_DEPTH,
-        &scope,
-        &mut state,
-        Some(&d.result),
-        &d.body,
-    )?;
-    Ok((found, state.node))
+    let want = Some(&d.result);
+    let found = check_expr(alloc, MOST_DEPTH, &scope, &mut state, want, &d.body);
+    let next = state.node;
+    drop(state);
+    match found {
+        Ok(found) => Ok((found, next)),
+        Err(fault) => Err(fault),
+    }
 }
 
 /// What a function has beside its body.
@@ -176,9 +175,16 @@ fn head_of(alloc: Global, d: &Fun) -> Result<(Name, Params, Ty), NoMemory>
     match copy_params(alloc, d.params.as_slice()) {
         Ok(params) => match d.result.copy(alloc) {
             Ok(gives) => Ok((name, params, gives)),
-            Err(NoMemory) => Err(NoMemory),
+            Err(NoMemory) => {
+                drop(name);
+                drop(params);
+                Err(NoMemory)
+            }
         },
-        Err(NoMemory) => Err(NoMemory),
+        Err(NoMemory) => {
+            drop(name);
+            Err(NoMemory)
+        }
     }
 }
 
@@ -200,6 +206,14 @@ fn with_body(alloc: Global, d: &Fun, body: Expr) -> Result<Fun, NoMemory>
     }
 }
 
+/// Adds the same function with another body.
+fn add_fun(alloc: Global, funs: &mut Funs, d: &Fun, body: Expr) -> Result<(), NoMemory>
+    ensures { OnOk result (funs.new ≡ funs.old ++ record d.now { body = body } ∷ []) }
+{
+    let fun = with_body(alloc, d, body)?;
+    Ok(funs.add(fun)?)
+}
+
 /// The functions with the types of their bodies filled in, and the number of expressions.
 #[tactic(auto, unfolding(typing_rules::specs::TypingOrder::bodies_from))]
 fn bodies(alloc: Global, code: &Program, mut all: &[Fun]) -> Result<(Funs, u32), TypeFault>
@@ -208,8 +222,9 @@ fn bodies(alloc: Global, code: &Program, mut all: &[Fun]) -> Result<(Funs, u32),
     let mut done = Items::new(alloc);
     let mut node = 0u32;
     while let [d, rest @ ..] = all {
-        let (found, next) = body(alloc, code, done.len(), node, d)?;
-        done.add(with_body(alloc, d, found.0)?)?;
+        let ((whole, ty), next) = body(alloc, code, done.len(), node, d)?;
+        drop(ty);
+        add_fun(alloc, &mut done, d, whole)?;
         node = next;
         all = rest;
     }
@@ -223,9 +238,16 @@ fn with_funs(alloc: Global, code: &Program, funs: Funs) -> Result<Program, NoMem
     match copy_svcs(alloc, code.svcs.as_slice()) {
         Ok(svcs) => match copy_names(alloc, code.exns.as_slice()) {
             Ok(exns) => Ok(Program { svcs, exns, funs }),
-            Err(NoMemory) => Err(NoMemory),
+            Err(NoMemory) => {
+                drop(svcs);
+                drop(funs);
+                Err(NoMemory)
+            }
         },
-        Err(NoMemory) => Err(NoMemory),
+        Err(NoMemory) => {
+            drop(funs);
+            Err(NoMemory)
+        }
     }
 }
 

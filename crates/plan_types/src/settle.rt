@@ -15,7 +15,7 @@ use std::alloc::Global;
 use typing_rules::TypeFault;
 
 /// The refusal of an expression, which is let go.
-fn refuse_expr(e: Expr, fault: TypeFault) -> Result<(Expr, Ty), TypeFault>
+pub fn refuse_expr(e: Expr, fault: TypeFault) -> Result<(Expr, Ty), TypeFault>
     ensures { result ≡ Err fault }
 {
     drop(e);
@@ -28,7 +28,10 @@ fn mismatch(alloc: Global, at: u32, wanted: &Ty, ty: Ty) -> TypeFault
 {
     match wanted.copy(alloc) {
         Ok(wanted) => TypeFault::Mismatch(Place::Node(at), wanted, ty),
-        Err(NoMemory) => TypeFault::NoMemory,
+        Err(NoMemory) => {
+            drop(ty);
+            TypeFault::NoMemory
+        }
     }
 }
 
@@ -71,6 +74,7 @@ pub fn shallow(
     if ty.depth() <= 8 {
         settle_type(alloc, at, node, want, e, ty)
     } else {
+        drop(ty);
         refuse_expr(e, TypeFault::TypeTooDeep(Place::Node(at)))
     }
 }

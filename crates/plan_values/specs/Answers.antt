@@ -4,7 +4,7 @@ use Rattle.plan_base.specs.declared.tree.Exn.{Exn}
 use Rattle.plan_base.specs.declared.tree.Ty.{Ty}
 use Rattle.plan_base.specs.declared.tree.Value.{Value}
 use Rattle.typing_rules.specs.Typing.{HasType}
-use Rattle.value_rules.specs.Rules.{Given, gives, raises, unfit, limited_value}
+use Rattle.typing_rules.specs.Rules.{Given, gives, raises, unfit, limited_value}
 use Rattle.plan_values.specs.declared.fault.PrimFault.{PrimFault}
 use Rattle.plan_values.specs.declared.fault.PrimFault.TheVariants as fault
 

@@ -1,7 +1,7 @@
-ghost use Rattle.std.specs.Prelude.{◌≡◌, ◌∷◌, ◌++◌, IfOk, MatchOption};
+ghost use Rattle.std.specs.Prelude.{◌≡◌, [], ◌∷◌, ◌++◌, IfOk, MatchOption};
 ghost use Rattle.plan_base.specs.declared.tree.Value.{out-Value};
 ghost use Rattle.plan_base.specs.declared.tree.Value.TheVariants as value;
-ghost use Rattle.value_rules.specs.Rules as rules;
+ghost use Rattle.typing_rules.specs.Rules as rules;
 ghost use Rattle.plan_values.specs.Answers.{Answers, AnswersUnweighed};
 
 use crate::PrimFault;
@@ -13,18 +13,18 @@ use plan_sizes::weight;
 use std::alloc::{AllocError, Global};
 
 /// The value, or `TooLarge` where it weighs more than 16,384 bytes.
-#[tactic(auto, unfolding(value_rules::specs::Rules::limited_value))]
+#[tactic(auto, unfolding(typing_rules::specs::Rules::limited_value))]
 fn limit_value(alloc: Global, v: Value) -> Result<Value, PrimFault>
     ensures { Answers (rules.limited_value v) result }
 {
     if weight(&v) > 16384 {
+        drop(v);
         return Err(too_large(alloc));
     }
     Ok(v)
 }
 
 /// `a ^ b`: two strings or two blobs, joined.
-#[tactic(auto, using(plan_base::specs::Trees::trees))]
 pub fn join_values(alloc: Global, a: &Value, b: &Value) -> Result<Value, PrimFault>
     ensures { Answers (rules.joined_values (out-Value a.now) (out-Value b.now)) result }
 {
@@ -66,15 +66,16 @@ fn joined_bytes(alloc: Global, a: &Bytes, b: &Bytes) -> Result<Bytes, NoMemory>
 }
 
 /// `x :: xs`: the list with `x` before its items.
-#[tactic(auto, using(plan_base::specs::Trees::trees))]
 pub fn put_first(alloc: Global, x: &Value, xs: &Value) -> Result<Value, PrimFault>
     ensures { Answers (rules.put_first x.now (out-Value xs.now)) result }
 {
     match xs {
         Value::List(t, items) => {
-            let t = Boxed::new(alloc, t.get().copy(alloc)?)?;
-            let items = with_first(alloc, x, items.as_slice())?;
-            limit_value(alloc, Value::List(t, items))
+            let t = boxed_copy(alloc, t.get())?;
+            match with_first(alloc, x, items.as_slice()) {
+                Ok(items) => limit_value(alloc, Value::List(t, items)),
+                Err(_) => Err(PrimFault::NoMemory),
+            }
         }
         Value::Unit
         | Value::Bool(_)
@@ -89,11 +90,34 @@ pub fn put_first(alloc: Global, x: &Value, xs: &Value) -> Result<Value, PrimFaul
     }
 }
 
+/// The same type, in a box.
+fn boxed_copy(alloc: Global, t: &Ty) -> Result<Boxed<Ty>, NoMemory>
+    ensures { IfOk result (λ copied. copied ≡ t.now) }
+{
+    match t.copy(alloc) {
+        Ok(copied) => Ok(Boxed::new(alloc, copied)?),
+        Err(fault) => Err(fault),
+    }
+}
+
+/// A list of one copied value.
+fn list_of(alloc: Global, x: &Value) -> Result<Values, NoMemory>
+    ensures { IfOk result (λ one. one ≡ x.now ∷ []) }
+{
+    let mut one = Items::new(alloc);
+    match x.copy(alloc) {
+        Ok(copied) => {
+            one.add(copied)?;
+            Ok(one)
+        }
+        Err(fault) => Err(fault),
+    }
+}
+
 fn with_first(alloc: Global, x: &Value, items: &[Value]) -> Result<Values, NoMemory>
     ensures { IfOk result (λ all. all ≡ x.now ∷ items.now) }
 {
-    let mut all = Items::new(alloc);
-    all.add(x.copy(alloc)?)?;
+    let mut all = list_of(alloc, x)?;
     all.append(copy_values(alloc, items)?)?;
     Ok(all)
 }
@@ -108,37 +132,47 @@ fn put_before(x: Value, items: Values) -> Result<Values, AllocError>
 }
 
 /// `x :: xs` of owned values, which isn't weighed yet.
-#[tactic(auto, using(plan_base::specs::Trees::trees))]
 pub fn cons(x: Value, xs: Value) -> Result<Value, PrimFault>
     ensures { AnswersUnweighed (rules.put_first x (out-Value xs)) result }
 {
     match xs {
-        Value::List(t, items) => Ok(Value::List(t, put_before(x, items)?)),
-        _ => Err(PrimFault::Unfit),
+        Value::List(t, items) => match put_before(x, items) {
+            Ok(all) => Ok(Value::List(t, all)),
+            Err(_) => Err(PrimFault::NoMemory),
+        },
+        _ => {
+            drop(x);
+            drop(xs);
+            Err(PrimFault::Unfit)
+        }
     }
 }
 
 /// `hd(xs)`: a copy of the first item.
-#[tactic(auto, using(crate::proofs::ListLaws::lists))]
 pub fn first_item(alloc: Global, items: &[Value]) -> Result<Value, PrimFault>
     ensures { Answers (rules.first_item items.now) result }
 {
     match items.first() {
-        Some(first) => Ok(first.copy(alloc)?),
+        Some(first) => match first.copy(alloc) {
+            Ok(copied) => Ok(copied),
+            Err(_) => Err(PrimFault::NoMemory),
+        },
         None => Err(empty(alloc)),
     }
 }
 
 /// `tl(xs)`: a copy of the list without its first item.
-#[tactic(auto, using(crate::proofs::ListLaws::lists))]
 pub fn later_items(alloc: Global, t: &Ty, items: &[Value]) -> Result<Value, PrimFault>
     ensures { Answers (rules.later_items t.now items.now) result }
 {
     match items {
-        [_, later @ ..] => Ok(Value::List(
-            Boxed::new(alloc, t.copy(alloc)?)?,
-            copy_values(alloc, later)?,
-        )),
+        [_, later @ ..] => {
+            let t = boxed_copy(alloc, t)?;
+            match copy_values(alloc, later) {
+                Ok(later) => Ok(Value::List(t, later)),
+                Err(_) => Err(PrimFault::NoMemory),
+            }
+        }
         [] => Err(empty(alloc)),
     }
 }
@@ -154,7 +188,6 @@ pub fn blob_part(alloc: Global, b: &Bytes, i: i64, n: i64) -> Result<Value, Prim
 }
 
 /// The `n` bytes from place `i`, where they are all there.
-#[tactic(auto, using(crate::proofs::Blobs::parts))]
 fn part_between(b: &[u8], i: i64, n: i64) -> Option<&[u8]>
     ensures { MatchOption result (rules.blob_part b.now i n ≡ rules.raises rules.bad_index) (λ p. rules.blob_part b.now i n ≡ rules.gives (value.Blob p.now)) }
 {

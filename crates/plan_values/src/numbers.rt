@@ -1,5 +1,5 @@
 ghost use Rattle.std.specs.Prelude.{◌+ℤ◌, ◌-ℤ◌, ◌*ℤ◌};
-ghost use Rattle.value_rules.specs.Rules as rules;
+ghost use Rattle.typing_rules.specs.Rules as rules;
 ghost use Rattle.plan_values.specs.Answers.{Answers};
 
 use crate::PrimFault;
@@ -7,7 +7,6 @@ use crate::raise::{division_by_zero, overflow};
 use plan_base::Value;
 use std::alloc::Global;
 
-#[tactic(auto, using(crate::proofs::NumberLaws::bounds))]
 pub fn sum(alloc: Global, a: i64, b: i64) -> Result<Value, PrimFault>
     ensures { Answers (rules.bounded_number (a +ℤ b)) result }
 {
@@ -27,7 +26,6 @@ pub fn difference(alloc: Global, a: i64, b: i64) -> Result<Value, PrimFault>
     }
 }
 
-#[tactic(auto, using(crate::proofs::NumberLaws::bounds))]
 pub fn product(alloc: Global, a: i64, b: i64) -> Result<Value, PrimFault>
     ensures { Answers (rules.bounded_number (a *ℤ b)) result }
 {
@@ -37,7 +35,6 @@ pub fn product(alloc: Global, a: i64, b: i64) -> Result<Value, PrimFault>
     }
 }
 
-#[tactic(auto, using(crate::proofs::NumberLaws::quotients))]
 pub fn quotient(alloc: Global, a: i64, b: i64) -> Result<Value, PrimFault>
     ensures { Answers (rules.divided_number a b) result }
 {
@@ -50,7 +47,6 @@ pub fn quotient(alloc: Global, a: i64, b: i64) -> Result<Value, PrimFault>
     }
 }
 
-#[tactic(auto, using(crate::proofs::NumberLaws::remainders))]
 pub fn remainder(alloc: Global, a: i64, b: i64) -> Result<Value, PrimFault>
     ensures { Answers (rules.remainder a b) result }
 {

@@ -1,11 +1,11 @@
 ghost use Rattle.std.specs.Prelude.{◌≡◌, not};
 ghost use Rattle.std.specs.Option as option;
 ghost use Rattle.plan_base.specs.declared.tree.Value.{out-Value};
-ghost use Rattle.value_rules.specs.Rules as rules;
-ghost use Rattle.value_rules.specs.Same.{same_value};
+ghost use Rattle.typing_rules.specs.Rules as rules;
+ghost use Rattle.typing_rules.specs.Same.{same_value};
 ghost use Rattle.plan_base.specs.declared.tree.Ty.{Ty as AType};
 ghost use Rattle.typing_rules.specs.Typing.{HasType};
-ghost use Rattle.value_rules.specs.Typed.{OperatorTakes};
+ghost use Rattle.typing_rules.specs.Typed.{OperatorTakes};
 ghost use Rattle.plan_values.specs.Answers.{Answers, IsFit};
 
 use crate::PrimFault;
@@ -18,7 +18,6 @@ use std::alloc::Global;
 
 /// The value or the exception of `a op b`, or `Unfit` where the operator doesn't take such operands: never where they have
 /// types that it takes.
-#[tactic(auto, using(crate::proofs::Fit::binary_fits))]
 pub fn binary(alloc: Global, op: Op, a: &Value, b: &Value) -> Result<Value, PrimFault>
     ensures answers { Answers (rules.binary op a.now b.now) result }
     ensures fits { (t u r : AType) → OperatorTakes op t u r → HasType a.now t → HasType b.now u → IsFit r result }
@@ -26,7 +25,7 @@ pub fn binary(alloc: Global, op: Op, a: &Value, b: &Value) -> Result<Value, Prim
     apply_operator(alloc, op, a, b)
 }
 
-#[tactic(auto, unfolding(value_rules::specs::Rules::binary))]
+#[tactic(auto, unfolding(typing_rules::specs::Rules::binary))]
 fn apply_operator(alloc: Global, op: Op, a: &Value, b: &Value) -> Result<Value, PrimFault>
     ensures { Answers (rules.binary op a.now b.now) result }
 {
@@ -43,7 +42,6 @@ fn apply_operator(alloc: Global, op: Op, a: &Value, b: &Value) -> Result<Value, 
     }
 }
 
-#[tactic(auto, using(value_rules::proofs::Same::same_value_decides))]
 fn same(a: &Value, b: &Value) -> bool
     ensures { result ≡ same_value a.now b.now }
 {
@@ -68,7 +66,6 @@ fn negated_answer(before: Option<bool>) -> Result<Value, PrimFault>
     }
 }
 
-#[tactic(auto, using(plan_base::specs::Trees::trees))]
 fn on_numbers(alloc: Global, op: Op, a: &Value, b: &Value) -> Result<Value, PrimFault>
     ensures { Answers (rules.numbers (rules.computed_number op) (out-Value a.now) (out-Value b.now)) result }
 {

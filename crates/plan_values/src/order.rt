@@ -3,12 +3,11 @@ ghost use Rattle.std.specs.Ordering.{is_lt, nat_cmp};
 ghost use Rattle.std.specs.Cmp.Lexicographic.{slice_cmp};
 ghost use Rattle.std.specs.Option as option;
 ghost use Rattle.plan_base.specs.declared.tree.Value.{out-Value};
-ghost use Rattle.value_rules.specs.Rules as rules;
+ghost use Rattle.typing_rules.specs.Rules as rules;
 
 use plan_base::{Text, Value};
 
 /// Whether `a` stands before `b`, where both are numbers, chars or strings.
-#[tactic(auto, using(plan_base::specs::Trees::trees))]
 pub fn before(a: &Value, b: &Value) -> Option<bool>
     ensures { result ≡ rules.before (out-Value a.now) (out-Value b.now) }
 {

@@ -2,7 +2,7 @@ ghost use Rattle.std.specs.Prelude.{◌≡◌, ◌-◌, List, Some, slice_get};
 ghost use Rattle.std.specs.Option.{option_copied};
 ghost use Rattle.plan_base.specs.declared.tree.Value.{out-Value};
 ghost use Rattle.plan_base.specs.declared.tree.Value.TheOpen.{Value-F as layer};
-ghost use Rattle.value_rules.specs.Rules as rules;
+ghost use Rattle.typing_rules.specs.Rules as rules;
 ghost use Rattle.plan_base.specs.declared.tree.Ty.{Ty as AType};
 ghost use Rattle.plan_base.specs.declared.tree.Ty as ty;
 ghost use Rattle.typing_rules.specs.Typing.{HasType};
@@ -15,7 +15,6 @@ use plan_copies::Copied;
 use std::alloc::Global;
 
 /// A copy of the part of a tuple with number `i`, from 1, or `Unfit` where `v` has no such part: never where its type has one.
-#[tactic(auto, using(crate::proofs::Fit::part_fits))]
 pub fn part(alloc: Global, i: u8, v: &Value) -> Result<Value, PrimFault>
     ensures answers { Answers (rules.part i v.now) result }
     ensures fits { (ts : List AType) (t : AType) → HasType v.now (ty.Tuple ts) → part_of i ts ≡ Some t → IsFit t result }
@@ -23,7 +22,7 @@ pub fn part(alloc: Global, i: u8, v: &Value) -> Result<Value, PrimFault>
     part_in(alloc, i, v)
 }
 
-#[tactic(auto, unfolding(value_rules::specs::Rules::part), using(plan_base::specs::Trees::trees))]
+#[tactic(auto, unfolding(typing_rules::specs::Rules::part))]
 fn part_in(alloc: Global, i: u8, v: &Value) -> Result<Value, PrimFault>
     ensures { Answers (rules.part i v.now) result }
 {
@@ -46,7 +45,10 @@ fn copy_part(alloc: Global, v: Option<&Value>) -> Result<Value, PrimFault>
     ensures { Answers (rules.found_value (option_copied v.entry)) result }
 {
     match v {
-        Some(v) => Ok(v.copy(alloc)?),
+        Some(v) => match v.copy(alloc) {
+            Ok(copied) => Ok(copied),
+            Err(_) => Err(PrimFault::NoMemory),
+        },
         None => Err(PrimFault::Unfit),
     }
 }

@@ -2,10 +2,10 @@ ghost use Rattle.std.specs.Prelude.{◌≡◌, IfOk, List, pos};
 ghost use Rattle.plan_base.specs.declared.prim.Primitive.TheVariants as prim;
 ghost use Rattle.plan_base.specs.declared.tree.Value.{out-Value};
 ghost use Rattle.plan_base.specs.declared.tree.Value.TheVariants as value;
-ghost use Rattle.value_rules.specs.Rules as rules;
+ghost use Rattle.typing_rules.specs.Rules as rules;
 ghost use Rattle.plan_base.specs.declared.tree.Ty.{Ty as AType};
 ghost use Rattle.typing_rules.specs.Typing.{HaveTypes};
-ghost use Rattle.value_rules.specs.Typed.{PrimitiveTakes};
+ghost use Rattle.typing_rules.specs.Typed.{PrimitiveTakes};
 ghost use Rattle.plan_values.specs.Answers.{Answers, IsFit};
 
 use crate::PrimFault;
@@ -22,7 +22,7 @@ pub fn primitive(alloc: Global, p: Primitive, args: &Values) -> Result<Value, Pr
     apply_primitive(alloc, p, args)
 }
 
-#[tactic(auto, unfolding(value_rules::specs::Rules::primitive), using(crate::proofs::Arguments::arguments))]
+#[tactic(auto, unfolding(typing_rules::specs::Rules::primitive))]
 fn apply_primitive(alloc: Global, p: Primitive, args: &Values) -> Result<Value, PrimFault>
     ensures { Answers (rules.primitive p args.now) result }
 {
@@ -48,7 +48,6 @@ fn of_one(alloc: Global, p: Primitive, a: &Value) -> Result<Value, PrimFault>
     }
 }
 
-#[tactic(auto, using(plan_base::specs::Trees::trees))]
 fn head(alloc: Global, a: &Value) -> Result<Value, PrimFault>
     ensures { Answers (rules.of_one prim.Hd (out-Value a.now)) result }
 {
@@ -58,7 +57,6 @@ fn head(alloc: Global, a: &Value) -> Result<Value, PrimFault>
     }
 }
 
-#[tactic(auto, using(plan_base::specs::Trees::trees))]
 fn tail(alloc: Global, a: &Value) -> Result<Value, PrimFault>
     ensures { Answers (rules.of_one prim.Tl (out-Value a.now)) result }
 {
@@ -68,7 +66,6 @@ fn tail(alloc: Global, a: &Value) -> Result<Value, PrimFault>
     }
 }
 
-#[tactic(auto, using(plan_base::specs::Trees::trees))]
 fn length(a: &Value) -> Result<Value, PrimFault>
     ensures { Answers (rules.of_one prim.Length (out-Value a.now)) result }
 {
@@ -88,7 +85,6 @@ fn count_value(n: usize) -> Result<Value, PrimFault>
     }
 }
 
-#[tactic(auto, using(plan_base::specs::Trees::trees))]
 fn int_to_string(alloc: Global, a: &Value) -> Result<Value, PrimFault>
     ensures { Answers (rules.of_one prim.IntToString (out-Value a.now)) result }
 {
@@ -110,7 +106,6 @@ fn printed_int(alloc: Global, n: i64) -> Result<Text, NoMemory>
     Ok(Text::of(text.into_bytes()))
 }
 
-#[tactic(auto, using(plan_base::specs::Trees::trees))]
 fn host_to_string(alloc: Global, a: &Value) -> Result<Value, PrimFault>
     ensures { Answers (rules.of_one prim.HostToString (out-Value a.now)) result }
 {
@@ -135,7 +130,6 @@ fn bytes_of(alloc: Global, s: &Text) -> Result<Bytes, NoMemory>
     Ok(Bytes::of(Vec::from_slice(alloc, s.as_slice())?))
 }
 
-#[tactic(auto, using(plan_base::specs::Trees::trees))]
 fn string_to_blob(alloc: Global, a: &Value) -> Result<Value, PrimFault>
     ensures { Answers (rules.of_one prim.StringToBlob (out-Value a.now)) result }
 {
@@ -145,7 +139,6 @@ fn string_to_blob(alloc: Global, a: &Value) -> Result<Value, PrimFault>
     }
 }
 
-#[tactic(auto, using(plan_base::specs::Trees::trees))]
 fn blob_length(a: &Value) -> Result<Value, PrimFault>
     ensures { Answers (rules.of_one prim.BlobLength (out-Value a.now)) result }
 {
@@ -155,7 +148,6 @@ fn blob_length(a: &Value) -> Result<Value, PrimFault>
     }
 }
 
-#[tactic(auto, using(plan_base::specs::Trees::trees))]
 fn of_three(
     alloc: Global,
     p: Primitive,
@@ -177,7 +169,6 @@ fn of_three(
     }
 }
 
-#[tactic(auto, using(plan_base::specs::Trees::trees))]
 fn part_of_blob(alloc: Global, a: &Value, b: &Value, c: &Value) -> Result<Value, PrimFault>
     ensures { Answers (rules.of_three prim.BlobPart (out-Value a.now) (out-Value b.now) (out-Value c.now)) result }
 {

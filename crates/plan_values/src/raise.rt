@@ -1,6 +1,6 @@
 ghost use Rattle.std.specs.Prelude.{codes};
 ghost use Rattle.plan_base.specs.Words.{IsName};
-ghost use Rattle.value_rules.specs.Rules as rules;
+ghost use Rattle.typing_rules.specs.Rules as rules;
 ghost use Rattle.plan_values.specs.Answers.{RaisesOnly};
 
 use crate::PrimFault;

@@ -27,7 +27,6 @@ pub enum PortEvent {
 }
 
 /// What two ends of a port do.
-#[derive(Drop)]
 pub struct PortFile {
     /// The purse of the end that offers messages, at most 65,535.
     pub first: u32,
@@ -35,6 +34,16 @@ pub struct PortFile {
     pub second: u32,
     /// The events, at most 50,000.
     pub events: PortEvents,
+}
+
+impl Drop for PortFile {
+    fn drop(self) {
+        let PortFile {
+            first: _first,
+            second: _second,
+            events: _events,
+        } = self;
+    }
 }
 
 /// The first word of an event.

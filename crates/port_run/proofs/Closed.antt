@@ -9,8 +9,8 @@ use Rattle.typing_rules.specs.TypingNames.{prim_of}
 use Rattle.service_api.specs.Services.{Offer}
 use Rattle.plan_meaning.specs.Meaning.{Env, binds, bound, run_to}
 use Rattle.plan_meaning.specs.State.{VisitState}
-use Rattle.port_tree.specs.Programs as port
-use Rattle.port_tree.specs.Programs.{port_program, data_chunk, data_fun, ack_chunk, ack_fun, this_host_is, get_rb, deliver}
+use Rattle.reliable_ports.specs.Programs as port
+use Rattle.reliable_ports.specs.Programs.{port_program, data_chunk, data_fun, ack_chunk, ack_fun, this_host_is, get_rb, deliver}
 use Rattle.port_run.specs.Only.{Allowed, Good, Serves}
 use Rattle.port_run.specs.Visits.{VisitIsGood, Any, data_said, ack_said}
 use Rattle.port_run.proofs.Rules.{only_visited, chooses, calls_service, sends_on, gives_var, gives_int, gives_blob, gives_tuple, gives_chunk, only_any, Gives_value}

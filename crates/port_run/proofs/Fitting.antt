@@ -15,7 +15,7 @@ use Rattle.world_model.specs.declared.lines.Line.{Line}
 use Rattle.world_model.specs.declared.lines.Line.TheVariants as line
 use Rattle.world_model.specs.World.{WorldState, happens}
 use Rattle.world_model.specs.Sound.{event_fits, EventsFit}
-use Rattle.port_chunks.proofs.PortTyping.{data_checked, ack_checked}
+use Rattle.reliable_ports.proofs.PortTyping.{data_checked, ack_checked}
 use Rattle.reliable_ports.specs.Ends.{Body, IsShort, AllShort, Sending, number_of, is_full, with_offer, held_at, is_awaited, is_news, with_ack, next_of, with_message}
 use Rattle.reliable_ports.proofs.Held.{held_short, short_push, short_drop}
 use Rattle.port_run.specs.Ports.{PortState, PortEvent, Offer, Transmit, Wire, first_host, second_host, price, said_to, heard_by, makes, first_pays, second_pays, ack_event, message_event, acks, hears_message, hears_ack, hears_note, hears_line, hears, after, offers_one, transmits, port_run, port_begun}

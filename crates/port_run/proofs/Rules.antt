@@ -24,7 +24,7 @@ use Rattle.service_api.specs.Services.{served_call, called_services as kept_rows
 use Rattle.plan_meaning.specs.declared.sent.Sent.{Sent}
 use Rattle.plan_meaning.specs.declared.stop.EvalStop.{EvalStop}
 use Rattle.plan_meaning.specs.declared.stop.EvalStop.TheVariants.{Raised, WorkSpent}
-use Rattle.value_rules.specs.Rules.{too_large}
+use Rattle.typing_rules.specs.Rules.{too_large}
 use Rattle.plan_meaning.specs.State.{VisitState}
 use Rattle.plan_meaning.specs.Run.{After, gave, stopped, Run, ◌>>=◌, ◌>>◌, pure, stop, raise, or_wrong, spend, weighed_value, is_too_large, whole, serve, notes_after, answered_call, quiet, «next»}
 use Rattle.std.specs.Prelude.{slice_get}

@@ -12,10 +12,10 @@ use Rattle.service_api.specs.Schemes.{instance}
 use Rattle.service_api.specs.Services.{Rows}
 use Rattle.service_meaning.specs.declared.service.Service.TheVariants as service
 use Rattle.service_meaning.specs.Offered.{InstalledPackages, type_of}
-use Rattle.value_rules.specs.Rules.{bad_index}
+use Rattle.typing_rules.specs.Rules.{bad_index}
 use Rattle.service_meaning.specs.Answers.{given_answer, noted_answer, raised_answer, of_host, of_int, delivered_answer}
 use Rattle.service_meaning.specs.Serving.{serve, serve_at, serve_offered, offer}
-use Rattle.port_tree.specs.Programs.{this_host_is, get_rb, deliver}
+use Rattle.reliable_ports.specs.Programs.{this_host_is, get_rb, deliver}
 use Rattle.port_run.specs.Only.{AnswerFits}
 use Rattle.port_run.specs.Visits.{Any}
 use Rattle.port_run.specs.Allowed.{NoNote, PortServes}

@@ -11,7 +11,7 @@ use Rattle.service_api.specs.Services.{Offer as Offering, Rows}
 use Rattle.network_plan.specs.declared.schedule.HostSpec.{HostSpec}
 use Rattle.network_plan.specs.declared.event.WorldEvent.TheVariants as event
 use Rattle.reliable_ports.specs.Ends.{Body}
-use Rattle.port_tree.specs.Programs.{this_host_is, get_rb, deliver, data_chunk, ack_chunk}
+use Rattle.reliable_ports.specs.Programs.{this_host_is, get_rb, deliver, data_chunk, ack_chunk}
 use Rattle.port_run.specs.Only.{Allowed, AnswerFits}
 use Rattle.port_run.specs.Visits.{Any, data_said, ack_said}
 use Rattle.port_run.specs.Ports.{first_host, second_host, PortEvent, Wire}

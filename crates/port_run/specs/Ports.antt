@@ -14,7 +14,7 @@ use Rattle.world_model.specs.declared.lines.Line.TheVariants.{At}
 use Rattle.world_model.specs.World.{WorldState, happens}
 use Rattle.reliable_ports.specs.Ends.{Body, number_of, Sending, Receiving, no_offers, no_messages, is_full, with_offer, held_at, with_ack, next_of, with_message}
 use Rattle.reliable_ports.specs.Scripts.{IsPrefix}
-use Rattle.port_tree.specs.Programs.{data_chunk, ack_chunk}
+use Rattle.reliable_ports.specs.Programs.{data_chunk, ack_chunk}
 
 -- the host that offers messages
 abbrev pub first_host : Host

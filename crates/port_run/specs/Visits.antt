@@ -9,7 +9,7 @@ use Rattle.service_api.specs.Services.{Offer}
 use Rattle.plan_meaning.specs.State.{VisitState}
 use Rattle.plan_meaning.specs.Run.{After, gave, stopped}
 use Rattle.plan_meaning.specs.Meaning.{meaning, visited_chunk}
-use Rattle.port_tree.specs.Programs.{data_chunk, ack_chunk, this_host_is, get_rb, deliver}
+use Rattle.reliable_ports.specs.Programs.{data_chunk, ack_chunk, this_host_is, get_rb, deliver}
 use Rattle.port_run.specs.Only.{Allowed, Good, Serves}
 
 -- an evaluation's end: all that was sent and noted is allowed, and the value, if there is one, is one of those

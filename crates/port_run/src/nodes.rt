@@ -1,7 +1,7 @@
 ghost use Rattle.std.specs.Prelude.{◌≡◌, ℤ, ℕ, List, None};
 ghost use Rattle.plan_base.specs.declared.ids.Host.{Host};
 ghost use Rattle.service_api.specs.Services.{Offer};
-ghost use Rattle.port_tree.specs.Programs.{data_chunk};
+ghost use Rattle.reliable_ports.specs.Programs.{data_chunk};
 ghost use Rattle.port_run.specs.Visits.{data_allowed};
 ghost use Rattle.plan_base.specs.declared.tree.Packet.{Packet};
 ghost use Rattle.plan_base.specs.declared.ids.Dev.{Dev};

@@ -2,7 +2,7 @@ ghost use Rattle.std.specs.Prelude.{ℤ, pos, ℕ, List};
 ghost use Rattle.plan_base.specs.declared.ids.Host.{Host};
 ghost use Rattle.service_api.specs.Services.{Offer};
 ghost use Rattle.plan_meaning.specs.State.{VisitState};
-ghost use Rattle.port_tree.specs.Programs.{data_chunk, ack_chunk};
+ghost use Rattle.reliable_ports.specs.Programs.{data_chunk, ack_chunk};
 ghost use Rattle.port_run.specs.Only.{Good};
 ghost use Rattle.port_run.specs.Visits.{ServesPort, VisitIsGood, data_said, data_allowed, ack_said, ack_allowed};
 

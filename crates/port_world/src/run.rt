@@ -38,11 +38,30 @@ fn run_events<S: Services>(
     Ok(())
 }
 
+/// What is written of two ends with which nothing has happened.
+#[tactic(auto, unfolding(crate::specs::Texts::port_output))]
+fn text_of<S: Services>(
+    alloc: Global,
+    file: &PortFile,
+    ports: &mut Ports<S>,
+) -> Result<Bytes, NoMemory>
+    requires keeps { KeepsPort file.now }
+    requires begun { PortStands S.stands ports.old (begun_ports file.now) }
+    requires cost { budget ports.old ≤ 65535 }
+    ensures { IfOk result (λ text. text ≡ port_output file.now) }
+{
+    let mut text = Bytes::new(alloc);
+    text.add_all(b"planet port 1\n")?;
+    run_events(alloc, file, ports, &mut text)?;
+    ports.put_ends(alloc, file.first, file.second, &mut text)?;
+    Ok(text)
+}
+
 /// What is written of two ends: a line for each event that met something, and how the ends stand in the end. After every
 /// number of events, what was delivered is a prefix of what was offered, no more is acknowledged than was delivered, and the
 /// hops and evals of any families together are at most what both purses paid; see `docs/ports.md`. `services`: one for each
 /// host. Condition: the file keeps its rules.
-#[tactic(auto, using(crate::proofs::Promises::keeps_order, crate::proofs::Promises::keeps_purses), unfolding(crate::specs::Texts::port_output))]
+#[tactic(auto, using(crate::proofs::Promises::keeps_order, crate::proofs::Promises::keeps_purses))]
 pub fn port_text<S: Services + Drop>(
     alloc: Global,
     file: &PortFile,
@@ -55,9 +74,7 @@ pub fn port_text<S: Services + Drop>(
     ensures purses { KeepsPurses file.now }
 {
     let mut ports = Ports::begin(alloc, file.first, file.second, services)?;
-    let mut text = Bytes::new(alloc);
-    text.add_all(b"planet port 1\n")?;
-    run_events(alloc, file, &mut ports, &mut text)?;
-    ports.put_ends(alloc, file.first, file.second, &mut text)?;
-    Ok(text)
+    let text = text_of(alloc, file, &mut ports);
+    drop(ports);
+    text
 }

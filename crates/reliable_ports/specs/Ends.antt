@@ -3,7 +3,7 @@ use Rattle.std.specs.Prelude.{◌≡◌, ◌≤◌, ◌<◌, ℕ, zero, suc, ◌
 use Rattle.std.specs.List.{AllByRecursion}
 use Rattle.plan_base.specs.declared.ids.Host.{Host}
 use Rattle.plan_base.specs.declared.tree.Chunk.{Chunk}
-use Rattle.port_tree.specs.Programs.{data_chunk, ack_chunk}
+use Rattle.reliable_ports.specs.Programs.{data_chunk, ack_chunk}
 use Rattle.reliable_ports.specs.declared.sender.Ack.{Ack}
 use Rattle.reliable_ports.specs.declared.sender.Ack.TheVariants.{Moved, Old, Stranger}
 use Rattle.reliable_ports.specs.declared.receiver.Came.{Came}

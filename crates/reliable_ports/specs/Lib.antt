@@ -1,2 +1,4 @@
+pub mod Programs
+pub mod Texts
 pub mod Ends
 pub mod Scripts

@@ -1,13 +1,13 @@
 ghost use Rattle.std.specs.Prelude.{◌≡◌, ◌+◌, ◌<◌, ◌^◌, length, IfOk, OnOk, Err, ◌↔◌, OnErr};
 ghost use Rattle.reliable_ports.specs.Ends as spec;
 
+use crate::chunks::{ack_chunk, port_code};
 use crate::ends::{keep, move_ready};
 use crate::number::{PRICE, WINDOW, number_of};
 use chunk_types::CheckedChunk;
 use plan_base::{Bytes, Host, NoMemory};
 use plan_items::Items;
 use plan_types::Checked;
-use port_chunks::{ack_chunk, port_code};
 use remote_calls::Purse;
 use std::alloc::Global;
 use std::collections::VecDeque;
@@ -59,7 +59,7 @@ pub struct Receiver {
 
 impl Model for Receiver {
     ghost use Rattle.std.specs.Prelude.{◌≡◌, ◌≤◌, length};
-    ghost use Rattle.port_tree.specs.Programs.{port_program};
+    ghost use Rattle.reliable_ports.specs.Programs.{port_program};
     ghost use Rattle.reliable_ports.specs.Ends.{Receiving};
 
     ghost Value = { Receiving };

@@ -3,12 +3,12 @@ ghost use Rattle.std.specs.Option.{option_copied};
 ghost use Rattle.reliable_ports.specs.Ends as spec;
 ghost use Rattle.reliable_ports.specs.declared.sender.TransmitFault.TheVariants as fault;
 
+use crate::chunks::{data_chunk, port_code};
 use crate::ends::{body_in, drop_front, push_last};
 use crate::number::{PRICE, WINDOW, number_of};
 use chunk_types::CheckedChunk;
 use plan_base::{Bytes, Host, NoMemory};
 use plan_types::Checked;
-use port_chunks::{data_chunk, port_code};
 use remote_calls::Purse;
 use std::alloc::Global;
 use std::collections::VecDeque;
@@ -75,7 +75,7 @@ pub struct Sender {
 
 impl Model for Sender {
     ghost use Rattle.std.specs.Prelude.{◌≡◌, ◌+◌, ◌≤◌, ◌^◌, length};
-    ghost use Rattle.port_tree.specs.Programs.{port_program};
+    ghost use Rattle.reliable_ports.specs.Programs.{port_program};
     ghost use Rattle.reliable_ports.specs.Ends.{Sending, AllShort};
 
     ghost Value = { Sending };

@@ -1,4 +1,4 @@
-ghost use Rattle.std.specs.Prelude.{◌≡◌, ◌≤◌, min, IfOk, OnOk, OnErr};
+ghost use Rattle.std.specs.Prelude.{◌≡◌, ◌≤◌, [], ◌∷◌, ◌++◌, min, IfOk, OnOk, OnErr};
 ghost use Rattle.table_rows.specs.Rows.{put_row, without_row, living, rows_size};
 ghost use Rattle.resident_tables.specs.Expiries.{least_expiry};
 ghost use Rattle.resident_tables.specs.Layers.{without_all};
@@ -20,9 +20,13 @@ pub fn put_parts(alloc: Global, rows: &mut KeyedList<Row>, parts: &Parts) -> Res
     ensures spare { OnErr result (rows.old.spare ≤ rows.new.spare) }
 {
     rows.reserve(1)?;
-    let row = parts.row(alloc)?;
-    rows.put(row);
-    Ok(())
+    match parts.row(alloc) {
+        Ok(row) => {
+            rows.put(row);
+            Ok(())
+        }
+        Err(fault) => Err(fault),
+    }
 }
 
 /// Notes the key as removed, where the tables have a row of it and it isn't noted yet.
@@ -108,7 +112,17 @@ pub fn copy_rows(alloc: Global, rows: &[Row]) -> Result<Vec<Row>, NoMemory>
 {
     let mut done = Items::new(alloc);
     for row in rows {
-        done.add(row.copy(alloc)?)?;
+        add_copy(alloc, row, &mut done)?;
     }
     Ok(done.into_vec())
+}
+
+/// Adds the same row.
+fn add_copy(alloc: Global, row: &Row, done: &mut Items<Row>) -> Result<(), NoMemory>
+    ensures { OnOk result (done.new ≡ done.old ++ row.now ∷ []) }
+{
+    match row.copy(alloc) {
+        Ok(copied) => Ok(done.add(copied)?),
+        Err(fault) => Err(fault),
+    }
 }

@@ -47,12 +47,29 @@ impl Parts<'_> {
     pub fn row(&self, alloc: Global) -> Result<Row, NoMemory>
         ensures { IfOk result (λ r. r ≡ part_row self.entry.now) }
     {
-        Ok(Row {
-            name: self.name.copy(alloc)?,
-            key: self.key,
-            ty: self.ty.copy(alloc)?,
-            value: self.value.copy(alloc)?,
-            expiry: self.expiry,
-        })
+        let name = self.name.copy(alloc)?;
+        match self.ty.copy(alloc) {
+            Ok(ty) => self.row_with(alloc, name, ty),
+            Err(fault) => Err(fault),
+        }
+    }
+
+    /// The row of these parts but for its name and type.
+    fn row_with(&self, alloc: Global, name: Text, ty: Ty) -> Result<Row, NoMemory>
+        ensures { IfOk result (λ r. r ≡ record (part_row self.entry.now) { name = name; ty = ty }) }
+    {
+        match self.value.copy(alloc) {
+            Ok(value) => Ok(Row {
+                name,
+                key: self.key,
+                ty,
+                value,
+                expiry: self.expiry,
+            }),
+            Err(fault) => {
+                drop(ty);
+                Err(fault)
+            }
+        }
     }
 }

@@ -16,7 +16,9 @@ pub fn on_seed<K: Sink>(alloc: Global, seed: u64, events: u32, out: &mut K) -> C
     let Ok(topology) = ring(alloc) else {
         return Cause::NoMemory;
     };
-    let Ok(services) = services_of(alloc, topology.hosts.as_slice()) else {
+    let services = services_of(alloc, topology.hosts.as_slice());
+    drop(topology);
+    let Ok(services) = services else {
         return Cause::NoMemory;
     };
     match grow(alloc, seed, events, services, out) {

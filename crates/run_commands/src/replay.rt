@@ -43,6 +43,7 @@ fn run_read<K: Sink>(alloc: Global, schedule: Schedule, out: &mut K) -> Cause
     ensures { Prints (replay_text schedule) result (K.state out.old) (K.state out.new) }
 {
     let Ok(services) = services_of(alloc, schedule.topology.hosts.as_slice()) else {
+        drop(schedule);
         return Cause::NoMemory;
     };
     match run(alloc, schedule, services, out) {
@@ -97,6 +98,7 @@ fn replay_other<K: Sink>(alloc: Global, bytes: &[u8], fault: LineFault, out: &mu
     ensures { Renders (schedule_said bytes.now) result (K.state out.old) (K.state out.new) }
 {
     if is_header_fault(&fault) {
+        drop(fault);
         replay_log(alloc, bytes, out)
     } else {
         Cause::from(fault)

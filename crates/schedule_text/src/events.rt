@@ -34,12 +34,20 @@ fn inject(alloc: Global, reading: &mut Reading, words: &mut Words<'_>) -> Result
     ensures { Leaves result reading.new (inject_line words.old reading.old) }
 {
     let (host, chunk, bound, handler) = read_injection(alloc, reading, words)?;
-    let weight = add_weight(reading.weight, &chunk)?;
-    reading
-        .events
-        .add(WorldEvent::Inject(host, chunk, bound, handler))?;
-    reading.weight = weight;
-    Ok(())
+    match add_weight(reading.weight, &chunk) {
+        Ok(weight) => {
+            reading
+                .events
+                .add(WorldEvent::Inject(host, chunk, bound, handler))?;
+            reading.weight = weight;
+            Ok(())
+        }
+        Err(reason) => {
+            drop(chunk);
+            drop(handler);
+            Err(LineStop::Reason(reason))
+        }
+    }
 }
 
 /// `send N D` behind its first word. Reasons: `BadWord`, `BadNumber`, `UnknownHost`.

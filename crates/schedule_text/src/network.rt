@@ -102,9 +102,18 @@ pub fn end_program(
     ensures { Leaves result reading.new (close_program begun reading.old) }
 {
     let BegunProgram { name, source } = begun;
-    let program = program(alloc, source.text.as_slice())?;
-    reading.programs.add(NamedProgram { name, program })?;
-    Ok(())
+    let read = program(alloc, source.text.as_slice());
+    drop(source);
+    match read {
+        Ok(program) => {
+            reading.programs.add(NamedProgram { name, program })?;
+            Ok(())
+        }
+        Err(stop) => {
+            drop(name);
+            Err(stop)
+        }
+    }
 }
 
 /// A line of the network behind its first word.

@@ -13,7 +13,7 @@ use line_files::{
     LineFault, LineFile, LineReason, Words, is, read_file, says_nothing, stopped_at, version_of,
 };
 use link_window::Version;
-use network_plan::{Schedule, Topology};
+use network_plan::Schedule;
 use plan_items::Items;
 use std::alloc::Global;
 use std::mem;
@@ -117,27 +117,14 @@ fn read_line(
 fn end_file(number: u32, stage: Stage, reading: Reading) -> Result<Schedule, LineFault>
     ensures { result ≡ finish number stage reading }
 {
-    let Reading {
-        version,
-        frames,
-        hosts,
-        links,
-        programs: _,
-        events,
-        weight: _,
-    } = reading;
     match stage {
         Stage::Header => Err(LineFault::Line(number, LineReason::BadHeader)),
-        Stage::Events => Ok(Schedule {
-            frames,
-            topology: Topology {
-                hosts,
-                links,
-                version,
-            },
-            events,
-        }),
-        _ => Err(LineFault::Line(number, LineReason::BadWord)),
+        Stage::Network => Err(LineFault::Line(number, LineReason::BadWord)),
+        Stage::Inside(begun) => {
+            drop(begun);
+            Err(LineFault::Line(number, LineReason::BadWord))
+        }
+        Stage::Events => Ok(reading.into_schedule()),
     }
 }
 
@@ -155,8 +142,13 @@ impl LineFile for ScheduleFile {
             return event_line(alloc, number, line, &mut self.reading);
         }
         let stage = mem::replace(&mut self.stage, Stage::Header);
-        self.stage = read_line(alloc, number, line, stage, &mut self.reading)?;
-        Ok(())
+        match read_line(alloc, number, line, stage, &mut self.reading) {
+            Ok(next) => {
+                drop(mem::replace(&mut self.stage, next));
+                Ok(())
+            }
+            Err(fault) => Err(fault),
+        }
     }
 
     #[tactic(auto, using(crate::proofs::FormatLaws::gives_same))]

@@ -1,6 +1,9 @@
+ghost use Rattle.std.specs.Prelude.{◌≡◌};
+ghost use Rattle.schedule_text.specs.Schedules.{schedule_of_reading};
+
 use line_files::OpenProgram;
 use link_window::Version;
-use network_plan::{HostSpecs, Links, WorldEvents};
+use network_plan::{HostSpecs, Links, Schedule, Topology, WorldEvents};
 use plan_base::Name;
 use plan_items::Items;
 use plan_types::Checked;
@@ -18,7 +21,6 @@ pub struct NamedProgram {
 pub type NamedPrograms = Items<NamedProgram>;
 
 /// What the lines read so far have said.
-#[derive(Drop)]
 pub struct Reading {
     /// The version, 1 until the header is read.
     pub version: Version,
@@ -34,6 +36,47 @@ pub struct Reading {
     pub events: WorldEvents,
     /// The weights of all injected chunks in sum, at most 16,777,216.
     pub weight: u64,
+}
+
+impl Drop for Reading {
+    fn drop(self) {
+        let Reading {
+            version: _version,
+            frames: _frames,
+            hosts: _hosts,
+            links: _links,
+            programs: _programs,
+            events: _events,
+            weight: _weight,
+        } = self;
+    }
+}
+
+impl Reading {
+    /// The schedule that was read.
+    pub fn into_schedule(self) -> Schedule
+        ensures { result ≡ schedule_of_reading self }
+    {
+        let Reading {
+            version,
+            frames,
+            hosts,
+            links,
+            programs,
+            events,
+            weight: _weight,
+        } = self;
+        drop(programs);
+        Schedule {
+            frames,
+            topology: Topology {
+                hosts,
+                links,
+                version,
+            },
+            events,
+        }
+    }
 }
 
 /// A program whose lines are being read.

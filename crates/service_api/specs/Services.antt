@@ -8,7 +8,7 @@ use Rattle.plan_base.specs.declared.tree.Exn.{Exn}
 use Rattle.plan_base.specs.declared.tree.Chunk.{Chunk}
 use Rattle.table_rows.specs.declared.row.Row.{Row}
 use Rattle.table_rows.specs.Rows.{fits, living, last_key}
-use Rattle.value_rules.specs.Rules.{exception, no_service}
+use Rattle.typing_rules.specs.Rules.{exception, no_service}
 use Rattle.service_api.specs.declared.answer.Note.{Note}
 use Rattle.service_api.specs.declared.answer.Note.TheVariants.{Print, Port}
 use Rattle.service_api.specs.declared.answer.Answer.{Answer}

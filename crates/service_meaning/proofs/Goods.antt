@@ -13,7 +13,7 @@ use Rattle.plan_base.specs.declared.tree.Value.TheOpen.{Value-F}
 use Rattle.plan_base.specs.Trees.{ValueLayer}
 use Rattle.table_rows.specs.declared.row.Row.{Row}
 use Rattle.table_rows.specs.Rows.{put_row, got, fits, fresh_key}
-use Rattle.value_rules.specs.Rules.{bad_index, overflow, no_service}
+use Rattle.typing_rules.specs.Rules.{bad_index, overflow, no_service}
 use Rattle.service_api.specs.declared.answer.Note.{Note}
 use Rattle.service_api.specs.declared.answer.Note.TheVariants.{Print, Port}
 use Rattle.service_api.specs.declared.ctx.Ctx.{Ctx}

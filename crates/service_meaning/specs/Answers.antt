@@ -11,7 +11,7 @@ use Rattle.plan_base.specs.Trees.{ValueLayer}
 use Rattle.plan_items.specs.Keys.{Key}
 use Rattle.table_rows.specs.declared.row.Row.{Row}
 use Rattle.table_rows.specs.Rows.{put_row, without_row, got, fits, fresh_key, key_after}
-use Rattle.value_rules.specs.Rules.{exception, bad_index, overflow}
+use Rattle.typing_rules.specs.Rules.{exception, bad_index, overflow}
 use Rattle.service_api.specs.declared.answer.Note.{Note}
 use Rattle.service_api.specs.declared.answer.Note.TheVariants.{Print, Port}
 use Rattle.service_api.specs.declared.answer.Answer.TheVariants.{Gives, Raises}

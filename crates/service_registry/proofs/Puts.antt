@@ -5,7 +5,7 @@ use Rattle.plan_base.specs.declared.tree.Ty.{Ty}
 use Rattle.plan_base.specs.declared.tree.Value.{Value, out-Value}
 use Rattle.table_rows.specs.Rows.{put_row, fits}
 use Rattle.resident_tables.specs.Tables.{row_of}
-use Rattle.value_rules.specs.Rules.{bad_index}
+use Rattle.typing_rules.specs.Rules.{bad_index}
 use Rattle.service_api.specs.declared.ctx.Ctx.{Ctx}
 use Rattle.service_api.specs.Services.{Rows, Served, refused_call}
 use Rattle.service_meaning.specs.declared.service.Service.TheVariants as service

@@ -16,7 +16,10 @@ pub fn print(alloc: Global, args: &[Value]) -> Result<Answer, NoMemory>
     ensures { (a : AType) (ctx : ACtx) → Tells (spec.serve_as Service.Print a args.now ctx) result }
 {
     match args {
-        [v] => Ok(Answer::Gives(Value::Unit, Some(Note::Print(v.copy(alloc)?)))),
+        [v] => {
+            let copy = v.copy(alloc)?;
+            Ok(Answer::Gives(Value::Unit, Some(Note::Print(copy))))
+        }
         _ => no_such_service(alloc),
     }
 }
@@ -25,7 +28,10 @@ fn deliver_to_port(alloc: Global, port: i64, v: &Value) -> Result<Answer, NoMemo
     ensures { Tells (spec.delivered_answer port v.now) result }
 {
     match u16::try_from(port) {
-        Ok(port) => Ok(Answer::Gives(Value::Unit, Some(Note::Port(port, v.copy(alloc)?)))),
+        Ok(port) => {
+            let copy = v.copy(alloc)?;
+            Ok(Answer::Gives(Value::Unit, Some(Note::Port(port, copy))))
+        }
         Err(_) => bad_index(alloc),
     }
 }

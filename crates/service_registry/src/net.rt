@@ -164,5 +164,7 @@ pub fn next_hop(alloc: Global, args: &[Value], ctx: &Ctx) -> Result<Answer, NoMe
         return no_such_service(alloc);
     };
     let route = default_route(alloc)?;
-    hop_answer(alloc, ctx.router.next(&route, ctx.here, host))
+    let hop = ctx.router.next(&route, ctx.here, host);
+    drop(route);
+    hop_answer(alloc, hop)
 }

@@ -16,7 +16,6 @@ use std::marker::Model;
 /// The services of the packages `net`, `resident` and `host` over a node's table.
 ///
 /// The changes of a visit stand in a layer over the table, so that nothing is copied when a `begin` is opened.
-#[derive(Drop)]
 pub struct Registry {
     there: InstalledPackages,
     tables: Tables,
@@ -26,6 +25,18 @@ pub struct Registry {
     is_open: bool,
     /// Whether there is room to keep the changes.
     is_ready: bool,
+}
+
+impl Drop for Registry {
+    fn drop(self) {
+        let Registry {
+            there: _there,
+            tables: _tables,
+            changes: _changes,
+            is_open: _is_open,
+            is_ready: _is_ready,
+        } = self;
+    }
 }
 
 impl Model for Registry {

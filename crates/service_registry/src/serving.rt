@@ -62,7 +62,9 @@ fn taken_type(alloc: Global, service: Service, svc: &Svc) -> Result<Option<Ty>, 
     ensures { IfOk result (λ t. t ≡ instance (offered.type_of service) svc.now) }
 {
     let scheme = type_of(alloc, service)?;
-    instance(alloc, &scheme, svc)
+    let taken = instance(alloc, &scheme, svc);
+    drop(scheme);
+    taken
 }
 
 /// What the service answers at the type that its declaration takes for `Any`, and a refusal where the declaration is
@@ -132,8 +134,13 @@ pub fn answer_call(
     };
     let unit = Ty::Unit;
     if let Some(known) = type_at_hand(service, svc, &unit) {
-        return served_by(alloc, base, changes, service, known, args, ctx);
+        let answer = served_by(alloc, base, changes, service, known, args, ctx);
+        drop(unit);
+        return answer;
     }
+    drop(unit);
     let found = taken_type(alloc, service, svc)?;
-    served_at(alloc, base, changes, service, &found, args, ctx)
+    let answer = served_at(alloc, base, changes, service, &found, args, ctx);
+    drop(found);
+    answer
 }

@@ -1,11 +1,11 @@
-ghost use Rattle.std.specs.Prelude.{◌≡◌, [], ◌∷◌, IfOk};
+ghost use Rattle.std.specs.Prelude.{◌≡◌, [], IfOk, OnOk};
 ghost use Rattle.service_meaning.specs.Offered as spec;
 
 use plan_base::{NoMemory, Ty};
 use plan_items::{Boxed, Items};
 use service_api::{Scheme, SchemeTy, SchemeTys};
 use service_meaning::Service;
-use std::alloc::Global;
+use std::alloc::{AllocError, Global};
 
 /// The type of a host with the device that leads to it.
 pub fn hop_type(alloc: Global) -> Result<Ty, NoMemory>
@@ -17,64 +17,65 @@ pub fn hop_type(alloc: Global) -> Result<Ty, NoMemory>
     Ok(Ty::Tuple(parts))
 }
 
-fn one(alloc: Global, first: SchemeTy) -> Result<SchemeTys, NoMemory>
-    ensures { IfOk result (λ l. l ≡ first ∷ []) }
+/// Adds a text and a number, as the name and the number of a row.
+fn add_key(params: &mut SchemeTys) -> Result<(), AllocError>
+    requires { params.old ≡ [] }
+    ensures { OnOk result (params.new ≡ (spec.type_of Service.Get).params) }
 {
-    let mut list = Items::new(alloc);
-    list.add(first)?;
-    Ok(list)
+    params.add(SchemeTy::Is(Ty::Str))?;
+    params.add(SchemeTy::Is(Ty::Int))
 }
 
-fn two(alloc: Global, first: SchemeTy, second: SchemeTy) -> Result<SchemeTys, NoMemory>
-    ensures { IfOk result (λ l. l ≡ first ∷ second ∷ []) }
+/// Adds what `put` takes.
+fn add_put(params: &mut SchemeTys) -> Result<(), AllocError>
+    requires { params.old ≡ [] }
+    ensures { OnOk result (params.new ≡ (spec.type_of Service.Put).params) }
 {
-    let mut list = one(alloc, first)?;
-    list.add(second)?;
-    Ok(list)
+    add_key(params)?;
+    params.add(SchemeTy::Any)?;
+    params.add(SchemeTy::Is(Ty::Int))
 }
 
-fn four(
-    alloc: Global,
-    first: SchemeTy,
-    second: SchemeTy,
-    third: SchemeTy,
-    fourth: SchemeTy,
-) -> Result<SchemeTys, NoMemory>
-    ensures { IfOk result (λ l. l ≡ first ∷ second ∷ third ∷ fourth ∷ []) }
+/// Adds what `deliver` takes.
+fn add_deliver(params: &mut SchemeTys) -> Result<(), AllocError>
+    requires { params.old ≡ [] }
+    ensures { OnOk result (params.new ≡ (spec.type_of Service.Deliver).params) }
 {
-    let mut list = two(alloc, first, second)?;
-    list.add(third)?;
-    list.add(fourth)?;
-    Ok(list)
+    params.add(SchemeTy::Is(Ty::Int))?;
+    params.add(SchemeTy::Any)
 }
 
-fn params_of(alloc: Global, service: Service) -> Result<SchemeTys, NoMemory>
-    ensures { IfOk result (λ l. l ≡ (spec.type_of service).params) }
+/// Adds what the service takes.
+fn add_params(params: &mut SchemeTys, service: Service) -> Result<(), AllocError>
+    requires { params.old ≡ [] }
+    ensures { OnOk result (params.new ≡ (spec.type_of service).params) }
 {
     match service {
         Service::ThisHost
         | Service::GetRb
         | Service::GetSource
         | Service::GetNeighbors
-        | Service::GenerateKey => Ok(Items::new(alloc)),
+        | Service::GenerateKey => Ok(()),
         Service::ThisHostIs | Service::GetDist | Service::NextHop => {
-            one(alloc, SchemeTy::Is(Ty::Host))
+            params.add(SchemeTy::Is(Ty::Host))
         }
-        Service::Put => four(
-            alloc,
-            SchemeTy::Is(Ty::Str),
-            SchemeTy::Is(Ty::Int),
-            SchemeTy::Any,
-            SchemeTy::Is(Ty::Int),
-        ),
-        Service::Get | Service::Remove => {
-            two(alloc, SchemeTy::Is(Ty::Str), SchemeTy::Is(Ty::Int))
-        }
-        Service::Print => one(alloc, SchemeTy::Any),
-        Service::Deliver => two(alloc, SchemeTy::Is(Ty::Int), SchemeTy::Any),
+        Service::Put => add_put(params),
+        Service::Get | Service::Remove => add_key(params),
+        Service::Print => params.add(SchemeTy::Any),
+        Service::Deliver => add_deliver(params),
     }
 }
 
+/// What the service takes.
+fn params_of(alloc: Global, service: Service) -> Result<SchemeTys, NoMemory>
+    ensures { IfOk result (λ l. l ≡ (spec.type_of service).params) }
+{
+    let mut params = Items::new(alloc);
+    add_params(&mut params, service)?;
+    Ok(params)
+}
+
+/// The type of the neighbours of a host.
 fn hops_type(alloc: Global) -> Result<SchemeTy, NoMemory>
     ensures { IfOk result (λ t. t ≡ (spec.type_of Service.GetNeighbors).result) }
 {
@@ -82,6 +83,7 @@ fn hops_type(alloc: Global) -> Result<SchemeTy, NoMemory>
     Ok(SchemeTy::Is(Ty::List(Boxed::new(alloc, item)?)))
 }
 
+/// What the service gives.
 fn result_of(alloc: Global, service: Service) -> Result<SchemeTy, NoMemory>
     ensures { IfOk result (λ t. t ≡ (spec.type_of service).result) }
 {

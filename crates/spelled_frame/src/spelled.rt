@@ -31,7 +31,6 @@ pub enum What {
 
 /// What stands beside the bytes of a frame, so that they need not be read again: how they are read, what they hold, and
 /// where they are few, the frame itself.
-#[derive(Drop)]
 struct Beside {
     version: Version,
     stamp: Option<Stamp>,
@@ -39,12 +38,32 @@ struct Beside {
     frame: Option<Frame>,
 }
 
+// (with a drop of its own, as the frame below, so that what lets one go need not prove again how a packet is dropped)
+impl Drop for Beside {
+    fn drop(self) {
+        let Beside {
+            version: _version,
+            stamp: _stamp,
+            what: _what,
+            frame: _frame,
+        } = self;
+    }
+}
+
 /// A packet with a typed chunk or an advert, kept as the bytes of its frame, which contracts see as that frame with its
 /// stamp. What stands beside them is boxed, since a queue has room for many frames and holds few.
-#[derive(Drop)]
 pub struct SpelledFrame {
     bytes: Bytes,
     beside: Box<Beside>,
+}
+
+impl Drop for SpelledFrame {
+    fn drop(self) {
+        let SpelledFrame {
+            bytes: _bytes,
+            beside: _beside,
+        } = self;
+    }
 }
 
 impl Model for SpelledFrame {
@@ -137,10 +156,12 @@ fn bare_copy(
 pub fn copy_packet(alloc: Global, packet: &CheckedPacket) -> Result<CheckedPacket, NoMemory>
     ensures { IfOk result (λ p. p ≡ packet.now) }
 {
-    let chunk = packet.chunk().copy(alloc)?;
-    let bare = bare_copy(alloc, packet, chunk)?;
     let handler = copy_handler(alloc, packet.handler())?;
-    Ok(with_handler(bare, handler))
+    let chunk = packet.chunk().copy(alloc)?;
+    match bare_copy(alloc, packet, chunk) {
+        Ok(bare) => Ok(with_handler(bare, handler)),
+        Err(fault) => Err(fault),
+    }
 }
 
 /// The packet with another bound, where its frame has few bytes. Takes no memory.
@@ -303,7 +324,9 @@ impl SpelledFrame {
     pub fn into_bytes(self) -> Bytes
         ensures { AcceptsBy (spec.version_of self.stamp) result self }
     {
-        self.bytes
+        let SpelledFrame { bytes, beside } = self;
+        drop(beside);
+        bytes
     }
 
     /// The frame with this number, where it bears a stamp. Takes no memory.

@@ -9,3 +9,6 @@ pub mod Full
 pub mod Programs
 pub mod Unique
 mod ByLength
+pub mod Same
+pub mod Shapes
+pub mod Fitting

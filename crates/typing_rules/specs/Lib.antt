@@ -3,3 +3,7 @@ pub mod TypingNames
 pub mod TypingOrder
 pub mod TypingFills
 pub mod Handlers
+pub mod Code
+pub mod Same
+pub mod Rules
+pub mod Typed

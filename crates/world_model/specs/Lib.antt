@@ -4,3 +4,4 @@ pub mod Sound
 pub mod Texts
 pub mod Wires
 pub mod Visits
+pub mod Numbers

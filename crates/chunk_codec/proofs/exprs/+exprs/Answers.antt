@@ -35,3 +35,6 @@ clauses_of-loop-i-preserved t c =
 pub clauses_of-returns : goal.clauses_of-returns
 clauses_of-returns t c =
     clauses_done (clause_at (expr_at c.args.room)) c.loop-i.clauses c.args.count c.loop-i.i c.loop-i.s (clauses_from (clause_at (expr_at c.args.room)) c.args.count c.args.s.now) c.loop-i-test.false c.loop-i.invariant
+
+pub expr_with_tag-returns-in-Raise : goal.expr_with_tag-returns-in-Raise
+expr_with_tag-returns-in-Raise t c = rw c.in-Raise.is (c.raise_behind.ensures _ _)

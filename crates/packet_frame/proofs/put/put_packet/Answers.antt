@@ -1,9 +1,9 @@
-use Rattle.std.proofs.Common.{◌++◌, ◌∙◌, ap}
+use Rattle.std.proofs.Common.{◌++◌, ◌∙◌, ap, arith}
 use Rattle.std.specs.Int.{w32, w64, to_be_bytes}
 use Rattle.chunk_spelling.specs.Fields.{name_bytes}
 use Rattle.chunk_spelling.specs.Values.{chunk_bytes}
 use Rattle.packet_frame.specs.Bytes.{head_bytes}
-use Rattle.packet_frame.proofs.Sizes.{packet_spelled}
+use Rattle.packet_frame.proofs.Sizes.{packet_spelled, route_short}
 use Rattle.packet_frame.proofs.put.put_packet.Goals as goal
 
 pub returns : goal.returns
@@ -18,3 +18,12 @@ returns c =
     ∙ ap (λ l. l ++ to_be_bytes w32 c.args.new_bound) (c.put_way.ensures.bytes
     ∙ ap (λ l. ((l ++ to_be_bytes w32 c.family.result.source.0) ++ to_be_bytes w64 c.family.result.serial) ++ to_be_bytes w32 c.dest.result.0) (c.put_head.ensures.bytes
     ∙ ap (λ l. l ++ head_bytes 1) c.in_ok-out.ensures.bytes)))))
+
+pub overflow_cast-size : goal.overflow_cast-size
+overflow_cast-size c = grind (arith, packet_spelled, route_short)
+
+pub overflow_add-size : goal.overflow_add-size
+overflow_add-size c = grind (arith, packet_spelled, route_short)
+
+pub overflow_add-size-2 : goal.overflow_add-size-2
+overflow_add-size-2 c = grind (arith, packet_spelled, route_short)

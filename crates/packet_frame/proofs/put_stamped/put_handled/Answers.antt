@@ -1,4 +1,5 @@
-use Rattle.std.proofs.Common.{◌++◌, ◌∙◌, ap}
+use Rattle.packet_frame.proofs.Sizes.{route_short}
+use Rattle.std.proofs.Common.{◌++◌, ◌∙◌, ap, arith}
 use Rattle.std.specs.Int.{w32, w64, to_be_bytes}
 use Rattle.chunk_spelling.specs.Fields.{name_bytes}
 use Rattle.chunk_spelling.specs.Values.{chunk_bytes}
@@ -19,3 +20,18 @@ returns c =
     ∙ ap (λ l. l ++ to_be_bytes w32 c.args.new_bound) (c.put_way.ensures.bytes
     ∙ ap (λ l. ((l ++ to_be_bytes w32 c.family.result.source.0) ++ to_be_bytes w64 c.family.result.serial) ++ to_be_bytes w32 c.dest.result.0) (c.put_stamped_head.ensures.bytes
     ∙ ap (λ l. l ++ stamped_head 4 c.args.s) c.in_ok-out.ensures.bytes))))))
+
+pub overflow_cast-size : goal.overflow_cast-size
+overflow_cast-size c = grind (arith, route_short)
+
+pub overflow_add-size : goal.overflow_add-size
+overflow_add-size c = grind (arith, route_short)
+
+pub overflow_cast-size-2 : goal.overflow_cast-size-2
+overflow_cast-size-2 c = grind (arith, route_short)
+
+pub overflow_add-size-2 : goal.overflow_add-size-2
+overflow_add-size-2 c = grind (arith, route_short)
+
+pub overflow_add-size-3 : goal.overflow_add-size-3
+overflow_add-size-3 c = grind (arith, route_short)

@@ -36,23 +36,23 @@ copy_row-copy_boxed-requires-in-Part t c = grind (arith, trees, expr_nodes_out)
 pub copy_row-copy_boxed-requires-in-Eval : goal.copy_row-copy_boxed-requires-in-Eval
 copy_row-copy_boxed-requires-in-Eval t c = grind (arith, trees, expr_nodes_out)
 
-pub copy_row-returns-in_ok-copy_exprs-in-Tuple : goal.copy_row-returns-in_ok-copy_exprs-in-Tuple
-copy_row-returns-in_ok-copy_exprs-in-Tuple t c = grind (arith, trees)
+pub copy_row-returns-in-Ok : goal.copy_row-returns-in-Ok
+copy_row-returns-in-Ok t c = grind (arith, trees)
 
-pub copy_row-returns-in_ok-f-in-Call : goal.copy_row-returns-in_ok-f-in-Call
-copy_row-returns-in_ok-f-in-Call t c = grind (arith, trees)
+pub copy_row-returns-in-Ok-copy_call : goal.copy_row-returns-in-Ok-copy_call
+copy_row-returns-in-Ok-copy_call t c = grind (arith, trees)
 
-pub copy_row-returns-in_ok-f-in-ChunkOf : goal.copy_row-returns-in_ok-f-in-ChunkOf
-copy_row-returns-in_ok-f-in-ChunkOf t c = grind (arith, trees)
+pub copy_row-returns-in-Ok-copy_call-2 : goal.copy_row-returns-in-Ok-copy_call-2
+copy_row-returns-in-Ok-copy_call-2 t c = grind (arith, trees)
 
-pub copy_row-returns-in_ok-copy_boxed-in-Not : goal.copy_row-returns-in_ok-copy_boxed-in-Not
-copy_row-returns-in_ok-copy_boxed-in-Not t c = grind (arith, trees)
+pub copy_row-returns-in-Ok-copy_boxed : goal.copy_row-returns-in-Ok-copy_boxed
+copy_row-returns-in-Ok-copy_boxed t c = grind (arith, trees)
 
-pub copy_row-returns-in_ok-copy_boxed-in-Part : goal.copy_row-returns-in_ok-copy_boxed-in-Part
-copy_row-returns-in_ok-copy_boxed-in-Part t c = grind (arith, trees)
+pub copy_row-returns-in-Ok-copy_boxed-2 : goal.copy_row-returns-in-Ok-copy_boxed-2
+copy_row-returns-in-Ok-copy_boxed-2 t c = grind (arith, trees)
 
-pub copy_row-returns-in_ok-copy_boxed-in-Eval : goal.copy_row-returns-in_ok-copy_boxed-in-Eval
-copy_row-returns-in_ok-copy_boxed-in-Eval t c = grind (arith, trees)
+pub copy_row-returns-in-Ok-copy_boxed-3 : goal.copy_row-returns-in-Ok-copy_boxed-3
+copy_row-returns-in-Ok-copy_boxed-3 t c = grind (arith, trees)
 
 pub copy_pair-copy_two-requires : goal.copy_pair-copy_two-requires
 copy_pair-copy_two-requires t c = grind (arith, trees, expr_nodes_out)
@@ -66,26 +66,27 @@ copy_pair-copy_two-requires-in-Or t c = grind (arith, trees, expr_nodes_out)
 pub copy_pair-copy_two-requires-in-Binary : goal.copy_pair-copy_two-requires-in-Binary
 copy_pair-copy_two-requires-in-Binary t c = grind (arith, trees, expr_nodes_out)
 
+-- Foldl's; the next one is Foldr's
 pub copy_pair-copy_named-requires : goal.copy_pair-copy_named-requires
 copy_pair-copy_named-requires t c = grind (arith, trees, expr_nodes_out)
 
 pub copy_pair-copy_named-requires-in-Foldr : goal.copy_pair-copy_named-requires-in-Foldr
 copy_pair-copy_named-requires-in-Foldr t c = grind (arith, trees, expr_nodes_out)
 
-pub copy_pair-returns-in_ok-a-in-Then : goal.copy_pair-returns-in_ok-a-in-Then
-copy_pair-returns-in_ok-a-in-Then t c = grind (arith, trees)
+pub copy_pair-returns-in-Ok : goal.copy_pair-returns-in-Ok
+copy_pair-returns-in-Ok t c = grind (arith, trees)
 
-pub copy_pair-returns-in_ok-a-in-And : goal.copy_pair-returns-in_ok-a-in-And
-copy_pair-returns-in_ok-a-in-And t c = grind (arith, trees)
+pub copy_pair-returns-in-Ok-copy_two : goal.copy_pair-returns-in-Ok-copy_two
+copy_pair-returns-in-Ok-copy_two t c = grind (arith, trees)
 
-pub copy_pair-returns-in_ok-a-in-Or : goal.copy_pair-returns-in_ok-a-in-Or
-copy_pair-returns-in_ok-a-in-Or t c = grind (arith, trees)
+pub copy_pair-returns-in-Ok-copy_two-2 : goal.copy_pair-returns-in-Ok-copy_two-2
+copy_pair-returns-in-Ok-copy_two-2 t c = grind (arith, trees)
 
-pub copy_pair-returns-in_ok-a-in-Binary : goal.copy_pair-returns-in_ok-a-in-Binary
-copy_pair-returns-in_ok-a-in-Binary t c = grind (arith, trees)
+pub copy_pair-returns-in-Ok-copy_two-3 : goal.copy_pair-returns-in-Ok-copy_two-3
+copy_pair-returns-in-Ok-copy_two-3 t c = grind (arith, trees)
 
-pub copy_pair-returns-in_ok-f-in-Foldl : goal.copy_pair-returns-in_ok-f-in-Foldl
-copy_pair-returns-in_ok-f-in-Foldl t c = grind (arith, trees)
+pub copy_pair-returns-in-Ok-copy_named : goal.copy_pair-returns-in-Ok-copy_named
+copy_pair-returns-in-Ok-copy_named t c = grind (arith, trees)
 
-pub copy_pair-returns-in_ok-f-in-Foldr : goal.copy_pair-returns-in_ok-f-in-Foldr
-copy_pair-returns-in_ok-f-in-Foldr t c = grind (arith, trees)
+pub copy_pair-returns-in-Ok-copy_named-2 : goal.copy_pair-returns-in-Ok-copy_named-2
+copy_pair-returns-in-Ok-copy_named-2 t c = grind (arith, trees)

@@ -1,7 +1,15 @@
 use Rattle.std.proofs.Common.{arith, length-append}
-use Rattle.std.proofs.lemmas.Grind.{common_steps}
-use Rattle.plan_grammar.proofs.Mores.{more_steps}
+use Rattle.plan_grammar.proofs.Mores.{more_ends, more_past, more_steps, more_stops}
 use Rattle.plan_parser.proofs.signature.more_types.Goals as goal
 
 pub loop-alloc-preserved : goal.loop-alloc-preserved
-loop-alloc-preserved c = grind (arith, common_steps, more_steps, length-append)
+loop-alloc-preserved c = grind (arith, more_steps, length-append)
+
+pub returns : goal.returns
+returns c = grind (arith, more_ends)
+
+pub returns-then-len-ge-MOST_PARAMETERS : goal.returns-then-len-ge-MOST_PARAMETERS
+returns-then-len-ge-MOST_PARAMETERS c = grind (arith, more_past)
+
+pub returns-in_err-inner_type : goal.returns-in_err-inner_type
+returns-in_err-inner_type c = grind (arith, more_stops)

@@ -2,7 +2,7 @@ use Rattle.std.proofs.Common.{◌≡◌, ℕ, ◌+◌, min, length, get_or, Some
 use Rattle.std.proofs.lemmas.Int.{to_z-of_z}
 use Rattle.std.specs.Option.{option_copied}
 use mir.Val.{to_z, of_z}
-use Rattle.value_rules.specs.Rules.{bad_index}
+use Rattle.typing_rules.specs.Rules.{bad_index}
 use Rattle.service_api.specs.Services.{refused_call}
 use Rattle.service_meaning.specs.Answers.{raised_answer, table_full}
 use Rattle.service_registry.specs.RegistryState.{rows_over}

@@ -1,4 +1,0 @@
-pub mod FlatLaws
-pub mod Parts
-pub mod Fields
-pub mod Whole

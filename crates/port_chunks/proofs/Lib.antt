@@ -1,3 +1,0 @@
-pub mod Arguments
-pub mod TreeSizes
-pub mod PortTyping

@@ -1,0 +1,103 @@
+ghost use Rattle.std.specs.Prelude.{◌≡◌, ◌≤◌, ◌^◌, length, pos, IfOk, Ok};
+ghost use Rattle.program_text.specs.Texts.{program_of};
+ghost use Rattle.reliable_ports.specs.Programs as spec;
+ghost use Rattle.reliable_ports.specs.Texts.{port_text};
+
+use crate::shapes::is_port_program;
+use chunk_types::{CheckedChunk, chunk_of};
+use plan_base::{Bytes, Host, Name, NoMemory, Value, Values};
+use plan_items::Items;
+use plan_types::Checked;
+use program_text::read_program;
+use std::alloc::Global;
+
+/// The text of a port's program.
+#[tactic(auto, unfolding(crate::specs::Texts::port_text))]
+fn port_text() -> &'static [u8]
+    ensures text { result.now ≡ port_text }
+    ensures short { length result.now ≤ 65536 }
+{
+    b"svc thisHostIs : (host) -> bool\nsvc getRB : () -> int\nsvc deliver : (int, (int * blob)) -> unit\nfun data(dest : host, seq : int, body : blob) : unit =\n  if thisHostIs(dest) then deliver(1, (seq, body))\n  else OnRemote(|data|(dest, seq, body), dest, getRB(), defaultRoute)\nfun ack(dest : host, next : int) : unit =\n  if thisHostIs(dest) then deliver(2, (next, #\"\"))\n  else OnRemote(|ack|(dest, next), dest, getRB(), defaultRoute)\n"
+}
+
+/// The program of a port, read from its text. That the text is that program's is tested; else it would be told as want
+/// of memory.
+pub fn port_code(alloc: Global) -> Result<Checked, NoMemory>
+    ensures text { IfOk result (λ code. program_of port_text ≡ Ok code) }
+    ensures tree { IfOk result (λ code. code ≡ spec.port_program) }
+{
+    let Ok(code) = read_program(alloc, port_text()) else {
+        return Err(NoMemory);
+    };
+    if is_port_program(code.program()) {
+        Ok(code)
+    } else {
+        Err(NoMemory)
+    }
+}
+
+/// The arguments of a message's chunk.
+fn data_args(alloc: Global, dest: Host, seq: u64, body: &Bytes) -> Result<Values, NoMemory>
+    requires { seq ≤ 2 ^ 62 }
+    ensures { IfOk result (λ vs. vs ≡ spec.data_args dest (pos seq) body.now) }
+{
+    let body = body.copy(alloc)?;
+    let mut args = Items::new(alloc);
+    args.add(Value::Host(dest))?;
+    args.add(Value::Int(seq as i64))?;
+    args.add(Value::Blob(body))?;
+    Ok(args)
+}
+
+/// The chunk that carries a message to a host. Conditions: the code is a port's, and the body has at most 4,096 bytes.
+#[tactic(auto, using(crate::proofs::Arguments::data_formed, crate::proofs::Arguments::data_full), unfolding(plan_base::specs::Words::is_name, plan_base::specs::Words::is_word, plan_base::specs::Words::is_reserved))]
+pub fn data_chunk(
+    alloc: Global,
+    code: &Checked,
+    dest: Host,
+    seq: u64,
+    body: &Bytes,
+) -> Result<CheckedChunk, NoMemory>
+    requires code { code.now ≡ spec.port_program }
+    requires number { seq ≤ 2 ^ 62 }
+    requires short { length body.now ≤ 4096 }
+    ensures { IfOk result (λ chunk. chunk ≡ spec.data_chunk dest (pos seq) body.now) }
+{
+    let entry = Name::of(alloc, b"data")?;
+    let args = data_args(alloc, dest, seq, body)?;
+    match chunk_of(alloc, code, &entry, args) {
+        Ok(chunk) => Ok(chunk),
+        Err(_) => Err(NoMemory),
+    }
+}
+
+/// The arguments of an ack's chunk.
+fn ack_args(alloc: Global, dest: Host, next: u64) -> Result<Values, NoMemory>
+    requires { next ≤ 2 ^ 62 }
+    ensures { IfOk result (λ vs. vs ≡ spec.ack_args dest (pos next)) }
+{
+    let mut args = Items::new(alloc);
+    args.add(Value::Host(dest))?;
+    args.add(Value::Int(next as i64))?;
+    Ok(args)
+}
+
+/// The chunk that tells a host which message is awaited. Condition: the code is a port's.
+#[tactic(auto, using(crate::proofs::Arguments::ack_formed, crate::proofs::Arguments::ack_full), unfolding(plan_base::specs::Words::is_name, plan_base::specs::Words::is_word, plan_base::specs::Words::is_reserved))]
+pub fn ack_chunk(
+    alloc: Global,
+    code: &Checked,
+    dest: Host,
+    next: u64,
+) -> Result<CheckedChunk, NoMemory>
+    requires code { code.now ≡ spec.port_program }
+    requires number { next ≤ 2 ^ 62 }
+    ensures { IfOk result (λ chunk. chunk ≡ spec.ack_chunk dest (pos next)) }
+{
+    let entry = Name::of(alloc, b"ack")?;
+    let args = ack_args(alloc, dest, next)?;
+    match chunk_of(alloc, code, &entry, args) {
+        Ok(chunk) => Ok(chunk),
+        Err(_) => Err(NoMemory),
+    }
+}

@@ -1,3 +1,0 @@
-pub mod Network
-pub mod Truths
-pub mod Walks

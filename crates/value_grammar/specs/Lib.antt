@@ -1,3 +1,0 @@
-pub mod Grammar
-pub mod Agenda
-pub mod Refusals

@@ -1,4 +1,0 @@
-pub mod Code
-pub mod Same
-pub mod Rules
-pub mod Typed
