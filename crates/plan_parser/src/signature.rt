@@ -6,9 +6,7 @@ ghost use Rattle.plan_grammar.specs.Begins as begins;
 ghost use Rattle.plan_parser.specs.Signatures as spec;
 
 use plan_base::{Limit, Name, Param, Params, Svc, Ty, Tys};
-use plan_grammar::{
-    Ahead, ParseFault, Wanted, begins_type, name_at, one_type, past_type, type_to,
-};
+use plan_grammar::{Ahead, ParseFault, Wanted, begins_type, name_at, one_type, past_type, type_to};
 use plan_items::Items;
 use plan_lexer::Symbol;
 use std::alloc::Global;
