@@ -43,9 +43,17 @@ impl Model for CheckedPacket {
 
     ghost coded = { whole.the_row.coded };
 
-    ghost view = { λ k. record { family = k.family; dest = k.dest; bound = k.bound; route = k.route; chunk = k.chunk; handler = k.handler } };
+    ghost view = { λ k. record {
+      family = k.family;
+      dest = k.dest;
+      bound = k.bound;
+      route = k.route;
+      chunk = k.chunk;
+      handler = k.handler;
+    } };
 
-    ghost invariant = { λ k. (k.bound ≤ 65535) × (IsCheckedChunk k.chunk × MayHandle k.chunk k.handler) };
+    ghost invariant = { λ k. (k.bound ≤ 65535) × (IsCheckedChunk k.chunk × MayHandle k.chunk
+        k.handler) };
 }
 
 impl CheckedPacket {

@@ -16,18 +16,24 @@ ghost use Rattle.file_faults.specs.Flat.{FlatSpellingFault, FlatStampedFault};
 /// A reading of a type, a value, a program or a chunk is refused exactly with the first fault of its agenda, each item of
 /// which is a field of its own, a tag, a count or a judgement of what was passed over.
 pub fn readings_fail_first()
-    ensures types { (f : Front) (e : SpellFault) → (a_whole_type.read (from_front f) ≡ Err e) ↔ FirstFaultAt e (a_type 8) f }
-    ensures values { (f : Front) (e : SpellFault) → (a_whole_value.read (from_front f) ≡ Err e) ↔ FirstFaultAt e (a_value 4 8) f }
-    ensures programs { (f : Front) (e : SpellFault) → (program_part.read (from_front f) ≡ Err e) ↔ FirstFaultAt e a_program f }
-    ensures chunks { (f : Front) (e : SpellFault) → (a_whole_chunk.read (from_front f) ≡ Err e) ↔ FirstFaultAt e (a_chunk 3) f }
+    ensures types { (f : Front) (e : SpellFault) → (a_whole_type.read (from_front f) ≡ Err e)
+        ↔ FirstFaultAt e (a_type 8) f }
+    ensures values { (f : Front) (e : SpellFault) → (a_whole_value.read (from_front f) ≡ Err e)
+        ↔ FirstFaultAt e (a_value 4 8) f }
+    ensures programs { (f : Front) (e : SpellFault) → (program_part.read (from_front f) ≡ Err e)
+        ↔ FirstFaultAt e a_program f }
+    ensures chunks { (f : Front) (e : SpellFault) → (a_whole_chunk.read (from_front f) ≡ Err e)
+        ↔ FirstFaultAt e (a_chunk 3) f }
 {}
 
 /// The first fault of a frame is the first of its fields, of which a chunk is judged by its own agenda, down to the bytes.
 pub fn frame_faults_are_flat()
-    ensures { (bytes : List ℕ) (e : FrameFault) → IsBytes bytes → SpellingFault e bytes ↔ FlatSpellingFault e bytes }
+    ensures { (bytes : List ℕ) (e : FrameFault) → IsBytes bytes → SpellingFault e bytes
+        ↔ FlatSpellingFault e bytes }
 {}
 
 /// The same of a frame of version 2, whose stamp, handler and rows are fields among the others.
 pub fn stamped_faults_are_flat()
-    ensures { (bytes : List ℕ) (e : FrameFault) → IsBytes bytes → StampedFault e bytes ↔ FlatStampedFault e bytes }
+    ensures { (bytes : List ℕ) (e : FrameFault) → IsBytes bytes → StampedFault e bytes
+        ↔ FlatStampedFault e bytes }
 {}

@@ -35,7 +35,8 @@ fn add_link(links: &mut Links, n: u32, m: u32) -> Result<(), NoMemory>
 /// Adds the hosts 1 to 4.
 fn add_first_hosts(alloc: Global, hosts: &mut HostSpecs) -> Result<(), NoMemory>
     ensures { OnOk result (hosts.new
-        ≡ hosts.old ++ spec.whole_host 1 ∷ spec.whole_host 2 ∷ spec.whole_host 3 ∷ spec.whole_host 4 ∷ []) }
+        ≡ hosts.old ++ spec.whole_host 1 ∷ spec.whole_host 2
+        ∷ spec.whole_host 3 ∷ spec.whole_host 4 ∷ []) }
 {
     add_host(alloc, hosts, 1)?;
     add_host(alloc, hosts, 2)?;
@@ -46,7 +47,8 @@ fn add_first_hosts(alloc: Global, hosts: &mut HostSpecs) -> Result<(), NoMemory>
 /// Adds the hosts 5 to 8.
 fn add_last_hosts(alloc: Global, hosts: &mut HostSpecs) -> Result<(), NoMemory>
     ensures { OnOk result (hosts.new
-        ≡ hosts.old ++ spec.whole_host 5 ∷ spec.whole_host 6 ∷ spec.whole_host 7 ∷ spec.whole_host 8 ∷ []) }
+        ≡ hosts.old ++ spec.whole_host 5 ∷ spec.whole_host 6
+        ∷ spec.whole_host 7 ∷ spec.whole_host 8 ∷ []) }
 {
     add_host(alloc, hosts, 5)?;
     add_host(alloc, hosts, 6)?;
@@ -67,7 +69,8 @@ fn ring_hosts(alloc: Global) -> Result<HostSpecs, NoMemory>
 /// Adds the links of the hosts 1 to 4, each to the next host.
 fn add_first_links(links: &mut Links) -> Result<(), NoMemory>
     ensures { OnOk result (links.new
-        ≡ links.old ++ spec.ring_link 1 2 ∷ spec.ring_link 2 3 ∷ spec.ring_link 3 4 ∷ spec.ring_link 4 5 ∷ []) }
+        ≡ links.old ++ spec.ring_link 1 2 ∷ spec.ring_link 2 3
+        ∷ spec.ring_link 3 4 ∷ spec.ring_link 4 5 ∷ []) }
 {
     add_link(links, 1, 2)?;
     add_link(links, 2, 3)?;
@@ -78,7 +81,8 @@ fn add_first_links(links: &mut Links) -> Result<(), NoMemory>
 /// Adds the links of the hosts 5 to 8, the last of them to host 1.
 fn add_last_links(links: &mut Links) -> Result<(), NoMemory>
     ensures { OnOk result (links.new
-        ≡ links.old ++ spec.ring_link 5 6 ∷ spec.ring_link 6 7 ∷ spec.ring_link 7 8 ∷ spec.ring_link 8 1 ∷ []) }
+        ≡ links.old ++ spec.ring_link 5 6 ∷ spec.ring_link 6 7
+        ∷ spec.ring_link 7 8 ∷ spec.ring_link 8 1 ∷ []) }
 {
     add_link(links, 5, 6)?;
     add_link(links, 6, 7)?;

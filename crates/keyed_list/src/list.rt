@@ -32,9 +32,14 @@ impl<T: HasKey> Model for KeyedList<T> {
 
     ghost coded = { roomy_code T.code };
 
-    ghost view = { λ l. record { items = l.items.items; spare = min (vec_capacity l.items - vec_len l.items) (vec_capacity l.order - vec_len l.order) } };
+    ghost view = { λ l. record {
+      items = l.items.items;
+      spare = min (vec_capacity l.items - vec_len l.items)
+          (vec_capacity l.order - vec_len l.order);
+    } };
 
-    ghost invariant = { λ l. IsUnique T.key_of l.items.items × IsIndex (map T.key_of l.items.items) l.order.items };
+    ghost invariant = { λ l. IsUnique T.key_of l.items.items × IsIndex (map T.key_of l.items.items)
+        l.order.items };
 }
 
 impl<T: HasKey> KeyedList<T> {

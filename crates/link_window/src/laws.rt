@@ -5,5 +5,6 @@ ghost use Rattle.link_window.specs.declared.window.Stamp.{Stamp};
 /// A stamp that was taken, and one that wasn't fresh, is never fresh again, whatever is taken later.
 pub fn stamps_stay_taken()
     ensures taken { (seen : Seen) (s : Stamp) → is_fresh (took (seen_after seen s) s) ≡ false }
-    ensures stays { (seen : Seen) (s t : Stamp) → is_fresh (took seen s) ≡ false → is_fresh (took (seen_after seen t) s) ≡ false }
+    ensures stays { (seen : Seen) (s t : Stamp) → is_fresh (took seen s) ≡ false
+        → is_fresh (took (seen_after seen t) s) ≡ false }
 {}

@@ -119,7 +119,8 @@ impl Window {
     /// Takes a stamp that is fresh, by all numbers taken. Takes no memory.
     #[tactic(auto, unfolding(crate::specs::Seen::seen_with))]
     pub fn keep(&mut self, s: Stamp)
-        ensures { (seen : Seen) → WindowStands seen self.old → spec.took seen s ≡ FreshOne → WindowStands (spec.seen_with seen s) self.new }
+        ensures { (seen : Seen) → WindowStands seen self.old → spec.took seen s ≡ FreshOne
+            → WindowStands (spec.seen_with seen s) self.new }
     {
         if s.boot != self.boot {
             self.forget(s.boot);
@@ -130,7 +131,8 @@ impl Window {
     /// Takes a stamp where it is fresh, and answers what it took it as, by all numbers taken. Takes no memory.
     pub fn take(&mut self, s: Stamp) -> Took
         ensures took { (seen : Seen) → WindowStands seen self.old → result ≡ spec.took seen s }
-        ensures after { (seen : Seen) → WindowStands seen self.old → WindowStands (spec.seen_after seen s) self.new }
+        ensures after { (seen : Seen) → WindowStands seen self.old
+            → WindowStands (spec.seen_after seen s) self.new }
     {
         let took = self.judge(s);
         match took {

@@ -160,7 +160,14 @@ impl<R: Processes> HostSpawner<'_, R> {
 }
 
 impl<R: Processes> Spawner for HostSpawner<'_, R> {
-    ghost state = { λ s. record { observable = false; statuses = []; started = 0; starts = []; children = s.children.items; faults = s.faults } };
+    ghost state = { λ s. record {
+      observable = false;
+      statuses = [];
+      started = 0;
+      starts = [];
+      children = s.children.items;
+      faults = s.faults;
+    } };
 
     fn start(&mut self, words: &Texts) -> Result<Child, Failed> {
         match self.start_next(words) {

@@ -142,7 +142,14 @@ fn open_with<R: Net>(
 }
 
 impl<R: Net> Link for UdpLink<'_, R> {
-    ghost state = { λ l. record { observable = false; script = []; sent = []; binds = []; bound = l.peers; faults = l.faults } };
+    ghost state = { λ l. record {
+      observable = false;
+      script = [];
+      sent = [];
+      binds = [];
+      bound = l.peers;
+      faults = l.faults;
+    } };
 
     fn bind(&mut self, port: u16, peers: &Peers) -> Result<(), Failed> {
         // The port is free again before it is bound again.

@@ -40,7 +40,11 @@ impl MemClock {
 }
 
 impl Clock for MemClock {
-    ghost state = { λ c. record { observable = true; answers = drop c.given c.answers; last = c.last } };
+    ghost state = { λ c. record {
+      observable = true;
+      answers = drop c.given c.answers;
+      last = c.last;
+    } };
 
     fn now(&mut self) -> u64 {
         let answer = next_of(self.answers.as_slice(), self.given, self.last);

@@ -53,7 +53,8 @@ fn front_of(alloc: Global, text: &[u8], most: usize) -> Result<Bytes, AllocError
 fn blob_on(front: Bytes, start: u32, from: u32, text: &[u8]) -> Result<(Bytes, u32), LexFault>
     requires later { start < from }
     requires short { from + length text.now < 2 ^ 32 }
-    ensures value { Gives (λ read. read) result (with_front front (blob_from start from None text.now)) }
+    ensures value { Gives (λ read. read) result (with_front front (blob_from start from None
+        text.now)) }
     ensures within { IfOk result (λ read. (start < read.1) × (read.1 ≤ from + length text.now)) }
 {
     let mut bytes = front;

@@ -13,7 +13,8 @@ ghost use Rattle.plan_lexer.specs.declared.token.TokenKind.TheVariants as kind;
 
 /// What spells a token is read as that token, where what follows isn't taken for more of it.
 pub fn spelled_tokens()
-    ensures { (at : ℕ) (k : TokenKind) (front rest : List ℕ) → Spells k front → EndsBefore k rest → token_at at (front ++ rest) ≡ Ok (k, at + length front) }
+    ensures { (at : ℕ) (k : TokenKind) (front rest : List ℕ) → Spells k front → EndsBefore k rest
+        → token_at at (front ++ rest) ≡ Ok (k, at + length front) }
 {}
 
 /// The printed form of a number, host, device, part, char, string or blob spells that token.
@@ -24,24 +25,32 @@ pub fn printed_tokens()
     ensures part { (n : ℕ) → 1 ≤ n → n ≤ 8 → Spells (kind.Part n) (part_text n) }
     ensures char { (c : ℕ) → IsScalar c → Spells (kind.Char c) (char_text c) }
     ensures string { (bytes : List ℕ) → IsUtf8 bytes → Spells (kind.Str bytes) (string_text bytes) }
-    ensures blob { (bytes : List ℕ) → ((i : ℕ) → get_or bytes i 0 < 256) → Spells (kind.Blob bytes) (blob_text bytes) }
+    ensures blob { (bytes : List ℕ) → ((i : ℕ) → get_or bytes i 0 < 256)
+        → Spells (kind.Blob bytes) (blob_text bytes) }
 {}
 
 /// A token that is read is the longest prefix of the text that has the form of a token, and spells its kind.
 ///
 /// A text that begins with the form of a token is refused only for the length of a word or the size of a number.
 pub fn longest_tokens()
-    ensures front { (at : ℕ) (text : List ℕ) (k : TokenKind) (next : ℕ) → token_at at text ≡ Ok (k, next) → IsFront text at k next }
-    ensures longest { (at : ℕ) (text : List ℕ) (k : TokenKind) (next : ℕ) → token_at at text ≡ Ok (k, next)
-        → (longer rest : List ℕ) → text ≡ longer ++ rest → HasForm longer → at + length longer ≤ next }
+    ensures front { (at : ℕ) (text : List ℕ) (k : TokenKind) (next : ℕ)
+        → token_at at text ≡ Ok (k, next) → IsFront text at k next }
+    ensures longest { (at : ℕ) (text : List ℕ) (k : TokenKind) (next : ℕ)
+        → token_at at text ≡ Ok (k, next)
+        → (longer rest : List ℕ) → text ≡ longer ++ rest → HasForm longer
+        → at + length longer ≤ next }
     ensures refused { (at : ℕ) (text : List ℕ) (e : LexFault) → token_at at text ≡ Err e
-        → (front rest : List ℕ) → text ≡ front ++ rest → HasForm front → (e ≡ fault.LongName at) ⊎ (e ≡ fault.NumberTooLarge at) }
+        → (front rest : List ℕ) → text ≡ front ++ rest → HasForm front
+        → (e ≡ fault.LongName at) ⊎ (e ≡ fault.NumberTooLarge at) }
 {}
 
 /// A text has one list of tokens or one first refusal, and not both.
 pub fn one_answer()
     ensures some { (at : ℕ) (text : List ℕ) → IsAnswered at text }
-    ensures tokens { (at : ℕ) (text : List ℕ) (ts us : List Token) → Toks at text ts → Toks at text us → ts ≡ us }
-    ensures refusal { (d e : LexFault) (at : ℕ) (text : List ℕ) → Refuses d at text → Refuses e at text → d ≡ e }
-    ensures apart { (e : LexFault) (at : ℕ) (text : List ℕ) (ts : List Token) → Toks at text ts → Refuses e at text → ⊥ }
+    ensures tokens { (at : ℕ) (text : List ℕ) (ts us : List Token) → Toks at text ts
+        → Toks at text us → ts ≡ us }
+    ensures refusal { (d e : LexFault) (at : ℕ) (text : List ℕ) → Refuses d at text
+        → Refuses e at text → d ≡ e }
+    ensures apart { (e : LexFault) (at : ℕ) (text : List ℕ) (ts : List Token) → Toks at text ts
+        → Refuses e at text → ⊥ }
 {}

@@ -20,7 +20,8 @@ fn no_tokens(alloc: Global) -> Result<Tokens, AllocError>
 pub fn lex(alloc: Global, text: &[u8]) -> Result<Tokens, LexFault>
     requires { length text.now ≤ 65536 }
     ensures found { IfOk result (Toks 0 text.now) }
-    ensures only { (ts : List Token) → Toks 0 text.now ts → MatchResult result (λ us. us ≡ ts) (λ e. e ≡ LexFault.NoMemory) }
+    ensures only { (ts : List Token) → Toks 0 text.now ts → MatchResult result (λ us. us ≡ ts) (λ e.
+        e ≡ LexFault.NoMemory) }
     ensures kept { IfOk result (AreTokens 0 (length text.now)) }
     ensures fault { IfErr result (λ e. (e ≡ LexFault.NoMemory) ⊎ Refuses e 0 text.now) }
 {

@@ -23,7 +23,8 @@ fn digits(text: &[u8]) -> usize
 /// The number that digits spell, or `None` where it is over `most`.
 fn number(digits: &[u8], most: u64) -> Option<u64>
     requires { most ≤ 2 ^ 63 }
-    ensures { MatchOption result (most < number_of digits.now) (λ v. (v ≡ number_of digits.now) × (v ≤ most)) }
+    ensures { MatchOption result (most < number_of digits.now) (λ v. (v ≡ number_of digits.now) × (v
+        ≤ most)) }
 {
     let mut value = 0u64;
     for byte in digits {
@@ -41,7 +42,8 @@ pub(crate) fn number_at(at: u32, most: u64, text: &[u8]) -> Result<(u64, usize),
     requires { most ≤ 2 ^ 63 }
     ensures value { result ≡ number_at at most text.now }
     ensures within { IfOk result (λ read. (read.0 ≤ most) × (read.1 ≤ length text.now)) }
-    ensures some { IfOk result (λ read. IsTrue (is_ascii_digit (get_or text.now 0 0)) → 0 < read.1) }
+    ensures some { IfOk result (λ read. IsTrue (is_ascii_digit (get_or text.now 0 0))
+        → 0 < read.1) }
 {
     let count = digits(text);
     match number(&text[..count], most) {

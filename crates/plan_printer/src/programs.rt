@@ -160,8 +160,9 @@ fn put_choice(
     second: &Expr,
     out: &mut Bytes,
 ) -> Result<(), NoMemory>
-    ensures { OnOk result (out.new ≡ out.old ++ (codes "(if " ++ expr_text condition.now ++ codes " then "
-        ++ expr_text first.now ++ codes " else " ++ expr_text second.now ++ codes ")")) }
+    ensures { OnOk result (out.new ≡ out.old ++ (codes "(if " ++ expr_text condition.now
+        ++ codes " then " ++ expr_text first.now ++ codes " else " ++ expr_text second.now
+        ++ codes ")")) }
 {
     put_around(alloc, b"(if ", condition, b" then ", out)?;
     put_both(alloc, b"", first, b" else ", second, b")", out)
@@ -259,8 +260,9 @@ fn put_remote(
     route: &Name,
     out: &mut Bytes,
 ) -> Result<(), NoMemory>
-    ensures { OnOk result (out.new ≡ out.old ++ (codes "OnRemote(" ++ expr_text chunk.now ++ codes ", "
-        ++ expr_text host.now ++ codes ", " ++ expr_text bound.now ++ codes ", " ++ route.now ++ codes ")")) }
+    ensures { OnOk result (out.new ≡ out.old ++ (codes "OnRemote(" ++ expr_text chunk.now
+        ++ codes ", " ++ expr_text host.now ++ codes ", " ++ expr_text bound.now
+        ++ codes ", " ++ route.now ++ codes ")")) }
 {
     put_both(alloc, b"OnRemote(", chunk, b", ", host, b", ", out)?;
     put_around(alloc, b"", bound, b", ", out)?;

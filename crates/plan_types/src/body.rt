@@ -62,7 +62,8 @@ fn variable(
     e: &Expr,
     name: &Name,
 ) -> Result<(Expr, Ty), TypeFault>
-    ensures { Meets (spec.variable ctx.now at (option_copied want.entry) e.now name.now node) result node }
+    ensures { Meets (spec.variable ctx.now at (option_copied want.entry) e.now name.now node) result
+        node }
 {
     match binding(name, ctx) {
         Some(ty) => match copies(alloc, e, ty) {
@@ -75,7 +76,8 @@ fn variable(
 
 /// The type of the items of an empty list, where a list is wanted.
 fn item_type(alloc: Global, at: u32, want: Option<&Ty>) -> Result<Ty, TypeFault>
-    ensures { (node : ℕ) → Meets (spec.or_refuse (option_and_then spec.items_of (option_copied want.entry)) (TypeFault.NeedsType (Place.Node at)) node) result node }
+    ensures { (node : ℕ) → Meets (spec.or_refuse (option_and_then spec.items_of (option_copied
+        want.entry)) (TypeFault.NeedsType (Place.Node at)) node) result node }
 {
     match items_of(want) {
         Some(item) => Ok(item.copy(alloc)?),
@@ -108,7 +110,8 @@ fn empty_of_items(
     want: Option<&Ty>,
     item: Ty,
 ) -> Result<(Expr, Ty), TypeFault>
-    ensures { Meets (spec.shallow at (option_copied want.entry) (Expr.Nil (Some item)) (Ty.List item) node) result node }
+    ensures { Meets (spec.shallow at (option_copied want.entry) (Expr.Nil (Some item)) (Ty.List
+        item) node) result node }
 {
     match item.copy(alloc) {
         Ok(given) => match list_of(alloc, item) {
@@ -182,7 +185,8 @@ fn raising(
     name: &Name,
     ty: &Option<Ty>,
 ) -> Result<(Expr, Ty), TypeFault>
-    ensures { Meets (spec.raising scope.now.code.now at (option_copied want.entry) e.now name.now ty.now node) result node }
+    ensures { Meets (spec.raising scope.now.code.now at (option_copied want.entry) e.now name.now
+        ty.now node) result node }
 {
     if !is_exception(scope.code, name) {
         return Err(TypeFault::UnknownName(Place::Node(at)));
@@ -221,7 +225,9 @@ impl<
         e: &Expr,
     ) -> Result<(Expr, Ty), TypeFault>
         requires { Nests self.now.depth (F.pre self.now.run) (F.post self.now.run) }
-        ensures meets { Meets (spec.opened_form scope.now.code.now scope.now.seen (below scope.now self.now.depth) state.old.ctx at (option_copied want.entry) e.now (out-Expr e.now) state.old.node) result state.new.node }
+        ensures meets { Meets (spec.opened_form scope.now.code.now scope.now.seen (below scope.now
+            self.now.depth) state.old.ctx at (option_copied want.entry) e.now (out-Expr e.now)
+            state.old.node) result state.new.node }
         ensures keeps { state.new.ctx ≡ state.old.ctx }
     {
         match e {
@@ -274,7 +280,9 @@ impl<
         e: &Expr,
     ) -> Result<(Expr, Ty), TypeFault>
         requires { Nests self.now.depth (F.pre self.now.run) (F.post self.now.run) }
-        ensures meets { Meets (spec.expression scope.now.code.now scope.now.seen (below scope.now self.now.depth) state.old.ctx (option_copied want.entry) e.now state.old.node) result state.new.node }
+        ensures meets { Meets (spec.expression scope.now.code.now scope.now.seen (below scope.now
+            self.now.depth) state.old.ctx (option_copied want.entry) e.now state.old.node) result
+            state.new.node }
         ensures keeps { state.new.ctx ≡ state.old.ctx }
     {
         let at = state.node;
@@ -293,7 +301,8 @@ pub fn check_expr(
     want: Option<&Ty>,
     e: &Expr,
 ) -> Result<(Expr, Ty), TypeFault>
-    ensures meets { Meets (below scope.now depth state.old.ctx (option_copied want.entry) e.now state.old.node) result state.new.node }
+    ensures meets { Meets (below scope.now depth state.old.ctx (option_copied want.entry) e.now
+        state.old.node) result state.new.node }
     ensures keeps { state.new.ctx ≡ state.old.ctx }
 {
     if depth == 0 {

@@ -101,7 +101,8 @@ fn given_of(alloc: Global, prim: Primitive, types: &[Ty]) -> Result<Option<Ty>, 
 
 /// The same, where there must be one.
 fn type_given(alloc: Global, at: u32, prim: Primitive, types: Tys) -> Result<Ty, TypeFault>
-    ensures { (node : ℕ) → Meets (spec.or_refuse (spec.given_of prim types) (TypeFault.WrongShape (Place.Node at)) node) result node }
+    ensures { (node : ℕ) → Meets (spec.or_refuse (spec.given_of prim types) (TypeFault.WrongShape
+        (Place.Node at)) node) result node }
 {
     let given = given_of(alloc, prim, types.as_slice());
     drop(types);
@@ -122,7 +123,8 @@ fn call_of(
     given: Exprs,
     ty: Ty,
 ) -> Result<(Expr, Ty), TypeFault>
-    ensures { Meets (spec.settled_type at (option_copied want.entry) (Expr.Call f.now given) ty node) result node }
+    ensures { Meets (spec.settled_type at (option_copied want.entry) (Expr.Call f.now given) ty
+        node) result node }
 {
     match f.copy(alloc) {
         Ok(f) => settle_type(alloc, at, node, want, Expr::Call(f, given), ty),
@@ -143,7 +145,8 @@ fn chunk_of(
     f: &Name,
     given: Exprs,
 ) -> Result<(Expr, Ty), TypeFault>
-    ensures { Meets (spec.settled_type at (option_copied want.entry) (Expr.ChunkOf f.now given) Ty.Chunk node) result node }
+    ensures { Meets (spec.settled_type at (option_copied want.entry) (Expr.ChunkOf f.now given)
+        Ty.Chunk node) result node }
 {
     match f.copy(alloc) {
         Ok(f) => settle_type(alloc, at, node, want, Expr::ChunkOf(f, given), Ty::Chunk),
@@ -202,7 +205,9 @@ fn folded(
     begun: &Ty,
     gives: &Ty,
 ) -> Result<(Expr, Ty), TypeFault>
-    ensures { Meets ((if same_type gives.now begun.now then spec.settled_type at (option_copied want.entry) whole begun.now else spec.refuse (TypeFault.WrongShape (Place.Node at))) node) result node }
+    ensures { Meets ((if same_type gives.now begun.now then spec.settled_type at (option_copied
+        want.entry) whole begun.now else spec.refuse (TypeFault.WrongShape (Place.Node at))) node)
+        result node }
 {
     if !gives.is(begun) {
         return refuse_expr(whole, TypeFault::WrongShape(Place::Node(at)));
@@ -245,7 +250,9 @@ impl<
         es: &Exprs,
     ) -> Result<Exprs, TypeFault>
         requires { Nests self.now.depth (F.pre self.now.run) (F.post self.now.run) }
-        ensures meets { Meets (spec.arguments scope.now.code.now scope.now.seen (below scope.now self.now.depth) state.old.ctx at wants.now es.now state.old.node) result state.new.node }
+        ensures meets { Meets (spec.arguments scope.now.code.now scope.now.seen (below scope.now
+            self.now.depth) state.old.ctx at wants.now es.now state.old.node) result
+            state.new.node }
         ensures keeps { state.new.ctx ≡ state.old.ctx }
     {
         if es.len() != wants.len() {
@@ -274,7 +281,9 @@ impl<
         ty: &Ty,
     ) -> Result<(Expr, Ty), TypeFault>
         requires { Nests self.now.depth (F.pre self.now.run) (F.post self.now.run) }
-        ensures meets { Meets (spec.applied_call scope.now.code.now scope.now.seen (below scope.now self.now.depth) state.old.ctx at (option_copied want.entry) f.now es.now wants.now ty.now state.old.node) result state.new.node }
+        ensures meets { Meets (spec.applied_call scope.now.code.now scope.now.seen (below scope.now
+            self.now.depth) state.old.ctx at (option_copied want.entry) f.now es.now wants.now
+            ty.now state.old.node) result state.new.node }
         ensures keeps { state.new.ctx ≡ state.old.ctx }
     {
         match self.arguments(scope, state, at, wants, es) {
@@ -302,7 +311,9 @@ impl<
         es: &Exprs,
     ) -> Result<(Expr, Ty), TypeFault>
         requires { Nests self.now.depth (F.pre self.now.run) (F.post self.now.run) }
-        ensures meets { Meets (spec.of_items scope.now.code.now scope.now.seen (below scope.now self.now.depth) state.old.ctx at (option_copied want.entry) f.now prim es.now state.old.node) result state.new.node }
+        ensures meets { Meets (spec.of_items scope.now.code.now scope.now.seen (below scope.now
+            self.now.depth) state.old.ctx at (option_copied want.entry) f.now prim es.now
+            state.old.node) result state.new.node }
         ensures keeps { state.new.ctx ≡ state.old.ctx }
     {
         if es.len() != 1 {
@@ -333,7 +344,9 @@ impl<
         es: &Exprs,
     ) -> Result<(Expr, Ty), TypeFault>
         requires { Nests self.now.depth (F.pre self.now.run) (F.post self.now.run) }
-        ensures meets { Meets (spec.primitive scope.now.code.now scope.now.seen (below scope.now self.now.depth) state.old.ctx at (option_copied want.entry) f.now prim es.now state.old.node) result state.new.node }
+        ensures meets { Meets (spec.primitive scope.now.code.now scope.now.seen (below scope.now
+            self.now.depth) state.old.ctx at (option_copied want.entry) f.now prim es.now
+            state.old.node) result state.new.node }
         ensures keeps { state.new.ctx ≡ state.old.ctx }
     {
         match takes(self.alloc, prim) {
@@ -361,7 +374,9 @@ impl<
         es: &Exprs,
     ) -> Result<(Expr, Ty), TypeFault>
         requires { Nests self.now.depth (F.pre self.now.run) (F.post self.now.run) }
-        ensures meets { Meets (spec.function scope.now.code.now scope.now.seen (below scope.now self.now.depth) state.old.ctx at (option_copied want.entry) f.now es.now state.old.node) result state.new.node }
+        ensures meets { Meets (spec.function scope.now.code.now scope.now.seen (below scope.now
+            self.now.depth) state.old.ctx at (option_copied want.entry) f.now es.now state.old.node)
+            result state.new.node }
         ensures keeps { state.new.ctx ≡ state.old.ctx }
     {
         let fun = match earlier(scope.code, scope.seen, f) {
@@ -390,7 +405,9 @@ impl<
         es: &Exprs,
     ) -> Result<(Expr, Ty), TypeFault>
         requires { Nests self.now.depth (F.pre self.now.run) (F.post self.now.run) }
-        ensures meets { Meets (spec.call scope.now.code.now scope.now.seen (below scope.now self.now.depth) state.old.ctx at (option_copied want.entry) f.now es.now state.old.node) result state.new.node }
+        ensures meets { Meets (spec.call scope.now.code.now scope.now.seen (below scope.now
+            self.now.depth) state.old.ctx at (option_copied want.entry) f.now es.now state.old.node)
+            result state.new.node }
         ensures keeps { state.new.ctx ≡ state.old.ctx }
     {
         if let Some(prim) = prim_of(f) {
@@ -411,7 +428,9 @@ impl<
         e: &Boxed<Expr>,
     ) -> Result<Boxed<Expr>, TypeFault>
         requires { Nests self.now.depth (F.pre self.now.run) (F.post self.now.run) }
-        ensures meets { Meets (spec.wanting scope.now.code.now scope.now.seen (below scope.now self.now.depth) state.old.ctx (Ty.List item.now) e.now state.old.node) result state.new.node }
+        ensures meets { Meets (spec.wanting scope.now.code.now scope.now.seen (below scope.now
+            self.now.depth) state.old.ctx (Ty.List item.now) e.now state.old.node) result
+            state.new.node }
         ensures keeps { state.new.ctx ≡ state.old.ctx }
     {
         let item = item.copy(self.alloc)?;
@@ -438,7 +457,9 @@ impl<
         l: &Boxed<Expr>,
     ) -> Result<(Expr, Ty), TypeFault>
         requires { Nests self.now.depth (F.pre self.now.run) (F.post self.now.run) }
-        ensures meets { Meets (spec.fold_left scope.now.code.now scope.now.seen (below scope.now self.now.depth) state.old.ctx at (option_copied want.entry) f.now a.now l.now state.old.node) result state.new.node }
+        ensures meets { Meets (spec.fold_left scope.now.code.now scope.now.seen (below scope.now
+            self.now.depth) state.old.ctx at (option_copied want.entry) f.now a.now l.now
+            state.old.node) result state.new.node }
         ensures keeps { state.new.ctx ≡ state.old.ctx }
     {
         let fun = match earlier(scope.code, scope.seen, f) {
@@ -477,7 +498,9 @@ impl<
         l: &Boxed<Expr>,
     ) -> Result<(Expr, Ty), TypeFault>
         requires { Nests self.now.depth (F.pre self.now.run) (F.post self.now.run) }
-        ensures meets { Meets (spec.fold_right scope.now.code.now scope.now.seen (below scope.now self.now.depth) state.old.ctx at (option_copied want.entry) f.now a.now l.now state.old.node) result state.new.node }
+        ensures meets { Meets (spec.fold_right scope.now.code.now scope.now.seen (below scope.now
+            self.now.depth) state.old.ctx at (option_copied want.entry) f.now a.now l.now
+            state.old.node) result state.new.node }
         ensures keeps { state.new.ctx ≡ state.old.ctx }
     {
         let fun = match earlier(scope.code, scope.seen, f) {
@@ -515,7 +538,9 @@ impl<
         es: &Exprs,
     ) -> Result<(Expr, Ty), TypeFault>
         requires { Nests self.now.depth (F.pre self.now.run) (F.post self.now.run) }
-        ensures meets { Meets (spec.packing scope.now.code.now scope.now.seen (below scope.now self.now.depth) state.old.ctx at (option_copied want.entry) f.now es.now state.old.node) result state.new.node }
+        ensures meets { Meets (spec.packing scope.now.code.now scope.now.seen (below scope.now
+            self.now.depth) state.old.ctx at (option_copied want.entry) f.now es.now state.old.node)
+            result state.new.node }
         ensures keeps { state.new.ctx ≡ state.old.ctx }
     {
         let fun = match fun_of(scope.code, f) {

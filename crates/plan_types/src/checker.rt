@@ -40,7 +40,8 @@ impl<
         e: &Expr,
     ) -> Result<(Expr, Ty), TypeFault>
         requires { Nests self.now.depth (F.pre self.now.run) (F.post self.now.run) }
-        ensures meets { Meets (below scope.now self.now.depth state.old.ctx (option_copied want.entry) e.now state.old.node) result state.new.node }
+        ensures meets { Meets (below scope.now self.now.depth state.old.ctx (option_copied
+            want.entry) e.now state.old.node) result state.new.node }
         ensures keeps { state.new.ctx ≡ state.old.ctx }
     {
         (self.run)(self.alloc, self.depth, scope, state, want, e)
@@ -56,7 +57,8 @@ impl<
         e: &Expr,
     ) -> Result<Expr, TypeFault>
         requires { Nests self.now.depth (F.pre self.now.run) (F.post self.now.run) }
-        ensures meets { Meets (spec.wanting scope.now.code.now scope.now.seen (below scope.now self.now.depth) state.old.ctx ty.now e.now state.old.node) result state.new.node }
+        ensures meets { Meets (spec.wanting scope.now.code.now scope.now.seen (below scope.now
+            self.now.depth) state.old.ctx ty.now e.now state.old.node) result state.new.node }
         ensures keeps { state.new.ctx ≡ state.old.ctx }
     {
         match self.run(scope, state, Some(ty), e) {
@@ -77,7 +79,8 @@ impl<
         e: &Boxed<Expr>,
     ) -> Result<Boxed<Expr>, TypeFault>
         requires { Nests self.now.depth (F.pre self.now.run) (F.post self.now.run) }
-        ensures meets { Meets (spec.wanting scope.now.code.now scope.now.seen (below scope.now self.now.depth) state.old.ctx ty.now e.now state.old.node) result state.new.node }
+        ensures meets { Meets (spec.wanting scope.now.code.now scope.now.seen (below scope.now
+            self.now.depth) state.old.ctx ty.now e.now state.old.node) result state.new.node }
         ensures keeps { state.new.ctx ≡ state.old.ctx }
     {
         match self.wanting(scope, state, ty, e.get()) {
@@ -95,7 +98,8 @@ impl<
         e: &Boxed<Expr>,
     ) -> Result<(Boxed<Expr>, Ty), TypeFault>
         requires { Nests self.now.depth (F.pre self.now.run) (F.post self.now.run) }
-        ensures meets { Meets (below scope.now self.now.depth state.old.ctx (option_copied want.entry) e.now state.old.node) result state.new.node }
+        ensures meets { Meets (below scope.now self.now.depth state.old.ctx (option_copied
+            want.entry) e.now state.old.node) result state.new.node }
         ensures keeps { state.new.ctx ≡ state.old.ctx }
     {
         match self.run(scope, state, want, e.get()) {
@@ -122,7 +126,9 @@ impl<
         types: &mut Tys,
     ) -> Result<(), TypeFault>
         requires { Nests self.now.depth (F.pre self.now.run) (F.post self.now.run) }
-        ensures meets { Leaves (spec.parts_from scope.now.code.now scope.now.seen (below scope.now self.now.depth) done.old types.old state.old.ctx (option_copied wants.entry) all.entry.now state.old.node) result (done.new, types.new) state.new.node }
+        ensures meets { Leaves (spec.parts_from scope.now.code.now scope.now.seen (below scope.now
+            self.now.depth) done.old types.old state.old.ctx (option_copied wants.entry)
+            all.entry.now state.old.node) result (done.new, types.new) state.new.node }
         ensures keeps { state.new.ctx ≡ state.old.ctx }
     {
         while let [e, rest @ ..] = all {
@@ -142,7 +148,9 @@ impl<
         all: &[Expr],
     ) -> Result<(Exprs, Tys), TypeFault>
         requires { Nests self.now.depth (F.pre self.now.run) (F.post self.now.run) }
-        ensures meets { Meets (spec.parts scope.now.code.now scope.now.seen (below scope.now self.now.depth) state.old.ctx (option_copied wants.entry) all.entry.now state.old.node) result state.new.node }
+        ensures meets { Meets (spec.parts scope.now.code.now scope.now.seen (below scope.now
+            self.now.depth) state.old.ctx (option_copied wants.entry) all.entry.now state.old.node)
+            result state.new.node }
         ensures keeps { state.new.ctx ≡ state.old.ctx }
     {
         let mut done = Items::new(self.alloc);
@@ -166,7 +174,11 @@ impl<
         clause: &Clause,
     ) -> Result<Clause, TypeFault>
         requires { Nests self.now.depth (F.pre self.now.run) (F.post self.now.run) }
-        ensures meets { MatchResult result (λ k. (spec.wanting scope.now.code.now scope.now.seen (below scope.now self.now.depth) state.old.ctx ty.now clause.now.body state.old.node ≡ Ok (k.body, state.new.node)) × (k.name ≡ clause.now.name)) (λ f. f ≢ TypeFault.NoMemory → spec.wanting scope.now.code.now scope.now.seen (below scope.now self.now.depth) state.old.ctx ty.now clause.now.body state.old.node ≡ Err f) }
+        ensures meets { MatchResult result (λ k. (spec.wanting scope.now.code.now scope.now.seen
+            (below scope.now self.now.depth) state.old.ctx ty.now clause.now.body state.old.node ≡
+            Ok (k.body, state.new.node)) × (k.name ≡ clause.now.name)) (λ f. f ≢ TypeFault.NoMemory
+            → spec.wanting scope.now.code.now scope.now.seen (below scope.now self.now.depth)
+            state.old.ctx ty.now clause.now.body state.old.node ≡ Err f) }
         ensures keeps { state.new.ctx ≡ state.old.ctx }
     {
         let name = copy_name(self.alloc, &clause.name)?;
@@ -189,7 +201,9 @@ impl<
         mut all: &[Clause],
     ) -> Result<Clauses, TypeFault>
         requires { Nests self.now.depth (F.pre self.now.run) (F.post self.now.run) }
-        ensures meets { Meets (spec.clauses_from scope.now.code.now scope.now.seen (below scope.now self.now.depth) [] state.old.ctx ty.now all.entry.now state.old.node) result state.new.node }
+        ensures meets { Meets (spec.clauses_from scope.now.code.now scope.now.seen (below scope.now
+            self.now.depth) [] state.old.ctx ty.now all.entry.now state.old.node) result
+            state.new.node }
         ensures keeps { state.new.ctx ≡ state.old.ctx }
     {
         let mut done = Items::new(self.alloc);
@@ -204,7 +218,8 @@ impl<
 
 /// Adds a part that was found, and its type.
 fn add_part(done: &mut Exprs, types: &mut Tys, found: (Expr, Ty)) -> Result<(), NoMemory>
-    ensures { OnOk result ((done.new ≡ done.old ++ found.0 ∷ []) × (types.new ≡ types.old ++ found.1 ∷ [])) }
+    ensures { OnOk result ((done.new ≡ done.old ++ found.0 ∷ []) × (types.new ≡ types.old ++ found.1
+        ∷ [])) }
 {
     let (part, ty) = found;
     done.add(part)?;

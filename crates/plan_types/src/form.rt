@@ -37,7 +37,9 @@ impl<
         es: &Exprs,
     ) -> Result<(Expr, Ty), TypeFault>
         requires { Nests self.now.depth (F.pre self.now.run) (F.post self.now.run) }
-        ensures meets { Meets (spec.tuple scope.now.code.now scope.now.seen (below scope.now self.now.depth) state.old.ctx at (option_copied want.entry) es.now state.old.node) result state.new.node }
+        ensures meets { Meets (spec.tuple scope.now.code.now scope.now.seen (below scope.now
+            self.now.depth) state.old.ctx at (option_copied want.entry) es.now state.old.node)
+            result state.new.node }
         ensures keeps { state.new.ctx ≡ state.old.ctx }
     {
         match self.parts(scope, state, parts_of(es.len(), want), es.as_slice()) {
@@ -65,7 +67,9 @@ impl<
         a: &Boxed<Expr>,
     ) -> Result<(Expr, Ty), TypeFault>
         requires { Nests self.now.depth (F.pre self.now.run) (F.post self.now.run) }
-        ensures meets { Meets (spec.part scope.now.code.now scope.now.seen (below scope.now self.now.depth) state.old.ctx at (option_copied want.entry) number a.now state.old.node) result state.new.node }
+        ensures meets { Meets (spec.part scope.now.code.now scope.now.seen (below scope.now
+            self.now.depth) state.old.ctx at (option_copied want.entry) number a.now state.old.node)
+            result state.new.node }
         ensures keeps { state.new.ctx ≡ state.old.ctx }
     {
         match self.run_boxed(scope, state, None, a) {
@@ -99,7 +103,9 @@ impl<
         c: &Boxed<Expr>,
     ) -> Result<(Expr, Ty), TypeFault>
         requires { Nests self.now.depth (F.pre self.now.run) (F.post self.now.run) }
-        ensures meets { Meets (spec.choice scope.now.code.now scope.now.seen (below scope.now self.now.depth) state.old.ctx (option_copied want.entry) a.now b.now c.now state.old.node) result state.new.node }
+        ensures meets { Meets (spec.choice scope.now.code.now scope.now.seen (below scope.now
+            self.now.depth) state.old.ctx (option_copied want.entry) a.now b.now c.now
+            state.old.node) result state.new.node }
         ensures keeps { state.new.ctx ≡ state.old.ctx }
     {
         match self.wanting_boxed(scope, state, &Ty::Bool, a) {
@@ -135,7 +141,9 @@ impl<
         b: &Boxed<Expr>,
     ) -> Result<(Expr, Ty), TypeFault>
         requires { Nests self.now.depth (F.pre self.now.run) (F.post self.now.run) }
-        ensures meets { Meets (spec.binder scope.now.code.now scope.now.seen (below scope.now self.now.depth) state.old.ctx (option_copied want.entry) name.now ty.now a.now b.now state.old.node) result state.new.node }
+        ensures meets { Meets (spec.binder scope.now.code.now scope.now.seen (below scope.now
+            self.now.depth) state.old.ctx (option_copied want.entry) name.now ty.now a.now b.now
+            state.old.node) result state.new.node }
         ensures keeps { state.new.ctx ≡ state.old.ctx }
     {
         match self.wanting_boxed(scope, state, ty, a) {
@@ -167,7 +175,8 @@ impl<
         e: &Boxed<Expr>,
     ) -> Result<(Boxed<Expr>, Ty), TypeFault>
         requires { Nests self.now.depth (F.pre self.now.run) (F.post self.now.run) }
-        ensures meets { Meets (below scope.now self.now.depth (state.old.ctx ++ binds name.now ty.now ∷ []) (option_copied want.entry) e.now state.old.node) result state.new.node }
+        ensures meets { Meets (below scope.now self.now.depth (state.old.ctx ++ binds name.now
+            ty.now ∷ []) (option_copied want.entry) e.now state.old.node) result state.new.node }
         ensures keeps { state.new.ctx ≡ state.old.ctx }
     {
         let outer = state.ctx.len();
@@ -188,7 +197,9 @@ impl<
         b: &Boxed<Expr>,
     ) -> Result<(Expr, Ty), TypeFault>
         requires { Nests self.now.depth (F.pre self.now.run) (F.post self.now.run) }
-        ensures meets { Meets (spec.sequence scope.now.code.now scope.now.seen (below scope.now self.now.depth) state.old.ctx (option_copied want.entry) a.now b.now state.old.node) result state.new.node }
+        ensures meets { Meets (spec.sequence scope.now.code.now scope.now.seen (below scope.now
+            self.now.depth) state.old.ctx (option_copied want.entry) a.now b.now state.old.node)
+            result state.new.node }
         ensures keeps { state.new.ctx ≡ state.old.ctx }
     {
         match self.wanting_boxed(scope, state, &Ty::Unit, a) {
@@ -215,7 +226,9 @@ impl<
         b: &Boxed<Expr>,
     ) -> Result<(Expr, Ty), TypeFault>
         requires { Nests self.now.depth (F.pre self.now.run) (F.post self.now.run) }
-        ensures meets { Meets (spec.both scope.now.code.now scope.now.seen (below scope.now self.now.depth) state.old.ctx at (option_copied want.entry) a.now b.now state.old.node) result state.new.node }
+        ensures meets { Meets (spec.both scope.now.code.now scope.now.seen (below scope.now
+            self.now.depth) state.old.ctx at (option_copied want.entry) a.now b.now state.old.node)
+            result state.new.node }
         ensures keeps { state.new.ctx ≡ state.old.ctx }
     {
         match self.wanting_boxed(scope, state, &Ty::Bool, a) {
@@ -249,7 +262,9 @@ impl<
         b: &Boxed<Expr>,
     ) -> Result<(Expr, Ty), TypeFault>
         requires { Nests self.now.depth (F.pre self.now.run) (F.post self.now.run) }
-        ensures meets { Meets (spec.either scope.now.code.now scope.now.seen (below scope.now self.now.depth) state.old.ctx at (option_copied want.entry) a.now b.now state.old.node) result state.new.node }
+        ensures meets { Meets (spec.either scope.now.code.now scope.now.seen (below scope.now
+            self.now.depth) state.old.ctx at (option_copied want.entry) a.now b.now state.old.node)
+            result state.new.node }
         ensures keeps { state.new.ctx ≡ state.old.ctx }
     {
         match self.wanting_boxed(scope, state, &Ty::Bool, a) {
@@ -282,7 +297,9 @@ impl<
         a: &Boxed<Expr>,
     ) -> Result<(Expr, Ty), TypeFault>
         requires { Nests self.now.depth (F.pre self.now.run) (F.post self.now.run) }
-        ensures meets { Meets (spec.negation scope.now.code.now scope.now.seen (below scope.now self.now.depth) state.old.ctx at (option_copied want.entry) a.now state.old.node) result state.new.node }
+        ensures meets { Meets (spec.negation scope.now.code.now scope.now.seen (below scope.now
+            self.now.depth) state.old.ctx at (option_copied want.entry) a.now state.old.node) result
+            state.new.node }
         ensures keeps { state.new.ctx ≡ state.old.ctx }
     {
         match self.wanting_boxed(scope, state, &Ty::Bool, a) {
@@ -303,7 +320,9 @@ impl<
         clauses: &Clauses,
     ) -> Result<(Expr, Ty), TypeFault>
         requires { Nests self.now.depth (F.pre self.now.run) (F.post self.now.run) }
-        ensures meets { Meets (spec.handling scope.now.code.now scope.now.seen (below scope.now self.now.depth) state.old.ctx at (option_copied want.entry) a.now clauses.now state.old.node) result state.new.node }
+        ensures meets { Meets (spec.handling scope.now.code.now scope.now.seen (below scope.now
+            self.now.depth) state.old.ctx at (option_copied want.entry) a.now clauses.now
+            state.old.node) result state.new.node }
         ensures keeps { state.new.ctx ≡ state.old.ctx }
     {
         if any_unknown(scope.code, clauses.as_slice()) {
@@ -333,7 +352,9 @@ impl<
         a: &Boxed<Expr>,
     ) -> Result<(Expr, Ty), TypeFault>
         requires { Nests self.now.depth (F.pre self.now.run) (F.post self.now.run) }
-        ensures meets { Meets (spec.evaluation scope.now.code.now scope.now.seen (below scope.now self.now.depth) state.old.ctx at (option_copied want.entry) a.now state.old.node) result state.new.node }
+        ensures meets { Meets (spec.evaluation scope.now.code.now scope.now.seen (below scope.now
+            self.now.depth) state.old.ctx at (option_copied want.entry) a.now state.old.node) result
+            state.new.node }
         ensures keeps { state.new.ctx ≡ state.old.ctx }
     {
         match self.wanting_boxed(scope, state, &Ty::Chunk, a) {
@@ -363,7 +384,9 @@ impl<
         route: &Name,
     ) -> Result<(Expr, Ty), TypeFault>
         requires { Nests self.now.depth (F.pre self.now.run) (F.post self.now.run) }
-        ensures meets { Meets (spec.remote scope.now.code.now scope.now.seen (below scope.now self.now.depth) state.old.ctx at (option_copied want.entry) a.now h.now n.now route.now state.old.node) result state.new.node }
+        ensures meets { Meets (spec.remote scope.now.code.now scope.now.seen (below scope.now
+            self.now.depth) state.old.ctx at (option_copied want.entry) a.now h.now n.now route.now
+            state.old.node) result state.new.node }
         ensures keeps { state.new.ctx ≡ state.old.ctx }
     {
         match self.wanting_boxed(scope, state, &Ty::Chunk, a) {
@@ -402,7 +425,9 @@ impl<
         d: &Boxed<Expr>,
     ) -> Result<(Expr, Ty), TypeFault>
         requires { Nests self.now.depth (F.pre self.now.run) (F.post self.now.run) }
-        ensures meets { Meets (spec.neighbour scope.now.code.now scope.now.seen (below scope.now self.now.depth) state.old.ctx at (option_copied want.entry) a.now h.now n.now d.now state.old.node) result state.new.node }
+        ensures meets { Meets (spec.neighbour scope.now.code.now scope.now.seen (below scope.now
+            self.now.depth) state.old.ctx at (option_copied want.entry) a.now h.now n.now d.now
+            state.old.node) result state.new.node }
         ensures keeps { state.new.ctx ≡ state.old.ctx }
     {
         let chunk = self.wanting_boxed(scope, state, &Ty::Chunk, a)?;
@@ -436,7 +461,8 @@ impl<
 
 /// A copy of the type of a tuple's part with that number.
 fn part_type(alloc: Global, at: u32, number: u8, ty: &Ty) -> Result<Ty, TypeFault>
-    ensures { (node : ℕ) → Meets (spec.or_refuse (spec.part_in number ty.now) (TypeFault.WrongShape (Place.Node at)) node) result node }
+    ensures { (node : ℕ) → Meets (spec.or_refuse (spec.part_in number ty.now) (TypeFault.WrongShape
+        (Place.Node at)) node) result node }
 {
     match part_in(number, ty) {
         Some(item) => Ok(item.copy(alloc)?),

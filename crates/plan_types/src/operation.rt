@@ -38,7 +38,9 @@ impl<
         gives: Ty,
     ) -> Result<(Expr, Ty), TypeFault>
         requires { Nests self.now.depth (F.pre self.now.run) (F.post self.now.run) }
-        ensures meets { Meets (spec.after (spec.wanting scope.now.code.now scope.now.seen (below scope.now self.now.depth) state.old.ctx ty b.now state.old.node) (λ q. spec.settled_type at (option_copied want.entry) (x.Binary op first q) gives)) result state.new.node }
+        ensures meets { Meets (spec.after (spec.wanting scope.now.code.now scope.now.seen (below
+            scope.now self.now.depth) state.old.ctx ty b.now state.old.node) (λ q. spec.settled_type
+            at (option_copied want.entry) (x.Binary op first q) gives)) result state.new.node }
         ensures keeps { state.new.ctx ≡ state.old.ctx }
     {
         let found = self.wanting_boxed(scope, state, &ty, b);
@@ -69,7 +71,9 @@ impl<
         b: &Boxed<Expr>,
     ) -> Result<(Expr, Ty), TypeFault>
         requires { Nests self.now.depth (F.pre self.now.run) (F.post self.now.run) }
-        ensures meets { Meets (spec.after (spec.wanting scope.now.code.now scope.now.seen (below scope.now self.now.depth) state.old.ctx ty b.now state.old.node) (λ q. spec.settled_type at (option_copied want.entry) (x.Binary op first q) ty)) result state.new.node }
+        ensures meets { Meets (spec.after (spec.wanting scope.now.code.now scope.now.seen (below
+            scope.now self.now.depth) state.old.ctx ty b.now state.old.node) (λ q. spec.settled_type
+            at (option_copied want.entry) (x.Binary op first q) ty)) result state.new.node }
         ensures keeps { state.new.ctx ≡ state.old.ctx }
     {
         match self.wanting_boxed(scope, state, &ty, b) {
@@ -98,7 +102,9 @@ impl<
         b: &Boxed<Expr>,
     ) -> Result<(Expr, Ty), TypeFault>
         requires { Nests self.now.depth (F.pre self.now.run) (F.post self.now.run) }
-        ensures meets { Meets (spec.calculation scope.now.code.now scope.now.seen (below scope.now self.now.depth) state.old.ctx at (option_copied want.entry) op a.now b.now state.old.node) result state.new.node }
+        ensures meets { Meets (spec.calculation scope.now.code.now scope.now.seen (below scope.now
+            self.now.depth) state.old.ctx at (option_copied want.entry) op a.now b.now
+            state.old.node) result state.new.node }
         ensures keeps { state.new.ctx ≡ state.old.ctx }
     {
         match self.wanting_boxed(scope, state, &Ty::Int, a) {
@@ -130,7 +136,9 @@ impl<
         b: &Boxed<Expr>,
     ) -> Result<(Expr, Ty), TypeFault>
         requires { Nests self.now.depth (F.pre self.now.run) (F.post self.now.run) }
-        ensures meets { Meets (spec.join scope.now.code.now scope.now.seen (below scope.now self.now.depth) state.old.ctx at (option_copied want.entry) op a.now b.now state.old.node) result state.new.node }
+        ensures meets { Meets (spec.join scope.now.code.now scope.now.seen (below scope.now
+            self.now.depth) state.old.ctx at (option_copied want.entry) op a.now b.now
+            state.old.node) result state.new.node }
         ensures keeps { state.new.ctx ≡ state.old.ctx }
     {
         match self.run_boxed(scope, state, None, a) {
@@ -160,7 +168,9 @@ impl<
         b: &Boxed<Expr>,
     ) -> Result<(Expr, Ty), TypeFault>
         requires { Nests self.now.depth (F.pre self.now.run) (F.post self.now.run) }
-        ensures meets { Meets (spec.comparison scope.now.code.now scope.now.seen (below scope.now self.now.depth) state.old.ctx at (option_copied want.entry) op a.now b.now state.old.node) result state.new.node }
+        ensures meets { Meets (spec.comparison scope.now.code.now scope.now.seen (below scope.now
+            self.now.depth) state.old.ctx at (option_copied want.entry) op a.now b.now
+            state.old.node) result state.new.node }
         ensures keeps { state.new.ctx ≡ state.old.ctx }
     {
         match self.run_boxed(scope, state, None, a) {
@@ -192,7 +202,9 @@ impl<
         b: &Boxed<Expr>,
     ) -> Result<(Expr, Ty), TypeFault>
         requires { Nests self.now.depth (F.pre self.now.run) (F.post self.now.run) }
-        ensures meets { Meets (spec.order scope.now.code.now scope.now.seen (below scope.now self.now.depth) state.old.ctx at (option_copied want.entry) op a.now b.now state.old.node) result state.new.node }
+        ensures meets { Meets (spec.order scope.now.code.now scope.now.seen (below scope.now
+            self.now.depth) state.old.ctx at (option_copied want.entry) op a.now b.now
+            state.old.node) result state.new.node }
         ensures keeps { state.new.ctx ≡ state.old.ctx }
     {
         match self.run_boxed(scope, state, None, a) {
@@ -222,7 +234,9 @@ impl<
         b: &Boxed<Expr>,
     ) -> Result<(Expr, Ty), TypeFault>
         requires { Nests self.now.depth (F.pre self.now.run) (F.post self.now.run) }
-        ensures meets { Meets (spec.prefix scope.now.code.now scope.now.seen (below scope.now self.now.depth) state.old.ctx at (option_copied want.entry) op a.now b.now state.old.node) result state.new.node }
+        ensures meets { Meets (spec.prefix scope.now.code.now scope.now.seen (below scope.now
+            self.now.depth) state.old.ctx at (option_copied want.entry) op a.now b.now
+            state.old.node) result state.new.node }
         ensures keeps { state.new.ctx ≡ state.old.ctx }
     {
         match self.run_boxed(scope, state, items_of(want), a) {
@@ -260,7 +274,9 @@ impl<
         b: &Boxed<Expr>,
     ) -> Result<(Expr, Ty), TypeFault>
         requires { Nests self.now.depth (F.pre self.now.run) (F.post self.now.run) }
-        ensures meets { Meets (spec.operation scope.now.code.now scope.now.seen (below scope.now self.now.depth) state.old.ctx at (option_copied want.entry) op a.now b.now state.old.node) result state.new.node }
+        ensures meets { Meets (spec.operation scope.now.code.now scope.now.seen (below scope.now
+            self.now.depth) state.old.ctx at (option_copied want.entry) op a.now b.now
+            state.old.node) result state.new.node }
         ensures keeps { state.new.ctx ≡ state.old.ctx }
     {
         match op {

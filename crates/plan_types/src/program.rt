@@ -150,7 +150,8 @@ fn body(
     node: u32,
     d: &Fun,
 ) -> Result<((Expr, Ty), u32), TypeFault>
-    ensures { Gives (spec.checked_expression code.now 64 seen d.now.params (Some d.now.result) d.now.body node) result }
+    ensures { Gives (spec.checked_expression code.now 64 seen d.now.params (Some d.now.result)
+        d.now.body node) result }
 {
     let scope = Scope { code, seen };
     let mut state = State {

@@ -24,7 +24,8 @@ pub fn refuse_expr(e: Expr, fault: TypeFault) -> Result<(Expr, Ty), TypeFault>
 
 /// The fault where another type is wanted, or memory that was refused for it.
 fn mismatch(alloc: Global, at: u32, wanted: &Ty, ty: Ty) -> TypeFault
-    ensures { result ≢ TypeFault.NoMemory → result ≡ TypeFault.Mismatch (Place.Node at) wanted.now ty }
+    ensures { result ≢ TypeFault.NoMemory → result ≡ TypeFault.Mismatch (Place.Node at) wanted.now
+        ty }
 {
     match wanted.copy(alloc) {
         Ok(wanted) => TypeFault::Mismatch(Place::Node(at), wanted, ty),
@@ -100,7 +101,8 @@ pub fn items_of<'a>(want: Option<&'a Ty>) -> Option<&'a Ty>
 /// The types of the parts, where a tuple of so many parts is wanted.
 #[tactic(auto, using(plan_base::specs::Trees::trees))]
 pub fn parts_of<'a>(count: usize, want: Option<&'a Ty>) -> Option<&'a Tys>
-    ensures { option_copied result ≡ option_and_then (spec.parts_of count) (option_copied want.entry) }
+    ensures { option_copied result ≡ option_and_then (spec.parts_of count) (option_copied
+        want.entry) }
 {
     match want {
         Some(Ty::Tuple(parts)) if parts.len() == count => Some(parts),

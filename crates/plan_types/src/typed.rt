@@ -37,7 +37,8 @@ impl Model for Checked {
 
     ghost view = { λ k. k.program };
 
-    ghost invariant = { λ k. IsChecked k.program × (k.size ≡ min (code_size k.program) 18446744073709551615) };
+    ghost invariant = { λ k. IsChecked k.program × (k.size ≡ min (code_size k.program)
+        18446744073709551615) };
 }
 
 impl Checked {
@@ -102,7 +103,8 @@ pub fn annotate(alloc: Global, draft: Draft) -> Result<Checked, TypeFault>
     requires { IsWellFormedProgram draft.program }
     ensures found { IfOk result (λ k. Fills draft.program k × IsChecked k) }
     ensures answered { IfOk result (λ k. answer draft.program ≡ Ok k) }
-    ensures only { (p : Code) → Fills draft.program p → Typed p → MatchResult result (λ k. k ≡ p) (λ f. f ≡ TypeFault.NoMemory) }
+    ensures only { (p : Code) → Fills draft.program p → Typed p
+        → MatchResult result (λ k. k ≡ p) (λ f. f ≡ TypeFault.NoMemory) }
     ensures fault { IfErr result (λ f. f ≢ TypeFault.NoMemory → answer draft.program ≡ Err f) }
 {
     let program = annotate_program(alloc, &draft.program)?;
@@ -117,7 +119,8 @@ pub fn check(alloc: Global, program: Program) -> Result<Checked, TypeFault>
     requires formed { IsWellFormedProgram program }
     requires full { ProgramHasTypes program }
     ensures found { IfOk result (λ k. (k ≡ program) × IsChecked k) }
-    ensures only { Typed program → MatchResult result (λ k. k ≡ program) (λ f. f ≡ TypeFault.NoMemory) }
+    ensures only { Typed program → MatchResult result (λ k. k ≡ program) (λ f. f ≡
+        TypeFault.NoMemory) }
     ensures fault { IfErr result (λ f. f ≢ TypeFault.NoMemory → answer program ≡ Err f) }
 {
     let _filled = annotate_program(alloc, &program)?;
@@ -127,7 +130,8 @@ pub fn check(alloc: Global, program: Program) -> Result<Checked, TypeFault>
 
 /// The first refusal of a program in the order of checking, where there is one.
 pub fn first_refusal(alloc: Global, program: &Program) -> Result<Option<TypeFault>, NoMemory>
-    ensures { IfOk result (λ o. MatchOption o (IsTrue (is_ok (answer program.now))) (λ f. answer program.now ≡ Err f)) }
+    ensures { IfOk result (λ o. MatchOption o (IsTrue (is_ok (answer program.now))) (λ f. answer
+        program.now ≡ Err f)) }
 {
     match annotate_program(alloc, program) {
         Ok(_filled) => Ok(None),

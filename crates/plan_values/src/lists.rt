@@ -189,7 +189,8 @@ pub fn blob_part(alloc: Global, b: &Bytes, i: i64, n: i64) -> Result<Value, Prim
 
 /// The `n` bytes from place `i`, where they are all there.
 fn part_between(b: &[u8], i: i64, n: i64) -> Option<&[u8]>
-    ensures { MatchOption result (rules.blob_part b.now i n ≡ rules.raises rules.bad_index) (λ p. rules.blob_part b.now i n ≡ rules.gives (value.Blob p.now)) }
+    ensures { MatchOption result (rules.blob_part b.now i n ≡ rules.raises rules.bad_index) (λ p.
+        rules.blob_part b.now i n ≡ rules.gives (value.Blob p.now)) }
 {
     if i < 0 || n < 0 {
         return None;

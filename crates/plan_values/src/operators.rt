@@ -20,7 +20,8 @@ use std::alloc::Global;
 /// types that it takes.
 pub fn binary(alloc: Global, op: Op, a: &Value, b: &Value) -> Result<Value, PrimFault>
     ensures answers { Answers (rules.binary op a.now b.now) result }
-    ensures fits { (t u r : AType) → OperatorTakes op t u r → HasType a.now t → HasType b.now u → IsFit r result }
+    ensures fits { (t u r : AType) → OperatorTakes op t u r → HasType a.now t → HasType b.now u
+        → IsFit r result }
 {
     apply_operator(alloc, op, a, b)
 }
@@ -67,7 +68,8 @@ fn negated_answer(before: Option<bool>) -> Result<Value, PrimFault>
 }
 
 fn on_numbers(alloc: Global, op: Op, a: &Value, b: &Value) -> Result<Value, PrimFault>
-    ensures { Answers (rules.numbers (rules.computed_number op) (out-Value a.now) (out-Value b.now)) result }
+    ensures { Answers (rules.numbers (rules.computed_number op) (out-Value a.now) (out-Value b.now))
+        result }
 {
     match a {
         Value::Int(x) => match b {

@@ -17,7 +17,8 @@ use std::alloc::Global;
 /// A copy of the part of a tuple with number `i`, from 1, or `Unfit` where `v` has no such part: never where its type has one.
 pub fn part(alloc: Global, i: u8, v: &Value) -> Result<Value, PrimFault>
     ensures answers { Answers (rules.part i v.now) result }
-    ensures fits { (ts : List AType) (t : AType) → HasType v.now (ty.Tuple ts) → part_of i ts ≡ Some t → IsFit t result }
+    ensures fits { (ts : List AType) (t : AType) → HasType v.now (ty.Tuple ts)
+        → part_of i ts ≡ Some t → IsFit t result }
 {
     part_in(alloc, i, v)
 }

@@ -17,7 +17,8 @@ use std::alloc::Global;
 /// that it takes.
 pub fn primitive(alloc: Global, p: Primitive, args: &Values) -> Result<Value, PrimFault>
     ensures answers { Answers (rules.primitive p args.now) result }
-    ensures fits { (ts : List AType) (r : AType) → PrimitiveTakes p ts r → HaveTypes args.now ts → IsFit r result }
+    ensures fits { (ts : List AType) (r : AType) → PrimitiveTakes p ts r → HaveTypes args.now ts
+        → IsFit r result }
 {
     apply_primitive(alloc, p, args)
 }
@@ -155,7 +156,8 @@ fn of_three(
     b: &Value,
     c: &Value,
 ) -> Result<Value, PrimFault>
-    ensures { Answers (rules.of_three p (out-Value a.now) (out-Value b.now) (out-Value c.now)) result }
+    ensures { Answers (rules.of_three p (out-Value a.now) (out-Value b.now) (out-Value c.now))
+        result }
 {
     match p {
         Primitive::BlobPart => part_of_blob(alloc, a, b, c),
@@ -170,7 +172,8 @@ fn of_three(
 }
 
 fn part_of_blob(alloc: Global, a: &Value, b: &Value, c: &Value) -> Result<Value, PrimFault>
-    ensures { Answers (rules.of_three prim.BlobPart (out-Value a.now) (out-Value b.now) (out-Value c.now)) result }
+    ensures { Answers (rules.of_three prim.BlobPart (out-Value a.now) (out-Value b.now) (out-Value
+        c.now)) result }
 {
     match a {
         Value::Blob(bytes) => match b {

@@ -82,7 +82,8 @@ impl Model for Sender {
 
     ghost view = { λ s. record { acked = s.acked; held = s.held.items } };
 
-    ghost invariant = { λ s. (s.acked + length s.held.items ≤ 2 ^ 62) × ((length s.held.items ≤ 64) × (AllShort s.held.items × (s.code ≡ port_program))) };
+    ghost invariant = { λ s. (s.acked + length s.held.items ≤ 2 ^ 62)
+        × ((length s.held.items ≤ 64) × (AllShort s.held.items × (s.code ≡ port_program))) };
 }
 
 impl Sender {

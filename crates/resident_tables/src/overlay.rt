@@ -43,7 +43,12 @@ impl Model for Overlay {
 
     ghost coded = { layer_code };
 
-    ghost view = { λ o. record { gone = o.gone.items; puts = o.puts.items; counted = o.counted; «next» = o.«next» } };
+    ghost view = { λ o. record {
+      gone = o.gone.items;
+      puts = o.puts.items;
+      counted = o.counted;
+      «next» = o.«next»;
+    } };
 
     ghost invariant = { λ o. pos 1 ≤ℤ o.«next» };
 }

@@ -46,7 +46,12 @@ impl Model for Tables {
 
     ghost view = { λ t. record { rows = t.rows.items; «next» = t.«next»; spare = t.rows.spare } };
 
-    ghost invariant = { λ t. record { bytes : t.bytes ≡ rows_size t.rows.items; fit : fits t.rows.items ≡ true; least : pos 1 ≤ℤ t.«next»; stay : AllStay t.earliest t.rows.items } };
+    ghost invariant = { λ t. record {
+      bytes : t.bytes ≡ rows_size t.rows.items;
+      fit : fits t.rows.items ≡ true;
+      least : pos 1 ≤ℤ t.«next»;
+      stay : AllStay t.earliest t.rows.items;
+    } };
 }
 
 impl Tables {

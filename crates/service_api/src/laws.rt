@@ -6,5 +6,6 @@ ghost use Rattle.service_api.specs.Schemes.{IsInstance, instance};
 
 /// The written instances of a service's type are exactly those that `instance` finds.
 pub fn instances()
-    ensures { (scheme : Scheme) (svc : Svc) (a : Ty) → (instance scheme svc ≡ Some a) ↔ IsInstance scheme svc a }
+    ensures { (scheme : Scheme) (svc : Svc) (a : Ty) → (instance scheme svc ≡ Some a)
+        ↔ IsInstance scheme svc a }
 {}

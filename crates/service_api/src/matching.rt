@@ -29,7 +29,8 @@ fn taken_by<'a>(s: &SchemeTy, t: &'a Ty, later: Option<&'a Ty>) -> Option<&'a Ty
 
 /// The type at the first place of `Any`, else `later`.
 fn taken_among<'a>(schemes: &[SchemeTy], types: &'a [Ty], later: Option<&'a Ty>) -> Option<&'a Ty>
-    ensures { option_copied result ≡ spec.taken_among schemes.now types.now (option_copied later.entry) }
+    ensures { option_copied result ≡ spec.taken_among schemes.now types.now (option_copied
+        later.entry) }
 {
     let mut wanted = schemes;
     let mut declared = types;
@@ -89,7 +90,8 @@ fn taken_type(alloc: Global, scheme: &Scheme, svc: &Svc) -> Result<Ty, NoMemory>
 #[tactic(auto, unfolding(crate::specs::Schemes::instance), using(crate::proofs::InstanceLaws::instance_exact))]
 pub fn instance(alloc: Global, scheme: &Scheme, svc: &Svc) -> Result<Option<Ty>, NoMemory>
     ensures found { IfOk result (λ t. t ≡ spec.instance scheme.now svc.now) }
-    ensures exact { IfOk result (λ t. (a : AType) → (t ≡ Some a) ↔ spec.IsInstance scheme.now svc.now a) }
+    ensures exact { IfOk result (λ t. (a : AType) → (t ≡ Some a)
+        ↔ spec.IsInstance scheme.now svc.now a) }
 {
     let a = taken_type(alloc, scheme, svc)?;
     if tests_instance(scheme, svc, &a) {

@@ -37,7 +37,8 @@ pub trait Services {
         requires open { IsSome (stands self.old).begun }
         requires good { AreGoodValues svc.now.params args.now }
         requires near { length ctx.now.neighbours ≤ 8 }
-        ensures ok { IfOk result (λ a. Answers (stands self.old) svc.now args.now ctx.entry.now a (stands self.new)) }
+        ensures ok { IfOk result (λ a. Answers (stands self.old) svc.now args.now ctx.entry.now a
+            (stands self.new)) }
         ensures offer { (stands self.new).offer ≡ (stands self.old).offer }
         ensures begun { (stands self.new).begun ≡ (stands self.old).begun }
         ensures still { IsSome (stands self.new).begun }

@@ -14,16 +14,19 @@ ghost use Rattle.typing_rules.specs.TypingOrder.{annotated_program};
 /// The checking of a well-formed draft answers a program exactly where that program is typed and fills
 /// the draft in.
 pub fn checking_is_typing()
-    ensures { (draft code : Program) → IsWellFormedProgram draft → (annotated_program draft ≡ Ok code) ↔ (Fills draft code × Typed code) }
+    ensures { (draft code : Program) → IsWellFormedProgram draft
+        → (annotated_program draft ≡ Ok code) ↔ (Fills draft code × Typed code) }
 {}
 
 /// An expression has at most one type.
 pub fn types_are_unique()
-    ensures { (code : Program) (seen : ℕ) (c : Ctx) (e : Expr) (t u : Ty) → HasTy code seen c e t → HasTy code seen c e u → t ≡ u }
+    ensures { (code : Program) (seen : ℕ) (c : Ctx) (e : Expr) (t u : Ty) → HasTy code seen c e t
+        → HasTy code seen c e u → t ≡ u }
 {}
 
 /// A program in which no type is missing is filled in by itself alone, and by itself where it is typed.
 pub fn full_programs_stay()
-    ensures same { (draft code : Program) → ProgramHasTypes draft → Fills draft code → code ≡ draft }
+    ensures same { (draft code : Program) → ProgramHasTypes draft → Fills draft code
+        → code ≡ draft }
     ensures itself { (code : Program) → Typed code → Fills code code }
 {}

@@ -18,7 +18,10 @@ pub fn equality()
 /// From operands of the types that they take, operators, parts and primitives give a value of the type that they give, or an
 /// exception: the rules have a case.
 pub fn operands_fit()
-    ensures operators { (o : Op) (a b : Value) (t u r : Ty) → OperatorTakes o t u r → HasType a t → HasType b u → Fits r (rules.binary o a b) }
-    ensures parts { (i : ℕ) (v : Value) (ts : List Ty) (t : Ty) → HasType v (ty.Tuple ts) → part_of i ts ≡ Some t → Fits t (rules.part i v) }
-    ensures primitives { (p : Primitive) (vs : List Value) (ts : List Ty) (r : Ty) → PrimitiveTakes p ts r → HaveTypes vs ts → Fits r (rules.primitive p vs) }
+    ensures operators { (o : Op) (a b : Value) (t u r : Ty) → OperatorTakes o t u r → HasType a t
+        → HasType b u → Fits r (rules.binary o a b) }
+    ensures parts { (i : ℕ) (v : Value) (ts : List Ty) (t : Ty) → HasType v (ty.Tuple ts)
+        → part_of i ts ≡ Some t → Fits t (rules.part i v) }
+    ensures primitives { (p : Primitive) (vs : List Value) (ts : List Ty) (r : Ty)
+        → PrimitiveTakes p ts r → HaveTypes vs ts → Fits r (rules.primitive p vs) }
 {}

@@ -20,14 +20,17 @@ pub use lines::ends_are_visits;
 
 /// Where an allowance of work suffices for a visit, every greater one gives the same: outcome, effects, work and services.
 pub fn greater_allowances()
-    ensures { (k : Chunk) (ctx : Ctx) (family : Family) (n : ServiceState) (v w : ℕ) (r : Visit) (new : ServiceState)
-        → v ≤ w → IsVisit v k ctx family n r new → r.outcome ≢ outcome.WorkSpent → IsVisit w k ctx family n r new }
+    ensures { (k : Chunk) (ctx : Ctx) (family : Family) (n : ServiceState) (v w : ℕ) (r : Visit)
+        (new : ServiceState)
+        → v ≤ w → IsVisit v k ctx family n r new → r.outcome ≢ outcome.WorkSpent
+        → IsVisit w k ctx family n r new }
 {}
 
 /// From the clause `visits` of `visit` in `plan_eval`: what it answers, where that isn't `WorkSpent`, every allowance of at
 /// least its own 4,000,000 gives, and nothing else.
 pub fn visits_by_greater_allowances()
-    ensures { (k : Chunk) (ctx : Ctx) (family : Family) (old new : ServiceState) (result : Result Visit NoMemory)
+    ensures { (k : Chunk) (ctx : Ctx) (family : Family) (old new : ServiceState)
+        (result : Result Visit NoMemory)
         → IfOk result (λ r. IsVisit allowance k ctx family old r new)
         → IfOk result (λ r. r.outcome ≢ outcome.WorkSpent → (w : ℕ)
         → allowance ≤ w → GivesAlone w k ctx family old r new) }

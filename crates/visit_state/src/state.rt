@@ -49,7 +49,14 @@ impl Model for State {
 
     ghost coded = { own_code };
 
-    ghost view = { λ s. record { ctx = s.ctx; family = s.family; work = s.work; evals = s.evals; outbox = s.outbox; notes = s.notes } };
+    ghost view = { λ s. record {
+      ctx = s.ctx;
+      family = s.family;
+      work = s.work;
+      evals = s.evals;
+      outbox = s.outbox;
+      notes = s.notes;
+    } };
 
     ghost invariant = { λ s. (s.ctx.purse + s.evals ≤ 65535) × (length s.ctx.neighbours ≤ 8) };
 }
