@@ -1,5 +1,5 @@
 -- One log of an audit, as it is taken of the files.
-use Rattle.std.proofs.Common.{◌≡◌, ℕ, Bool, true, false, IsTrue, if◌then◌else◌, List, Result, Ok, Err, refl, ap, ◌∙◌}
+use Rattle.std.proofs.Common.{◌≡◌, ℕ, Bool, true, false, if◌then◌else◌, List, Ok, Err, ap, ◌∙◌}
 use Rattle.plan_base.specs.declared.ids.Host.{Host}
 use Rattle.network_plan.specs.Hosts.{is_listed}
 use Rattle.network_plan.specs.declared.node.Log.{Log}

@@ -1,5 +1,5 @@
 -- The name of a file is a text.
-use Rattle.std.proofs.Common.{◌≡◌, ℕ, Bool, true, false, ◌&&◌, nat_le, nat_lt, List, length}
+use Rattle.std.proofs.Common.{◌≡◌, ℕ, true, ◌&&◌, nat_le, nat_lt, List, length}
 use Rattle.std.specs.Str.{is_utf8, IsUtf8}
 use Rattle.std.proofs.lemmas.Str.{IsUtf8-from_is_utf8}
 use Rattle.plan_items.proofs.Bools.{both_true}

@@ -20,7 +20,7 @@ use Rattle.fleet_audit.specs.Texts.{audit_text}
 use Rattle.call_causes.specs.declared.status.Cause.{Cause}
 use Rattle.call_causes.specs.declared.status.Cause.TheVariants.{Refused}
 use Rattle.call_causes.specs.declared.status.Refusal.{Refusal}
-use Rattle.call_causes.specs.declared.status.Refusal.TheVariants.{Line, At, Frame, BadHex, TooLong, Log as OfLog, LogTooLong}
+use Rattle.call_causes.specs.declared.status.Refusal.TheVariants.{Line, TooLong, Log as OfLog, LogTooLong}
 use Rattle.file_commands.specs.Said.{Said, nothing, outside, says, lines_said}
 use Rattle.file_commands.specs.Takes.{Untaken, TakeResult}
 use Rattle.file_commands.specs.Renders.{Prints}

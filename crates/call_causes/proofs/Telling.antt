@@ -1,5 +1,5 @@
 -- Notes that are written, and what they leave.
-use Rattle.std.proofs.Common.{◌≡◌, List, ℕ, ◌⊎◌, inl, inr, refl, subst}
+use Rattle.std.proofs.Common.{◌≡◌, List, ℕ, inl, inr, refl, subst}
 use Rattle.node_io.specs.Causes.{HasRisen}
 use Rattle.node_io.specs.Sinks.{SinkState, Writes, FailsIn}
 use Rattle.call_causes.specs.Causes.{Gives}

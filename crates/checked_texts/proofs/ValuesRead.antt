@@ -1,6 +1,6 @@
 -- The tokens of a printed value are read as that value.
-use Rattle.std.proofs.Common.{◌≡◌, ℕ, zero, suc, ◌+◌, ◌-◌, ◌<◌, ◌≤◌, ◌==◌, Bool, true, false, ◌||◌, List, [], ◌∷◌, ◌++◌, length, Option, Some, None, Result, Ok, Err, refl, sym, ap, ◌∙◌, subst, arith, append_assoc, append-nil, nat_lt}
-use Rattle.std.specs.Prelude.{map, is_some, if◌then◌else◌}
+use Rattle.std.proofs.Common.{◌≡◌, ℕ, suc, ◌+◌, ◌-◌, ◌<◌, ◌≤◌, Bool, true, false, ◌||◌, List, [], ◌∷◌, ◌++◌, length, Option, Some, Ok, refl, sym, ap, ◌∙◌, subst, arith, append_assoc, append-nil, nat_lt}
+use Rattle.std.specs.Prelude.{map, is_some}
 use Rattle.std.proofs.lemmas.Bool.Decides.{nat_tests}
 use Rattle.std.proofs.lemmas.List.{length-map}
 use Rattle.plan_items.proofs.Bools.{not_zero}
@@ -20,10 +20,8 @@ use Rattle.plan_lexer.specs.declared.token.Symbol.TheVariants as symbols
 use Rattle.plan_lexer.specs.declared.token.Token.{Token}
 use Rattle.plan_lexer.specs.declared.token.TokenKind.{TokenKind}
 use Rattle.plan_lexer.specs.declared.token.TokenKind.TheVariants as kind
-use Rattle.plan_grammar.specs.declared.fault.ParseFault.{ParseFault}
 use Rattle.plan_grammar.specs.declared.fault.Wanted.TheVariants as wanted
-use Rattle.plan_grammar.specs.Ahead.{Front, Reader, ◌>>=◌, place, behind, next_kind, is_symbol, is_symbol_kind}
-use Rattle.plan_grammar.specs.Types.{opens, more, type_to}
+use Rattle.plan_grammar.specs.Ahead.{Front, Reader, ◌>>=◌, place, behind, is_symbol, is_symbol_kind}
 use Rattle.plan_parser.specs.declared.item.TypedValue.{TypedValue}
 use Rattle.plan_parser.specs.Values.{typed_value, literal, literal_from, begins_value, tuple_of, list_of, judged_item, fits, tuple_from, tuple, grouped_value, parens, like, listing, typed_nil, brackets, value_at, value_to, nothing_follows, value_of}
 use Rattle.printed_forms.specs.Pieces.{listed_pieces}
@@ -34,7 +32,7 @@ use Rattle.checked_texts.proofs.ValueTokens.{value_kinds_out}
 use Rattle.checked_texts.specs.Reads.{kinds_at, Took, first_kind}
 use Rattle.checked_texts.proofs.Steps.{took, then_took, took_by, weaker, next_is, behind_is, symbol_is, take_symbol, take_open, AllRead, AllGood, more_took}
 use Rattle.checked_texts.proofs.TypesRead.{type_takes}
-use Rattle.checked_texts.proofs.Forms.{nest, behind_one}
+use Rattle.checked_texts.proofs.Forms.{behind_one}
 use Rattle.checked_texts.specs.Readable.{IsReadable, AreOfType, AreReadable}
 use Rattle.checked_texts.specs.Readable.{IsReadable as R, AreOfType as O, AreReadable as M}
 

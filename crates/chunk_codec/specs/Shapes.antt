@@ -1,5 +1,5 @@
 -- What is behind the tags of forms that are read alike.
-use Rattle.std.specs.Prelude.{List, ℕ, Ok, Err}
+use Rattle.std.specs.Prelude.{List, ℕ, Ok}
 use Rattle.plan_items.specs.Reading.{◌>>=◌}
 use Rattle.plan_base.specs.declared.limit.Limit.{Limit}
 use Rattle.plan_base.specs.declared.tree.Expr.{Expr}

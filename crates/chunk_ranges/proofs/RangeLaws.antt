@@ -1,6 +1,6 @@
 -- What is in range is told by the outermost level, and item by item.
-use Rattle.std.proofs.Common.{◌≡◌, ℕ, ◌+◌, ◌<◌, ◌≤◌, Bool, true, List, [], ◌∷◌, length, take, get_or, refl, sym, ◌∙◌, ap, ℤ, pos, negsuc}
-use Rattle.std.specs.Prelude.{map, ◌&&◌, FitsSigned}
+use Rattle.std.proofs.Common.{◌≡◌, ℕ, ◌+◌, ◌<◌, ◌≤◌, Bool, true, List, length, take, get_or, refl, sym, ◌∙◌, ap, ℤ, pos, negsuc}
+use Rattle.std.specs.Prelude.{◌&&◌, FitsSigned}
 use Rattle.std.specs.List.{list_all}
 use Rattle.std.specs.Int.{w64}
 use Rattle.std.proofs.lemmas.Bool.{lt-ltb}

@@ -1,24 +1,23 @@
-use Rattle.std.proofs.Common.{◌≡◌, ℕ, zero, suc, ◌+◌, ◌-◌, ◌<◌, ◌≤◌, List, [], ◌∷◌, ◌++◌, length, Bool, true, false, Option, Some, None, Result, Ok, Err, refl, sym, ◌∙◌, ap, subst, arith, append-nil, sum_by, append_assoc}
-use Rattle.std.specs.Prelude.{map, nat_lt, nat_le, IsTrue, ◌||◌}
+use Rattle.std.proofs.Common.{◌≡◌, ℕ, zero, suc, ◌+◌, ◌<◌, ◌≤◌, List, [], ◌∷◌, ◌++◌, length, Bool, true, false, Option, Some, None, Ok, refl, sym, ◌∙◌, ap, subst, arith, append-nil, sum_by}
+use Rattle.std.specs.Prelude.{nat_lt, IsTrue, ◌||◌}
 use Rattle.std.specs.List.{flat_map}
-use Rattle.std.specs.Int.{w8, w16, w32, w64, to_be_bytes, cast_unsigned}
+use Rattle.std.specs.Int.{w32, w64, to_be_bytes, cast_unsigned}
 use Rattle.std.proofs.lemmas.List.{length-map}
 use Rattle.std.proofs.lemmas.List.Sums.{sum_by-cons}
-use Rattle.std.proofs.lemmas.Bool.{ltb-true, lt-ltb, leb-true, le-leb}
+use Rattle.std.proofs.lemmas.Bool.{ltb-true, lt-ltb}
 use Rattle.wire_bytes.specs.Fields.{IsBytes}
 use Rattle.plan_items.specs.Reading.{◌>>=◌}
-use Rattle.plan_items.proofs.Binds.{ok_inj, some_inj, bind_ok, bind_is}
+use Rattle.plan_items.proofs.Binds.{ok_inj, bind_ok, bind_is}
 use Rattle.plan_items.proofs.Agendas.{Goes, chain, one_step, making_goes_on, idle}
 use Rattle.plan_base.specs.declared.limit.Limit.{Limit}
 use denote.Hole.Carrier.{roll, out}
-use Rattle.chunk_spelling.specs.declared.fault.SpellFault.{SpellFault}
 use Rattle.chunk_spelling.specs.declared.fault.SpellFault.TheVariants.{OverLimit}
 use Rattle.chunk_spelling.specs.Steps.{step, clause_items}
 use Rattle.chunk_spelling.proofs.Took.{Took, Took-bytes, Took-none, Took-then, Took-first, Took-second, Took-as, between, scan_is}
-use Rattle.chunk_spelling.proofs.FieldLaws.{byte_takes, byte_again, known_ok, known_is, allowed_ok, allowed_is}
+use Rattle.chunk_spelling.proofs.FieldLaws.{allowed_ok, allowed_is}
 use Rattle.chunk_spelling.proofs.LeafLaws.{Table, table_takes, table_again, flag_table, flag_lawful, int_lawful, word_lawful, char_lawful, text_lawful, blob_lawful, name_lawful, op_lawful, part_number_lawful}
-use Rattle.chunk_spelling.proofs.PartLaws.{Lawful, Taken, AllLawful, Tag, FormIs, reads_takes, reads_again, reads_go, count_takes, count_again, several_lawful, list_lawful, formed_lawful, joined_lawful, opens}
-use Rattle.chunk_spelling.proofs.TypeLaws.{type_lawful, flat_map-map, no_sum, flat_same}
+use Rattle.chunk_spelling.proofs.PartLaws.{Lawful, Taken, AllLawful, Tag, FormIs, count_takes, count_again, several_lawful, formed_lawful}
+use Rattle.chunk_spelling.proofs.TypeLaws.{type_lawful, flat_map-map, flat_same}
 use Rattle.plan_base.specs.Sizes.{expr_nodes, clause_nodes, expr_nodes_level}
 use Rattle.plan_base.proofs.SizeLaws.{expr_nodes_out}
 use Rattle.plan_base.specs.declared.tree.Expr.{Expr, Expr-F, out-Expr, roll-Expr, roll-out-Expr, map-Expr, fold_out-Expr}
@@ -28,7 +27,7 @@ use Rattle.chunk_spelling.specs.declared.tags.ExprTag.{ExprTag}
 use Rattle.chunk_spelling.specs.declared.tags.TheConstants.{EXPR_TAGS}
 use Rattle.chunk_spelling.specs.Items.{ChunkItem, an_expr, a_clause, several_clauses}
 use Rattle.chunk_spelling.specs.Scan.{Scan, Reader, flags, table_field, count_field, tag_of, allowed_or_fault}
-use Rattle.chunk_spelling.specs.Parts.{Part, Core, Parts, PartValues, items_of_parts, bytes_of_parts, nodes_of_parts, FormFits, several, tagged_part, tagged_at}
+use Rattle.chunk_spelling.specs.Parts.{Part, Core, Parts, PartValues, items_of_parts, bytes_of_parts, nodes_of_parts, FormFits, several, tagged_part}
 use Rattle.chunk_spelling.specs.Fields.{flag_byte, sized_bytes, name_bytes, op_byte}
 use Rattle.chunk_spelling.specs.Types.{type_bytes, type_part}
 use Rattle.chunk_spelling.specs.Exprs.{expr_bytes, expr_bytes_level, clause_bytes, clause_bytes_level, catch_bytes, one_more, expr_tag_at, clause_tag_at, clause_forms, clause_of_parts, clause_parts_by, clause_part, is_none_left, clauses_from, clauses_at, ClausesFit, clauses_part, expr_forms, expr_of_parts, expr_parts, expr_from, expr_within, no_expr, expr_core, expr_part, expr_inner, one_below}

@@ -1,8 +1,8 @@
-use Rattle.std.proofs.Common.{◌≡◌, ℕ, zero, suc, ◌+◌, ◌*◌, ◌^◌, ◌<◌, ◌≤◌, List, [], ◌∷◌, ◌++◌, length, take, drop, length-append, get_or, Bool, true, false, cond, ltb, leb, Option, Some, None, Result, Ok, Err, ℤ, refl, sym, ◌∙◌, ap, subst, inl, inr, arith, rules, lit≤}
-use Rattle.std.specs.Prelude.{nat_lt, nat_le, if◌then◌else◌, FitsSigned, slice_get}
+use Rattle.std.proofs.Common.{◌≡◌, ℕ, zero, suc, ◌+◌, ◌^◌, ◌<◌, ◌≤◌, List, [], ◌∷◌, ◌++◌, length, take, drop, length-append, Bool, true, false, Option, Some, None, Ok, Err, ℤ, refl, sym, ◌∙◌, ap, subst, arith, lit≤}
+use Rattle.std.specs.Prelude.{nat_lt, if◌then◌else◌, FitsSigned}
 use Rattle.std.specs.Int.{Width, w8, w16, w32, w64, byte_len, to_be_bytes, from_be_bytes, cast_signed, cast_unsigned}
 use Rattle.std.proofs.lemmas.List.{take-append-drop, length-take-le}
-use Rattle.std.proofs.lemmas.Bool.{ltb-true, ltb-false, le-ltb, lt-ltb}
+use Rattle.std.proofs.lemmas.Bool.{ltb-false, le-ltb}
 use Rattle.std.proofs.lemmas.Nat.{be_bytes_2, be_bytes_4, be_bytes_8, from_be_bytes-to_be_bytes_2, from_be_bytes-to_be_bytes_4, from_be_bytes-to_be_bytes_8}
 use Rattle.wire_bytes.specs.Fields.{Front, IsBytes, after, number_at, bytes_at, int_at}
 use Rattle.chunk_spelling.specs.declared.fault.SpellFault.{SpellFault}
@@ -11,7 +11,7 @@ use mir.Val.{bits}
 use mir.ValLaws as laws
 use Rattle.std.proofs.lemmas.Int.{of_z-to_z, to_z-of_z}
 use Rattle.plan_items.proofs.Binds.{ok_inj}
-use Rattle.chunk_spelling.proofs.Took.{Took, Took-bytes, Took-as, scan_is}
+use Rattle.chunk_spelling.proofs.Took.{Took, Took-as, scan_is}
 
 pub take-front : (xs ys : List ℕ) → take (length xs) (xs ++ ys) ≡ xs
 take-front [] ys = refl

@@ -1,26 +1,26 @@
-use Rattle.std.proofs.Common.{◌≡◌, ℕ, zero, suc, ◌+◌, ◌-◌, ◌^◌, ◌<◌, ◌≤◌, List, [], ◌∷◌, ◌++◌, length, Bool, true, false, ltb, Option, Some, None, Result, Ok, Err, ℤ, refl, sym, ◌∙◌, ap, subst, arith}
-use Rattle.std.specs.Prelude.{nat_lt, if◌then◌else◌, slice_get, FitsSigned}
-use Rattle.std.specs.Int.{w8, w16, w32, w64, to_be_bytes, cast_unsigned}
+use Rattle.std.proofs.Common.{◌≡◌, ℕ, zero, suc, ◌+◌, ◌-◌, ◌^◌, ◌<◌, ◌≤◌, List, [], ◌∷◌, ◌++◌, length, Bool, true, false, Some, None, Ok, refl, sym, ◌∙◌, ap, subst, arith}
+use Rattle.std.specs.Prelude.{nat_lt, if◌then◌else◌, slice_get}
+use Rattle.std.specs.Int.{w8, w16, w32, to_be_bytes}
 use Rattle.std.specs.Char.{IsScalar}
-use Rattle.std.specs.Str.{IsUtf8, is_utf8}
+use Rattle.std.specs.Str.{IsUtf8}
 use Rattle.std.proofs.lemmas.Str.{IsUtf8-from_is_utf8, is_utf8-from_IsUtf8}
 use Rattle.std.proofs.lemmas.Bool.{ltb-false}
 use Rattle.wire_bytes.specs.Fields.{IsBytes}
 use Rattle.plan_items.specs.Reading.{◌>>=◌}
-use Rattle.plan_items.proofs.Binds.{ok_inj, some_inj, bind_ok, bind_is}
+use Rattle.plan_items.proofs.Binds.{some_inj, bind_ok, bind_is}
 use Rattle.plan_items.proofs.Agendas.{one_step}
 use Rattle.chunk_spelling.specs.Items.{a_flag, an_int, a_word, a_char, a_text, a_blob, a_name, an_operator, a_part_number}
 use Rattle.chunk_spelling.specs.Scan.{Scan, number_field, int_field, bytes_field, flag_field, char_field, text_field, blob_field, table_field, tag_of, flags, known_tag, allowed_or_fault, name_field, operator_field, count_field}
 use Rattle.chunk_spelling.specs.Fields.{flag_byte, flag_part, int_part, word_part, char_part, text_part, blob_part, name_part, op_byte, op_part, part_number_part}
 use Rattle.chunk_spelling.specs.Steps.{step}
-use Rattle.chunk_spelling.proofs.Took.{Took, Took-bytes, Took-then, Took-first, Took-second, Took-as, between}
+use Rattle.chunk_spelling.proofs.Took.{Took, Took-then, Took-first, Took-second, Took-as, between}
 use Rattle.chunk_spelling.proofs.FieldLaws.{byte_takes, byte_again, number_takes, number_again, wide16, wide32, int_takes, int_again, bytes_takes, bytes_again, known_ok, known_is, allowed_ok, allowed_is}
 use Rattle.chunk_spelling.proofs.PartLaws.{Lawful, Taken, count_takes, count_again}
 use Rattle.chunk_spelling.specs.declared.tags.TheConstants.{OPERATORS}
 use Rattle.plan_base.specs.declared.limit.Limit.{Limit}
 use Rattle.plan_base.specs.declared.tree.Op.{Op}
-use Rattle.plan_base.specs.Words.{is_word, is_reserved, is_name}
-use Rattle.std.specs.Prelude.{nat_le, ◌&&◌, not}
+use Rattle.plan_base.specs.Words.{is_word, is_name}
+use Rattle.std.specs.Prelude.{nat_le}
 use Rattle.std.proofs.lemmas.Bool.{leb-true, le-leb}
 use Rattle.plan_items.proofs.Bools.{both_true}
 use Rattle.chunk_spelling.specs.declared.fault.SpellFault.TheVariants.{BadName}

@@ -1,4 +1,4 @@
-use Rattle.std.proofs.Common.{◌≡◌, ℕ, zero, suc, ◌+◌, ◌^◌, ◌<◌, ◌≤◌, List, [], ◌∷◌, ◌++◌, length, Bool, true, false, leb, Option, Some, None, Result, Ok, Err, sum_by, refl, sym, ◌∙◌, ap, subst, arith, append_assoc, append-nil, add-zero}
+use Rattle.std.proofs.Common.{◌≡◌, ℕ, zero, suc, ◌+◌, ◌^◌, ◌<◌, ◌≤◌, List, [], ◌∷◌, ◌++◌, length, Option, Some, None, Result, Ok, sum_by, refl, sym, ◌∙◌, ap, subst, arith}
 use Rattle.std.specs.Prelude.{nat_le}
 use Rattle.std.specs.List.{flat_map}
 use Rattle.std.specs.Int.{w8, w16, to_be_bytes}
@@ -7,11 +7,11 @@ use Rattle.std.proofs.lemmas.List.Sums.{sum_by-cons}
 use Rattle.wire_bytes.specs.Fields.{IsBytes}
 use Rattle.plan_items.specs.Reading.{◌>>=◌, many}
 use Rattle.plan_items.specs.Agenda.{times}
-use Rattle.plan_items.proofs.Binds.{ok_inj, some_inj, bind_ok, bind_is, Bound}
-use Rattle.plan_items.proofs.Agendas.{Goes, chain, one_step, making_goes_on, many_goes, idle}
+use Rattle.plan_items.proofs.Binds.{ok_inj, bind_ok, bind_is, Bound}
+use Rattle.plan_items.proofs.Agendas.{Goes, chain, one_step, many_goes, idle}
 use Rattle.plan_base.specs.declared.limit.Limit.{Limit}
 use Rattle.chunk_spelling.specs.declared.fault.SpellFault.{SpellFault}
-use Rattle.chunk_spelling.specs.declared.fault.SpellFault.TheVariants.{BadTag, OverLimit}
+use Rattle.chunk_spelling.specs.declared.fault.SpellFault.TheVariants.{BadTag}
 use Rattle.chunk_spelling.specs.Items.{ChunkItem, counted, listed}
 use Rattle.chunk_spelling.specs.Scan.{Scan, Reader, number_field, count_field, allowed_or_fault}
 use Rattle.chunk_spelling.specs.Parts.{Part, Parts, done, ◌&◌, PartValues, reads, bytes_of_parts, AllFit, nodes_of_parts, items_of_parts, EachFits, counted_at, several, listed_at, list_of, FormFits, tagged_at, tagged_part, untagged_part}

@@ -1,13 +1,13 @@
-use Rattle.std.proofs.Common.{◌≡◌, ℕ, zero, suc, ◌+◌, ◌-◌, ◌<◌, ◌≤◌, List, [], ◌∷◌, ◌++◌, length, Bool, true, false, Option, Some, None, Result, Ok, Err, refl, sym, ◌∙◌, ap, subst, arith, append-nil, sum_by}
+use Rattle.std.proofs.Common.{◌≡◌, ℕ, zero, suc, ◌<◌, List, [], ◌∷◌, ◌++◌, length, Bool, Some, Ok, refl, sym, ◌∙◌, ap, subst, arith, append-nil, sum_by}
 use Rattle.std.proofs.lemmas.List.{length-map}
 use Rattle.std.proofs.lemmas.List.Sums.{sum_by-cons}
 use Rattle.std.specs.Prelude.{map}
 use Rattle.std.specs.List.{flat_map}
 use Rattle.wire_bytes.specs.Fields.{IsBytes}
 use Rattle.plan_items.specs.Reading.{◌>>=◌}
-use Rattle.plan_items.proofs.Binds.{ok_inj, some_inj, bind_ok, bind_is}
+use Rattle.plan_items.proofs.Binds.{bind_ok, bind_is}
 use Rattle.plan_base.specs.declared.limit.Limit.{Limit}
-use Rattle.plan_base.specs.declared.tree.Ty.{Ty, Ty-F, out-Ty, roll-Ty, roll-out-Ty, map-Ty, fold_out-Ty, the_lemmas}
+use Rattle.plan_base.specs.declared.tree.Ty.{Ty, Ty-F, out-Ty, roll-Ty, roll-out-Ty, map-Ty, fold_out-Ty}
 use Rattle.plan_base.specs.declared.tree.Ty.TheVariants as ty
 use denote.Hole.Carrier.{roll, out}
 use Rattle.chunk_spelling.specs.declared.tags.TypeTag.{TypeTag}
@@ -17,7 +17,7 @@ use Rattle.chunk_spelling.specs.Steps.{step}
 use Rattle.chunk_spelling.specs.Scan.{Scan, table_field, tag_of}
 use Rattle.chunk_spelling.specs.Parts.{Part, Core, Parts, PartValues, items_of_parts, bytes_of_parts, FormFits}
 use Rattle.chunk_spelling.specs.Types.{type_bytes, type_bytes_level, type_tag_at, type_forms, type_of_parts, type_parts, no_type, type_from, type_within, type_core, type_part}
-use Rattle.chunk_spelling.proofs.Took.{Took, Took-as}
+use Rattle.chunk_spelling.proofs.Took.{Took}
 use Rattle.std.proofs.lemmas.Bool.{ltb-true, lt-ltb}
 use Rattle.chunk_spelling.proofs.FieldLaws.{allowed_ok, allowed_is}
 use Rattle.chunk_spelling.proofs.LeafLaws.{Table, table_takes, table_again}

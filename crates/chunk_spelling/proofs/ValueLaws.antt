@@ -1,24 +1,21 @@
-use Rattle.std.proofs.Common.{◌≡◌, ℕ, zero, suc, ◌+◌, ◌-◌, ◌<◌, ◌≤◌, List, [], ◌∷◌, ◌++◌, length, Bool, true, false, Option, Some, None, Result, Ok, Err, refl, sym, ◌∙◌, ap, subst, arith, append-nil, sum_by, append_assoc}
-use Rattle.std.specs.Prelude.{map, nat_lt, nat_le, IsTrue, ◌||◌}
+use Rattle.std.proofs.Common.{◌≡◌, ℕ, zero, suc, ◌-◌, ◌<◌, List, [], ◌∷◌, ◌++◌, length, Bool, Some, Ok, refl, sym, ◌∙◌, ap, subst, arith, append-nil}
+use Rattle.std.specs.Prelude.{IsTrue}
 use Rattle.std.specs.List.{flat_map}
-use Rattle.std.specs.Int.{w8, w16, w32, w64, to_be_bytes, cast_unsigned}
+use Rattle.std.specs.Int.{w16, w32, w64, to_be_bytes, cast_unsigned}
 use Rattle.std.proofs.lemmas.List.{length-map}
-use Rattle.std.proofs.lemmas.List.Sums.{sum_by-cons}
-use Rattle.std.proofs.lemmas.Bool.{ltb-true, lt-ltb, leb-true, le-leb}
+use Rattle.std.proofs.lemmas.Bool.{ltb-true}
 use Rattle.wire_bytes.specs.Fields.{IsBytes}
 use Rattle.plan_items.specs.Reading.{◌>>=◌}
-use Rattle.plan_items.proofs.Binds.{ok_inj, some_inj, bind_ok, bind_is}
-use Rattle.plan_items.proofs.Agendas.{Goes, chain, one_step, making_goes_on, idle}
+use Rattle.plan_items.proofs.Binds.{bind_ok, bind_is}
+use Rattle.plan_items.proofs.Agendas.{Goes, chain, one_step}
 use Rattle.plan_base.specs.declared.limit.Limit.{Limit}
 use denote.Hole.Carrier.{roll, out}
-use Rattle.chunk_spelling.specs.declared.fault.SpellFault.{SpellFault}
-use Rattle.chunk_spelling.specs.declared.fault.SpellFault.TheVariants.{OverLimit}
 use Rattle.chunk_spelling.specs.Steps.{step, clause_items}
-use Rattle.chunk_spelling.proofs.Took.{Took, Took-bytes, Took-none, Took-then, Took-first, Took-second, Took-as, between, scan_is}
-use Rattle.chunk_spelling.proofs.FieldLaws.{byte_takes, byte_again, known_ok, known_is, allowed_ok, allowed_is}
-use Rattle.chunk_spelling.proofs.LeafLaws.{Table, table_takes, table_again, flag_table, flag_lawful, int_lawful, word_lawful, char_lawful, text_lawful, blob_lawful, name_lawful, op_lawful, part_number_lawful}
-use Rattle.chunk_spelling.proofs.PartLaws.{Lawful, Taken, AllLawful, Tag, FormIs, reads_takes, reads_again, reads_go, count_takes, count_again, several_lawful, list_lawful, formed_lawful, joined_lawful, opens}
-use Rattle.chunk_spelling.proofs.TypeLaws.{type_lawful, flat_map-map, no_sum, flat_same}
+use Rattle.chunk_spelling.proofs.Took.{Took, Took-as, between}
+use Rattle.chunk_spelling.proofs.FieldLaws.{allowed_ok, allowed_is}
+use Rattle.chunk_spelling.proofs.LeafLaws.{Table, table_takes, table_again, flag_lawful, int_lawful, word_lawful, char_lawful, text_lawful, blob_lawful, name_lawful}
+use Rattle.chunk_spelling.proofs.PartLaws.{Lawful, Taken, AllLawful, Tag, FormIs, reads_takes, reads_again, reads_go, several_lawful, list_lawful, formed_lawful, opens}
+use Rattle.chunk_spelling.proofs.TypeLaws.{type_lawful, flat_map-map, no_sum}
 use Rattle.plan_base.specs.declared.tree.Value.{Value, Value-F, out-Value, roll-Value, roll-out-Value, map-Value, fold_out-Value}
 use Rattle.plan_base.specs.declared.tree.Value.TheVariants as value
 use Rattle.plan_base.specs.declared.tree.Chunk.{Chunk, fold-Chunk, fold_out-Chunk}
@@ -26,7 +23,7 @@ use Rattle.chunk_spelling.specs.declared.tags.ValueTag.{ValueTag}
 use Rattle.chunk_spelling.specs.declared.tags.TheConstants.{VALUE_TAGS}
 use Rattle.chunk_spelling.specs.Items.{ChunkItem, a_value, a_chunk, weight_end}
 use Rattle.chunk_spelling.specs.Scan.{Scan, Reader, table_field, tag_of, allowed_or_fault}
-use Rattle.chunk_spelling.specs.Parts.{Part, Core, Parts, PartValues, AllFit, reads, items_of_parts, bytes_of_parts, nodes_of_parts, FormFits, several, list_of, tagged_at}
+use Rattle.chunk_spelling.specs.Parts.{Part, Core, Parts, PartValues, AllFit, reads, items_of_parts, bytes_of_parts, nodes_of_parts, FormFits, several, list_of}
 use Rattle.chunk_spelling.specs.Fields.{flag_byte, sized_bytes, name_bytes, name_part}
 use Rattle.chunk_spelling.specs.Types.{type_bytes, type_part}
 use Rattle.chunk_spelling.specs.Programs.{program_bytes, program_part}

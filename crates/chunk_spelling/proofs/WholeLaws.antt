@@ -1,5 +1,4 @@
-use Rattle.std.proofs.Common.{◌≡◌, ℕ, ◌+◌, ◌<◌, ◌≤◌, ◌⊎◌, inl, inr, List, [], ◌∷◌, ◌++◌, length, Result, Ok, Err, refl, sym, ◌∙◌, ap, subst, arith, take, length-append}
-use Rattle.std.specs.Prelude.{MatchResult}
+use Rattle.std.proofs.Common.{◌≡◌, ℕ, ◌⊎◌, inl, inr, List, [], ◌∷◌, ◌++◌, length, Result, Ok, Err, refl, sym, ◌∙◌, ap, arith}
 use Rattle.wire_bytes.specs.Fields.{Front, IsBytes}
 use Rattle.plan_items.specs.Agenda.{FirstFault}
 use Rattle.plan_items.proofs.Binds.{ok_inj}
@@ -11,7 +10,6 @@ use Rattle.chunk_spelling.specs.Parts.{Part}
 use Rattle.chunk_spelling.specs.Steps.{step}
 use Rattle.chunk_spelling.specs.Spelling.{Spells, SpelledAt, from_front, FirstFaultAt}
 use Rattle.chunk_spelling.proofs.Took.{Took}
-use Rattle.chunk_spelling.proofs.FieldLaws.{take-front, drop-front}
 use Rattle.chunk_spelling.proofs.PartLaws.{Lawful, Taken}
 
 module _ {A : Type 0} (p : Part A) (l : Lawful p) (no_nodes : (x : A) → p.nodes x ≡ 0) where

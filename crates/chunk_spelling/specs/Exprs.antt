@@ -1,14 +1,13 @@
 -- How an expression is spelled: its tag, and its fields and parts in order.
-use Rattle.std.specs.Prelude.{◌≡◌, ℕ, zero, suc, ◌+◌, ◌<◌, ◌≤◌, List, [], ◌∷◌, ◌++◌, length, Bool, true, false, Option, Some, None, Result, Ok, Err, nat_lt, sum_by, ◌||◌, IsTrue}
+use Rattle.std.specs.Prelude.{ℕ, zero, suc, ◌+◌, ◌<◌, ◌≤◌, List, [], ◌∷◌, ◌++◌, length, Bool, true, false, Option, Some, None, Ok, Err, nat_lt, sum_by, ◌||◌, IsTrue}
 use Rattle.std.specs.List.{flat_map}
-use Rattle.std.specs.Int.{w8, w32, w64, to_be_bytes, cast_unsigned}
+use Rattle.std.specs.Int.{w32, w64, to_be_bytes, cast_unsigned}
 use Rattle.plan_items.specs.Reading.{◌>>=◌}
 use Rattle.plan_base.specs.Sizes.{expr_nodes, clause_nodes}
 use Rattle.plan_base.specs.declared.limit.Limit.{Limit}
 use Rattle.plan_base.specs.declared.tree.Expr.{Expr, Expr-F, fold-Expr, out-Expr}
 use Rattle.plan_base.specs.declared.tree.Expr.TheVariants as expr
 use Rattle.plan_base.specs.declared.tree.Clause.{Clause, Clause-F}
-use Rattle.chunk_spelling.specs.declared.fault.SpellFault.{SpellFault}
 use Rattle.chunk_spelling.specs.declared.fault.SpellFault.TheVariants.{BadTag, OverLimit}
 use Rattle.chunk_spelling.specs.declared.tags.ExprTag.{ExprTag}
 use Rattle.chunk_spelling.specs.declared.tags.TheConstants.{EXPR_TAGS}

@@ -1,5 +1,5 @@
 -- What can be written: each count and length fits its field, and no type is missing.
-use Rattle.std.specs.Prelude.{ℕ, Bool, true, false, ◌&&◌, List, length, Option, Some, None, nat_lt}
+use Rattle.std.specs.Prelude.{Bool, true, false, ◌&&◌, List, length, Some, None, nat_lt}
 use Rattle.std.specs.List.{list_all}
 use Rattle.plan_base.specs.declared.tree.Ty.{Ty, Ty-F, fold-Ty}
 use Rattle.plan_base.specs.declared.tree.Expr.{Expr, Expr-F, fold-Expr}

@@ -1,10 +1,9 @@
 -- The parts of a form: what stands in its spelling behind its tag, one after another.
-use Rattle.std.specs.Prelude.{◌≡◌, ℕ, ◌+◌, ◌≤◌, ◌<◌, ◌^◌, List, [], ◌∷◌, ◌++◌, length, Bool, Option, Some, None, Result, Ok, Err, sum_by, ◌≤ℤ◌, ℤ, FitsSigned}
+use Rattle.std.specs.Prelude.{ℕ, ◌+◌, ◌≤◌, ◌<◌, ◌^◌, List, [], ◌∷◌, ◌++◌, length, Option, Some, None, Ok, sum_by}
 use Rattle.std.specs.List.{flat_map}
-use Rattle.std.specs.Int.{w8, w16, w32, w64, to_be_bytes, cast_unsigned}
+use Rattle.std.specs.Int.{w16, to_be_bytes}
 use Rattle.plan_items.specs.Reading.{◌>>=◌, many}
 use Rattle.plan_base.specs.declared.limit.Limit.{Limit}
-use Rattle.chunk_spelling.specs.declared.fault.SpellFault.{SpellFault}
 use Rattle.chunk_spelling.specs.Items.{ChunkItem, counted, listed}
 use Rattle.chunk_spelling.specs.Scan.{Scan, Reader, number_field, count_field}
 

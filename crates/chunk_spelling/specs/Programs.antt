@@ -1,5 +1,5 @@
 -- How a program is spelled: services, exceptions and functions, each list with its count.
-use Rattle.std.specs.Prelude.{◌≡◌, ℕ, ◌+◌, ◌-◌, ◌≤◌, List, [], ◌∷◌, ◌++◌, length, Result, Ok, Err, nat_le, sum_by}
+use Rattle.std.specs.Prelude.{ℕ, ◌-◌, ◌≤◌, List, ◌∷◌, ◌++◌, length, Result, nat_le, sum_by}
 use Rattle.std.specs.List.{flat_map}
 use Rattle.plan_items.specs.Reading.{◌>>=◌}
 use Rattle.plan_base.specs.Sizes.{expr_nodes}

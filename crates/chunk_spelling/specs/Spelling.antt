@@ -5,7 +5,6 @@ use Rattle.plan_items.specs.Agenda.{FirstFault}
 use Rattle.plan_base.specs.declared.tree.Ty.{Ty}
 use Rattle.plan_base.specs.declared.tree.Value.{Value}
 use Rattle.plan_base.specs.declared.tree.Chunk.{Chunk}
-use Rattle.plan_base.specs.declared.tree.Program.{Program}
 use Rattle.chunk_spelling.specs.declared.fault.SpellFault.{SpellFault}
 use Rattle.chunk_spelling.specs.Items.{ChunkItem}
 use Rattle.chunk_spelling.specs.Scan.{Scan}

@@ -1,5 +1,5 @@
 -- The agenda of a reading, and its first fault.
-use Rattle.std.specs.Prelude.{◌≡◌, ℕ, zero, suc, List, [], ◌∷◌, Bool, Result, Ok, Err}
+use Rattle.std.specs.Prelude.{ℕ, zero, suc, List, ◌∷◌, Result, Ok}
 use Rattle.std.specs.Int.{w16, w32}
 use Rattle.plan_items.specs.Reading.{◌>>=◌}
 use Rattle.plan_items.specs.Agenda.{times, FirstFault}

@@ -1,11 +1,10 @@
 -- How a type is spelled: its tag, and a list's element type or a tuple's count and parts.
-use Rattle.std.specs.Prelude.{◌≡◌, ℕ, zero, suc, ◌+◌, ◌<◌, List, [], ◌∷◌, ◌++◌, length, Bool, Option, Some, None, Result, Ok, Err, nat_lt}
+use Rattle.std.specs.Prelude.{ℕ, zero, suc, ◌<◌, List, [], ◌∷◌, length, Bool, Option, Some, Err, nat_lt}
 use Rattle.std.specs.List.{flat_map}
 use Rattle.plan_items.specs.Reading.{◌>>=◌}
 use Rattle.plan_base.specs.declared.limit.Limit.{Limit}
 use Rattle.plan_base.specs.declared.tree.Ty.{Ty, Ty-F, fold-Ty, out-Ty}
 use Rattle.plan_base.specs.declared.tree.Ty.TheVariants as ty
-use Rattle.chunk_spelling.specs.declared.fault.SpellFault.{SpellFault}
 use Rattle.chunk_spelling.specs.declared.fault.SpellFault.TheVariants.{OverLimit}
 use Rattle.chunk_spelling.specs.declared.tags.TypeTag.{TypeTag}
 use Rattle.chunk_spelling.specs.declared.tags.TheConstants.{TYPE_TAGS}

@@ -1,5 +1,5 @@
 -- A message that a file names keeps its rules, and each file has one answer.
-use Rattle.std.proofs.Common.{◌≡◌, ◌⊎◌, ℕ, ◌≤◌, List, [], length, Result, Err, refl, arith}
+use Rattle.std.proofs.Common.{◌⊎◌, ℕ, ◌≤◌, List, Result, Err, arith}
 use Rattle.std.specs.Prelude.{IfOk}
 use lib.Chars.{codes}
 use Rattle.frag_chunks.specs.Parts.{IsMessage}

@@ -1,5 +1,5 @@
 -- Turns of a visit: what its innermost activation does is what the stack does.
-use Rattle.std.proofs.Common.{◌≡◌, ℕ, ◌-◌, true, false, slice_get, List, [], ◌∷◌, ◌++◌, Option, Some, None, IsSome, refl}
+use Rattle.std.proofs.Common.{◌≡◌, ℕ, slice_get, List, [], ◌∷◌, ◌++◌, Option, Some, None, IsSome, refl}
 use Rattle.std.proofs.lemmas.Bool.{false≢true}
 use Rattle.plan_base.specs.declared.tree.Exn.{Exn}
 use Rattle.plan_base.specs.declared.tree.Expr.{Expr-F, out-Expr}

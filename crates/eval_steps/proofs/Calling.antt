@@ -1,5 +1,5 @@
 -- Calls: primitives, declared services and earlier functions.
-use Rattle.std.proofs.Common.{◌≡◌, ◌≢◌, ℕ, ◌<◌, ◌≤◌, zero, suc, arith, take, drop, List, [], ◌∷◌, length, Some, None, Err, refl, sym, ◌∙◌, ap}
+use Rattle.std.proofs.Common.{◌≡◌, ◌≢◌, ℕ, ◌<◌, ◌≤◌, zero, suc, arith, take, drop, List, [], ◌∷◌, length, Some, None, Err, refl, ap}
 use Rattle.plan_base.specs.declared.name.Name.{Name}
 use Rattle.plan_base.specs.declared.prim.Primitive.{Primitive}
 use Rattle.plan_base.specs.declared.tree.Svc.{Svc}

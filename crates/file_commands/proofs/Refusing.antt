@@ -1,12 +1,10 @@
 -- Refusals of what bytes say, by cases of what they hold.
-use Rattle.std.proofs.Common.{◌≡◌, ◌⊎◌, inl, inr, ℕ, List, Result, Ok, Err, refl, sym, ap, ◌∙◌, subst}
-use Rattle.hex.specs.declared.error.FromHexError.{FromHexError}
+use Rattle.std.proofs.Common.{◌≡◌, ◌⊎◌, inl, inr, ℕ, List, Result, Err, refl, sym, ap, ◌∙◌, subst}
 use Rattle.line_files.specs.declared.fault.LineFault.{LineFault}
 use Rattle.line_files.specs.declared.fault.LineFault.TheVariants as faults
 use Rattle.program_text.specs.declared.fault.TextFault.{TextFault}
 use Rattle.program_text.specs.declared.fault.TextFault.TheVariants as texts
 use Rattle.program_text.specs.Reasons.{fault_byte}
-use Rattle.packet_frame.specs.Decoding.{frame_of}
 use Rattle.program_text.specs.Texts.{program_of}
 use Rattle.file_faults.specs.ProgramRefusals.{HoldsNoMemory}
 use Rattle.file_faults.proofs.ProgramTexts.{text_own}
@@ -15,7 +13,7 @@ use Rattle.call_causes.specs.Causes.{cause_of, text_cause}
 use Rattle.call_causes.specs.declared.status.Refusal.TheVariants.{Line, At}
 use Rattle.call_causes.specs.declared.status.Cause.{Cause}
 use Rattle.call_causes.specs.declared.status.Cause.TheVariants.{Done, Usage, Refused, ReadFault, WriteFault, LinkFault, SpawnFault, NoMemory, NodesFailed}
-use Rattle.file_commands.specs.Said.{Said, nothing, outside, says, said_by}
+use Rattle.file_commands.specs.Said.{Said, outside, said_by}
 use Rattle.file_commands.specs.Takes.{Refuses}
 use Rattle.file_commands.specs.Checks.{sizes_of, program_said}
 use Rattle.file_commands.specs.Shows.{decoded_said}

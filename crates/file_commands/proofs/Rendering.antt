@@ -1,5 +1,5 @@
 -- From what was read of a file to what a command made of it.
-use Rattle.std.proofs.Common.{◌≡◌, ℕ, List, Ok, Err, refl, sym, subst, inl, inr, ◌⊎◌}
+use Rattle.std.proofs.Common.{◌≡◌, ℕ, List, Ok, Err, refl, sym, subst, inl, inr}
 use Rattle.node_io.specs.FileStates.{FilesState}
 use Rattle.node_io.specs.Sinks.{SinkState}
 use Rattle.call_causes.specs.declared.status.Cause.{Cause}

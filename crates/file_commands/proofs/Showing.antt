@@ -1,5 +1,5 @@
 -- The hex of a frame says what the frame says to `show`, and nothing else says anything.
-use Rattle.std.proofs.Common.{◌≡◌, ℕ, Bool, true, false, nat_lt, List, length, Option, Some, None, Result, Ok, Err, refl, sym, ap, ◌∙◌, subst}
+use Rattle.std.proofs.Common.{◌≡◌, ℕ, Bool, true, false, nat_lt, List, length, Option, Some, None, Result, Ok, Err, refl, ap, ◌∙◌}
 use Rattle.std.specs.Prelude.{if◌then◌else◌}
 use Rattle.hex.specs.Hex.{decode_of}
 use Rattle.hex.specs.declared.error.FromHexError.{FromHexError}
@@ -12,7 +12,7 @@ use Rattle.frame_text.specs.Frames.{frame_text}
 use Rattle.packet_frame.specs.Decoding.{read_by}
 use Rattle.packet_frame.proofs.Versions.{accepted_by, found_by}
 use Rattle.call_causes.specs.declared.status.Refusal.TheVariants.{TooLong}
-use Rattle.file_commands.specs.Said.{Said, nothing, outside, says, said_at, IsSaid}
+use Rattle.file_commands.specs.Said.{Said, outside, says, said_at, IsSaid}
 use Rattle.file_commands.specs.Shows.{frame_limit, without_feed, version_shown, bytes_said, framed_said, decoded_said, frame_said, show_said, HoldsFrame}
 use Rattle.file_commands.proofs.ShowLemmas.{short_hex}
 

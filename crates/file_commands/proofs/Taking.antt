@@ -1,11 +1,11 @@
 -- From the bytes that were read to the value that they say.
-use Rattle.std.proofs.Common.{◌≡◌, ℕ, List, length, Option, Some, None, Result, Ok, Err, Bool, true, false, nat_lt, if◌then◌else◌, refl, ap, ◌∙◌}
+use Rattle.std.proofs.Common.{◌≡◌, ℕ, List, length, Option, Some, None, Result, Ok, Err, Bool, true, false, nat_lt, if◌then◌else◌, ap, ◌∙◌}
 use Rattle.node_io.specs.FileMaps.{file_at}
 use Rattle.node_io.specs.FileStates.{FilesState}
 use Rattle.call_causes.specs.declared.status.Refusal.{Refusal}
 use Rattle.call_causes.specs.declared.status.Cause.{Cause}
 use Rattle.call_causes.specs.declared.status.Cause.TheVariants.{Done, Usage, Refused, ReadFault, WriteFault, LinkFault, SpawnFault, NoMemory, NodesFailed}
-use Rattle.file_commands.specs.Said.{Said, nothing, outside, says, said_at, said_in, all_of}
+use Rattle.file_commands.specs.Said.{Said, outside, says, said_at, said_in, all_of}
 use Rattle.file_commands.specs.Takes.{Refuses, Reads, Takes}
 
 within_says : {A : Type 0} (long : Bool) (read : List ℕ → Said A) (bytes taken : List ℕ) (t : Refusal) → (if long then outside t else says bytes) ≡ says taken

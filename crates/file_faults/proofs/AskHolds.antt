@@ -1,6 +1,5 @@
 -- A request is refused for no `NoMemory`.
-use Rattle.std.proofs.Common.{◌≡◌, ℕ, ◌+◌, Bool, true, false, cond, not, List, [], ◌∷◌, ◌++◌, length, Option, Some, None, Result, Ok, Err, refl, ap, subst}
-use Rattle.std.specs.Prelude.{nat_le, nat_lt, ◌==◌}
+use Rattle.std.proofs.Common.{◌≡◌, ℕ, List, Option, Some, None, Err}
 use Rattle.file_faults.proofs.FileHolds.{OnRefusal, either_refuses, done_refuses, none_refuses, at_line_refuses, file_holds}
 use Rattle.file_faults.proofs.LineHolds.{Holds, then_holds, done_holds, none_holds, word_at_holds, end_at_holds, rest_at_holds, program_in_holds, call_at_holds}
 use Rattle.file_faults.proofs.NodeHolds.{behind_word_holds, last_number_holds, header_holds, usual_holds}

@@ -1,6 +1,5 @@
 -- A configuration is refused for no `NoMemory`.
-use Rattle.std.proofs.Common.{◌≡◌, ℕ, ◌+◌, Bool, true, false, cond, not, List, [], ◌∷◌, ◌++◌, length, Option, Some, None, Result, Ok, Err, refl, ap, subst}
-use Rattle.std.specs.Prelude.{nat_le, nat_lt, ◌==◌}
+use Rattle.std.proofs.Common.{◌≡◌, ℕ, not, List, [], ◌∷◌, ◌++◌, Some, Err}
 use Rattle.file_faults.proofs.FileHolds.{OnRefusal, version_holds, either_refuses, done_refuses, none_refuses, at_line_refuses, file_holds}
 use Rattle.file_faults.proofs.LineHolds.{Holds, then_holds, done_holds, allowed_holds, ok_or_holds, word_at_holds, end_at_holds, number_at_holds, package_at_holds, file_name_at_holds, program_in_holds, weighed_holds, injection_at_holds}
 use Rattle.file_faults.proofs.NodeHolds.{behind_word_holds, last_number_holds, host_line_holds, hosts_line_holds, neighbour_at_holds, usual_holds}

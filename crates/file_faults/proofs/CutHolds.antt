@@ -1,5 +1,5 @@
 -- A message to be cut is refused for no `NoMemory`.
-use Rattle.std.proofs.Common.{◌≡◌, ℕ, List, Result, Ok, Err}
+use Rattle.std.proofs.Common.{◌≡◌, ℕ, List, Err}
 use Rattle.file_faults.proofs.FileHolds.{OnRefusal, done_refuses, none_refuses, file_holds}
 use Rattle.file_faults.proofs.LineHolds.{Holds, then_holds, done_holds, none_holds, end_at_holds, number_at_holds, hex_at_holds}
 use Rattle.file_faults.proofs.NodeHolds.{behind_word_holds, header_holds, usual_holds}

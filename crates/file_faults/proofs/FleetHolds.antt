@@ -1,6 +1,6 @@
 -- A fleet is refused for no `NoMemory`.
-use Rattle.std.proofs.Common.{◌≡◌, ℕ, ◌+◌, Bool, true, false, cond, not, List, [], ◌∷◌, ◌++◌, length, Option, Some, None, Result, Ok, Err, refl, ap, subst}
-use Rattle.std.specs.Prelude.{nat_le, nat_lt, ◌==◌}
+use Rattle.std.proofs.Common.{◌≡◌, ℕ, Bool, true, false, List, [], ◌∷◌, ◌++◌, length, Err}
+use Rattle.std.specs.Prelude.{nat_lt}
 use Rattle.file_faults.proofs.FileHolds.{OnRefusal, done_refuses, none_refuses, file_holds}
 use Rattle.file_faults.proofs.LineHolds.{Holds, then_holds, done_holds, allowed_holds, ok_or_holds, word_at_holds, end_at_holds, number_at_holds, file_name_at_holds}
 use Rattle.file_faults.proofs.NodeHolds.{last_number_holds, header_holds, usual_holds}

@@ -1,6 +1,6 @@
 -- What stands in a line is refused for no `NoMemory`.
 use Rattle.std.proofs.Common.{◌≡◌, ℕ, ◌+◌, Bool, true, false, cond, not, List, [], ◌∷◌, ◌++◌, length, Option, Some, None, Result, Ok, Err, refl, ap, subst}
-use Rattle.std.specs.Prelude.{nat_le, nat_lt, ◌==◌}
+use Rattle.std.specs.Prelude.{nat_le, nat_lt}
 use Rattle.chunk_types.specs.Chunks.{refusal_of}
 use Rattle.file_faults.specs.Refusals.{ReasonHolds}
 use Rattle.hex.specs.Hex.{decode_of}

@@ -1,6 +1,6 @@
 -- A log is refused for no `NoMemory`.
-use Rattle.std.proofs.Common.{◌≡◌, ℕ, ◌+◌, Bool, true, false, cond, not, List, [], ◌∷◌, ◌++◌, length, Option, Some, None, Result, Ok, Err, refl, ap, subst}
-use Rattle.std.specs.Prelude.{nat_le, nat_lt, ◌==◌}
+use Rattle.std.proofs.Common.{◌≡◌, ℕ, Bool, true, false, List, [], ◌∷◌, ◌++◌, length, Err}
+use Rattle.std.specs.Prelude.{nat_lt}
 use Rattle.file_faults.proofs.FileHolds.{OnRefusal, version_holds, done_refuses, none_refuses, file_holds}
 use Rattle.file_faults.proofs.LineHolds.{Holds, then_holds, done_holds, allowed_holds, ok_or_holds, word_at_holds, end_at_holds, number_at_holds, hex_at_holds, package_at_holds, handler_at_holds}
 use Rattle.file_faults.proofs.NodeHolds.{behind_word_holds, last_number_holds, host_line_holds, hosts_line_holds, neighbour_at_holds, chunk_at_holds, usual_holds}

@@ -1,6 +1,6 @@
 -- The lines that files of nodes share are refused for no `NoMemory`.
-use Rattle.std.proofs.Common.{◌≡◌, ℕ, ◌+◌, Bool, true, false, cond, not, List, [], ◌∷◌, ◌++◌, length, Option, Some, None, Result, Ok, Err, refl, ap, subst}
-use Rattle.std.specs.Prelude.{nat_le, nat_lt, ◌==◌}
+use Rattle.std.proofs.Common.{ℕ, not, List, Result}
+use Rattle.std.specs.Prelude.{◌==◌}
 use Rattle.file_faults.proofs.FileHolds.{OnRefusal, either_refuses, done_refuses, none_refuses, at_line_refuses}
 use Rattle.file_faults.proofs.LineHolds.{Holds, then_holds, done_holds, allowed_holds, ok_or_holds, word_at_holds, end_at_holds, number_at_holds, hex_at_holds, hosts_with_holds}
 use Rattle.line_files.specs.Files.{is_skipped}

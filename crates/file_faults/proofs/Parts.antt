@@ -1,5 +1,5 @@
 -- No step of the agenda of bytes refuses by running out of memory.
-use Rattle.std.proofs.Common.{◌≡◌, ◌≢◌, ℕ, ◌+◌, ◌-◌, Bool, true, false, ◌||◌, List, [], ◌∷◌, Option, Some, None, Result, Ok, Err, nat_lt, subst}
+use Rattle.std.proofs.Common.{◌≡◌, ◌≢◌, ℕ, Bool, true, false, ◌||◌, List, Option, Some, None, Result, Ok, Err, nat_lt, subst}
 use Rattle.std.specs.Prelude.{nat_le}
 use Rattle.std.specs.Int.{Width, w8, w16, w32}
 use Rattle.std.specs.Str.{is_utf8}
@@ -10,7 +10,7 @@ use Rattle.plan_base.specs.declared.limit.Limit.TheVariants as limits
 use Rattle.plan_base.specs.Words.{is_name}
 use Rattle.wire_bytes.specs.Fields.{Front, bytes_at, number_at, int_at}
 use Rattle.chunk_spelling.specs.declared.fault.SpellFault.{SpellFault}
-use Rattle.chunk_spelling.specs.declared.fault.SpellFault.TheVariants.{Truncated, BadTag, BadName, BadUtf8, OverLimit, NoMemory}
+use Rattle.chunk_spelling.specs.declared.fault.SpellFault.TheVariants.{BadTag, BadName, BadUtf8, OverLimit, NoMemory}
 use Rattle.chunk_spelling.specs.Items.{ChunkItem, a_flag, an_int, a_word, a_char, a_text, a_blob, a_name, an_operator, a_part_number, a_type, an_expr, several_clauses, a_clause, a_parameter, a_service, a_function, a_program, code_end, a_value, a_chunk, weight_end, counted, listed}
 use Rattle.chunk_spelling.specs.Scan.{Scan, whole, number_field, int_field, bytes_field, allowed_or_fault, tag_of, known_tag, table_field, flag_field, is_scalar, char_field, blob_field, text_field, count_field, name_field, operator_field}
 use Rattle.chunk_spelling.specs.Types.{type_tag_at}

@@ -1,5 +1,5 @@
 -- A file of two ends of a port is refused for no `NoMemory`.
-use Rattle.std.proofs.Common.{◌≡◌, ℕ, List, length, Result, Ok, Err}
+use Rattle.std.proofs.Common.{◌≡◌, ℕ, List, length, Err}
 use Rattle.std.specs.Prelude.{nat_lt}
 use Rattle.std.specs.Option.{ok_or}
 use Rattle.file_faults.proofs.FileHolds.{OnRefusal, done_refuses, none_refuses, file_holds}

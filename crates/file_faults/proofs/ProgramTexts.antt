@@ -1,5 +1,5 @@
 -- A text is tokens, then a draft, then a typed program, or is refused where it first isn't.
-use Rattle.std.proofs.Common.{◌≡◌, ◌≤◌, ℕ, List, length, Result, Ok, Err, refl, sym, ap, ◌∙◌, subst, ◌⊎◌, inl, inr}
+use Rattle.std.proofs.Common.{◌≡◌, ◌≤◌, ℕ, List, length, Result, Ok, Err, refl, sym, ap, ◌∙◌, subst, inl, inr}
 use Rattle.std.specs.Prelude.{◌↔◌}
 use Rattle.plan_base.specs.declared.tree.Draft.{Draft}
 use Rattle.plan_base.specs.declared.tree.Program.{Program}
@@ -8,9 +8,7 @@ use Rattle.plan_base.specs.WellFormed.{IsWellFormedProgram}
 use Rattle.typing_rules.specs.TypingOrder.{annotated_program}
 use Rattle.plan_lexer.specs.Scanning.{Toks, Refuses, IsAnswered}
 use Rattle.plan_lexer.specs.declared.token.Token.{Token}
-use Rattle.plan_lexer.specs.declared.fault.LexFault.{LexFault}
 use Rattle.plan_lexer.proofs.LawLemmas.{tokens_or_refusal}
-use Rattle.plan_lexer.proofs.ScanLemmas.{Toks-unique}
 use Rattle.plan_lexer.proofs.RuleLemmas.{tokens_rules}
 use Rattle.plan_grammar.specs.declared.fault.ParseFault.{ParseFault}
 use Rattle.plan_parser.specs.Programs as parsed

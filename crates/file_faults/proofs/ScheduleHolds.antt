@@ -1,6 +1,6 @@
 -- A schedule is refused for no `NoMemory`.
-use Rattle.std.proofs.Common.{◌≡◌, ℕ, ◌+◌, Bool, true, false, cond, not, List, [], ◌∷◌, ◌++◌, length, Option, Some, None, Result, Ok, Err, refl, ap, subst}
-use Rattle.std.specs.Prelude.{nat_le, nat_lt, ◌==◌}
+use Rattle.std.proofs.Common.{◌≡◌, ℕ, true, not, List, [], ◌∷◌, ◌++◌, length, Result, Ok, Err, refl}
+use Rattle.std.specs.Prelude.{nat_lt, ◌==◌}
 use Rattle.file_faults.proofs.FileHolds.{OnRefusal, version_holds, either_refuses, done_refuses, none_refuses, at_line_refuses, file_holds}
 use Rattle.file_faults.proofs.LineHolds.{Holds, then_holds, done_holds, none_holds, allowed_holds, ok_or_holds, word_at_holds, end_at_holds, named_word_holds, number_at_holds, hex_at_holds, packages_at_holds, program_in_holds, weighed_holds, injection_at_holds}
 use Rattle.file_faults.specs.Refusals.{FaultHolds}

@@ -1,5 +1,5 @@
 -- Bytes are a typed frame, or are refused where they first aren't, in either version.
-use Rattle.std.proofs.Common.{◌≡◌, ◌≢◌, ℕ, List, Option, Some, None, Result, Ok, Err, refl, sym, ap, ◌∙◌, subst, ◌⊎◌, inl, inr}
+use Rattle.std.proofs.Common.{◌≡◌, ℕ, List, Option, Some, None, Result, Ok, Err, refl, sym, ap, ◌∙◌, subst, ◌⊎◌, inl, inr}
 use Rattle.std.specs.Prelude.{◌↔◌}
 use Rattle.plan_base.specs.declared.tree.Chunk.{Chunk}
 use Rattle.link_window.specs.declared.window.Version.TheVariants.{Two}

@@ -1,10 +1,8 @@
 -- A request only counts its lines.
-use Rattle.std.proofs.Common.{◌≡◌, ℕ, ◌≤◌, true, List, Option, Some, None, Result, Ok, Err, refl, ap}
+use Rattle.std.proofs.Common.{◌≡◌, ℕ, ◌≤◌, true, List, Option, Some, None, Ok, Err, refl, ap}
 use Rattle.std.specs.Str.{bytes_eq}
 use lib.Chars.{codes}
 use Rattle.plan_base.specs.declared.tree.Program.{Program}
-use Rattle.network_plan.specs.declared.fleet.AskFile.{AskFile}
-use Rattle.line_files.specs.declared.fault.LineReason.{LineReason}
 use Rattle.line_files.specs.declared.fault.LineReason.TheVariants.{BadWord}
 use Rattle.line_files.specs.Counting.{moved_line, moved_by, CountsOnly}
 use Rattle.line_files.specs.Files.{is_skipped}

@@ -1,10 +1,9 @@
 -- A configuration only counts its lines.
-use Rattle.std.proofs.Common.{◌≡◌, ℕ, ◌≤◌, true, not, List, Result, Ok, Err, refl, ap}
+use Rattle.std.proofs.Common.{◌≡◌, ℕ, ◌≤◌, true, List, Ok, refl, ap}
 use Rattle.std.specs.Option.{ok_or}
 use Rattle.std.specs.Str.{bytes_eq}
 use lib.Chars.{codes}
-use Rattle.line_files.specs.declared.fault.LineReason.{LineReason}
-use Rattle.line_files.specs.declared.fault.LineReason.TheVariants.{BadWord, UnknownProgram, TwiceNamed}
+use Rattle.line_files.specs.declared.fault.LineReason.TheVariants.{BadWord, UnknownProgram}
 use Rattle.line_files.specs.Counting.{moved_line, moved_by, CountsOnly}
 use Rattle.line_files.specs.FileNames.{file_name_at}
 use Rattle.line_files.specs.Files.{is_skipped}

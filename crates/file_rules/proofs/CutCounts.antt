@@ -1,5 +1,5 @@
 -- The file of a message to be cut only counts its lines.
-use Rattle.std.proofs.Common.{◌≡◌, ℕ, true, List, Result, Ok, Err, refl}
+use Rattle.std.proofs.Common.{◌≡◌, ℕ, true, List, Ok, Err, refl}
 use Rattle.std.specs.Prelude.{codes}
 use Rattle.line_files.specs.declared.fault.LineReason.TheVariants.{BadWord}
 use Rattle.line_files.specs.Counting.{moved_line, moved_by, CountsOnly}

@@ -1,5 +1,5 @@
 -- Lines of files that go over where one line more stands in front.
-use Rattle.std.proofs.Common.{◌≡◌, ℕ, Bool, true, false, cond, List, Option, Some, None, Result, Ok, Err, refl, sym, ap, ◌∙◌}
+use Rattle.std.proofs.Common.{◌≡◌, ℕ, Bool, true, false, cond, List, Option, Some, None, Result, Ok, Err, refl, ap}
 use Rattle.std.specs.Str.{bytes_eq}
 use Rattle.link_window.specs.declared.window.Version.{Version}
 use Rattle.line_files.specs.declared.fault.LineReason.{LineReason}

@@ -1,5 +1,5 @@
 -- Files that are a header and a list, fleets and audits, only count their lines.
-use Rattle.std.proofs.Common.{◌≡◌, ℕ, Bool, true, false, ltb, List, length, Result, Ok, refl}
+use Rattle.std.proofs.Common.{◌≡◌, ℕ, Bool, true, false, ltb, List, length, Ok, refl}
 use lib.Chars.{codes}
 use Rattle.line_files.specs.Counting.{moved_line, moved_by, CountsOnly}
 use Rattle.line_files.specs.Files.{is_skipped}

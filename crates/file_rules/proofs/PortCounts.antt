@@ -1,5 +1,5 @@
 -- The file of two ends of a port only counts its lines.
-use Rattle.std.proofs.Common.{◌≡◌, ℕ, true, List, Result, Ok, refl}
+use Rattle.std.proofs.Common.{◌≡◌, ℕ, true, List, Ok, refl}
 use lib.Chars.{codes}
 use Rattle.line_files.specs.Counting.{moved_line, moved_by, CountsOnly}
 use Rattle.line_files.specs.Files.{is_skipped}

@@ -1,5 +1,5 @@
 -- What a map finds for each thing that keys name, after a key has a new value.
-use Rattle.std.proofs.Common.{◌≡◌, Bool, true, false, cond, List, Option, Some, refl, sym, ap, ◌∙◌, true≢false}
+use Rattle.std.proofs.Common.{◌≡◌, Bool, true, false, cond, List, Some, refl, sym, ap, ◌∙◌, true≢false}
 use Rattle.std.specs.Map.{lookup, IsKeyTest, AreApart, KeepsOthers}
 
 module _ {K C : Type 0} (view : K → C) (same : C → C → Bool) (is : (a b : C) → same a b ≡ true → a ≡ b) (eq : K → K → Bool) (eq_is : (a b : K) → eq a b ≡ same (view a) (view b)) where

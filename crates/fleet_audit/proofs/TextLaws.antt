@@ -1,7 +1,6 @@
 -- The rows of a ledger, one after the other.
-use Rattle.std.proofs.Common.{◌≡◌, ℕ, ◌+◌, ◌<◌, ◌≤◌, List, [], ◌∷◌, ◌++◌, length, take, get_or, refl, sym, ap, ◌∙◌, append-nil, append_assoc}
+use Rattle.std.proofs.Common.{◌≡◌, ℕ, ◌+◌, ◌<◌, List, [], ◌∷◌, ◌++◌, length, take, get_or, sym, ap, ◌∙◌, append-nil, append_assoc}
 use Rattle.std.proofs.lemmas.Grind.{take_at_read, flat_map-append}
-use Rattle.std.proofs.lemmas.List.{take_all}
 use Rattle.plan_base.specs.declared.ids.Family.{Family}
 use Rattle.bound_ledger.specs.declared.row.Row.{Row}
 use Rattle.fleet_audit.specs.Texts.{row_text, rows_text}

@@ -1,7 +1,7 @@
 -- What is answered of all logs.
-use Rattle.std.proofs.Common.{◌≡◌, ◌≢◌, ◌↔◌, ℕ, ◌+◌, ◌<◌, ◌≤◌, Bool, true, false, cond, List, [], ◌∷◌, ◌++◌, map, length, take, drop, get_or, Option, Some, None, refl, sym, ap, subst, ◌∙◌, arith, append_assoc, append-nil}
-use Rattle.std.specs.Prelude.{◌-◌, sum_by, ◌==◌}
-use Rattle.std.specs.List.{filter, flat_map, AllByRecursion}
+use Rattle.std.proofs.Common.{◌≡◌, ◌≢◌, ◌↔◌, ℕ, ◌+◌, ◌<◌, ◌≤◌, cond, List, [], ◌∷◌, ◌++◌, map, length, take, get_or, Option, Some, None, refl, sym, ap, subst, ◌∙◌, arith, append_assoc, append-nil}
+use Rattle.std.specs.Prelude.{◌-◌, sum_by}
+use Rattle.std.specs.List.{filter}
 use Rattle.std.proofs.lemmas.Grind.{take_at_read, flat_map-append}
 use Rattle.std.proofs.lemmas.List.{take_all, map-append, length-map, length-take-le}
 use Rattle.std.proofs.lemmas.List.Elements.{filter-append}
@@ -25,7 +25,6 @@ use Rattle.ledger_audit.specs.Audits.{Logged, all_accepted, all_sent, misfit, gr
 use Rattle.ledger_audit.specs.Spelling.{Begins, ReadsAgain}
 use Rattle.ledger_audit.proofs.Multisets.{verdict_only, verdict_always}
 use Rattle.ledger_audit.proofs.Balances.{adds_up}
-use Rattle.fleet_audit.specs.declared.book.Book.{Book}
 use Rattle.fleet_audit.specs.declared.judging.Over as code
 use Rattle.fleet_audit.specs.declared.reckoning.Reckoning.{Reckoning}
 use Rattle.fleet_audit.specs.declared.verdict.Verdict.{Verdict}

@@ -1,5 +1,5 @@
 -- What families were granted, paid and left, as the code counts it.
-use Rattle.std.specs.Prelude.{◌≡◌, ℕ, ◌+◌, if◌then◌else◌, List, Option, Some, None, unwrap_or}
+use Rattle.std.specs.Prelude.{◌≡◌, ◌+◌, if◌then◌else◌, List, Option, Some, None, unwrap_or}
 use Rattle.std.specs.Map.{lookup}
 use Rattle.plan_base.specs.declared.ids.Family.{Family}
 use Rattle.node_model.specs.declared.acts.Act.{Act}

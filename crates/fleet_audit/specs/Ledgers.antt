@@ -1,5 +1,5 @@
 -- What the audit of logs answers.
-use Rattle.std.specs.Prelude.{ℕ, ◌+◌, ◌-◌, ◌≤◌, Bool, ◌==◌, List, [], ◌∷◌, ◌++◌, map, Option, Some, None}
+use Rattle.std.specs.Prelude.{◌+◌, ◌-◌, ◌≤◌, Bool, ◌==◌, List, [], map, Option, Some, None}
 use Rattle.std.specs.List.{filter, flat_map}
 use Rattle.plan_base.specs.declared.ids.Host.{Host}
 use Rattle.plan_base.specs.declared.ids.Family.{Family}

@@ -1,5 +1,5 @@
 -- How often frames were sent and accepted, as the code counts them.
-use Rattle.std.specs.Prelude.{◌≡◌, ℕ, ◌+◌, if◌then◌else◌, List, unwrap_or}
+use Rattle.std.specs.Prelude.{◌≡◌, ◌+◌, if◌then◌else◌, List, unwrap_or}
 use Rattle.std.specs.Map.{lookup}
 use Rattle.ledger_audit.specs.Crossings.{Crossing, same_crossing, times}
 use Rattle.fleet_audit.specs.declared.keys.CrossingKey.{CrossingKey}

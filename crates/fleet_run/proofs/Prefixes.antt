@@ -4,7 +4,7 @@ use Rattle.network_plan.specs.declared.fleet.Kid.{Kid}
 use Rattle.node_io.specs.Sinks.{SinkState, Writes, WritesPrefix, FailsIn}
 use Rattle.node_io.specs.Spawners.{SpawnerState}
 use Rattle.node_io.proofs.SinkLaws.{prefix_none, prefix_as, prefix_all, prefix_longer}
-use Rattle.fleet_run.specs.Fleets.{kid_line, fleet_text, fleet_end}
+use Rattle.fleet_run.specs.Fleets.{kid_line, fleet_text}
 use Rattle.fleet_run.specs.Runs.{RunsFleet, FleetResult}
 use Rattle.fleet_run.specs.declared.reports.FleetEnd.{FleetEnd}
 use Rattle.fleet_run.specs.declared.fault.FleetFault.{FleetFault}

@@ -1,5 +1,5 @@
 -- All keys, by the place of one.
-use Rattle.std.proofs.Common.{◌≡◌, ◌≢◌, ℕ, zero, suc, ◌+◌, ◌≤◌, ◌<◌, Bool, true, false, if◌then◌else◌, List, [], ◌∷◌, ◌++◌, length, Option, Some, None, refl, sym, ap, subst, ◌∙◌, arith, ◌⊎◌, inl, inr}
+use Rattle.std.proofs.Common.{◌≡◌, ℕ, zero, suc, ◌≤◌, ◌<◌, Bool, true, false, if◌then◌else◌, List, [], ◌∷◌, ◌++◌, length, Option, Some, None, refl, sym, ap, ◌∙◌, arith, ◌⊎◌, inl, inr}
 use Rattle.std.specs.Prelude.{ℤ, slice_set, get_or, nat_le}
 use Rattle.std.specs.Option.{option_map}
 use Rattle.std.specs.Ordering.{int_eq}
@@ -11,7 +11,6 @@ use Rattle.frag_chunks.specs.declared.holding.Holding.TheVariants as holding
 use Rattle.frag_chunks.specs.declared.holding.Entry.{Entry}
 use Rattle.frag_chunks.specs.Places.{position}
 use Rattle.frag_chunks.specs.Gathers.{Said, is_part, judged_part, judged_among, judged_all, with_part, holding_after, holding_of, with_holding, after}
-use Rattle.frag_chunks.proofs.Keys.{key_is}
 
 none_placed : (o : Option ℕ) (i : ℕ) → option_map (λ j. suc j) o ≡ Some i → (j : ℕ) × (o ≡ Some j) × (i ≡ suc j)
 none_placed None i e = absurd cc

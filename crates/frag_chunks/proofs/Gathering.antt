@@ -1,8 +1,7 @@
 -- Notes in order, seen from one key.
-use Rattle.std.proofs.Common.{◌≡◌, ◌≢◌, ℕ, zero, suc, ◌+◌, ◌≤◌, ◌<◌, Bool, true, false, ◌&&◌, ◌||◌, if◌then◌else◌, List, [], ◌∷◌, ◌++◌, length, Option, Some, None, refl, sym, ap, subst, ◌∙◌, arith, true≢false}
-use Rattle.std.specs.Prelude.{ℤ, pos, nat_eq, nat_le, IfSome, slice_get, slice_set, replicate}
+use Rattle.std.proofs.Common.{◌≡◌, ◌≢◌, ℕ, ◌≤◌, ◌<◌, Bool, true, false, ◌&&◌, ◌||◌, if◌then◌else◌, List, [], ◌∷◌, length, Option, Some, None, refl, sym, ap, subst, ◌∙◌, arith}
+use Rattle.std.specs.Prelude.{ℤ, nat_eq, nat_le, IfSome, slice_get, slice_set}
 use Rattle.std.specs.Ordering.{int_eq}
-use Rattle.std.specs.Str.{bytes_eq}
 use Rattle.std.proofs.lemmas.Slice.Eq.{bytes_eq-Decides}
 use Rattle.std.proofs.lemmas.Bool.Decides.{nat_tests}
 use Rattle.service_api.specs.declared.answer.Note.{Note}
@@ -15,7 +14,7 @@ use Rattle.frag_chunks.specs.Parts.{IsMessage, parts_in, piece_of}
 use Rattle.frag_chunks.specs.Gathers.{Said, said_in, is_part, place_of, judged_piece, judged_in, judged_part, at_place, with_part, holding_of, with_holding, judged_among, judged_all, after, added_or, added_note, gathered_entries}
 use Rattle.frag_chunks.specs.Messages.{said_of, IsPartOf, OnlyParts, gives, was_given}
 use Rattle.frag_chunks.proofs.Pieces.{slots_from, slots_length, slots_same, slots_get, slots_set, slots_none, is_right}
-use Rattle.frag_chunks.proofs.Keys.{key_self, key_is, key_not, own_holding, other_holding, no_fewer}
+use Rattle.frag_chunks.proofs.Keys.{key_self, key_is, own_holding, other_holding, no_fewer}
 
 -- ---- a part of another key
 

@@ -1,6 +1,6 @@
 -- The values of a tuple by their places.
-use Rattle.std.proofs.Common.{◌≡◌, ◌≢◌, ℕ, zero, suc, List, [], ◌∷◌, length, Option, Some, None, refl, sym, ap, ◌∙◌, arith}
-use Rattle.std.specs.Prelude.{ℤ, get_or}
+use Rattle.std.proofs.Common.{◌≡◌, ◌≢◌, List, [], ◌∷◌, length, None, refl, sym, arith}
+use Rattle.std.specs.Prelude.{get_or}
 use Rattle.plan_base.specs.declared.tree.Value.{Value, out-Value}
 use Rattle.frag_chunks.specs.Gathers.{Said, int_in, blob_in, said_with, of_four}
 

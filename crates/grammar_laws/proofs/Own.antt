@@ -1,5 +1,5 @@
 -- No step of an agenda refuses by running out of memory.
-use Rattle.std.proofs.Common.{◌≡◌, ◌≢◌, ℕ, zero, suc, ◌+◌, Bool, true, false, List, [], ◌∷◌, length, nat_lt, Option, Some, None, Result, Ok, Err, subst}
+use Rattle.std.proofs.Common.{◌≡◌, ◌≢◌, ℕ, zero, suc, ◌+◌, Bool, true, false, List, length, nat_lt, Option, Some, None, Ok, Err, subst}
 use Rattle.std.specs.Prelude.{is_some, if◌then◌else◌}
 use Rattle.plan_items.specs.Agenda.{FirstFault, here, later}
 use Rattle.plan_base.specs.declared.limit.Limit.{Limit}

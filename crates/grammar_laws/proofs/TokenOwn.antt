@@ -1,5 +1,5 @@
 -- No reading of a token is refused by running out of memory.
-use Rattle.std.proofs.Common.{◌≡◌, ◌≢◌, ℕ, zero, suc, ◌+◌, ◌-◌, Bool, true, false, cond, List, [], ◌∷◌, ◌++◌, length, get_or, drop, take, Option, Some, None, Result, Ok, Err, nat_lt, ◌==◌, ◌&&◌, pos, neg_ℤ, subst, sym, ap, ◌∙◌, refl}
+use Rattle.std.proofs.Common.{◌≡◌, ◌≢◌, ℕ, ◌+◌, Bool, true, false, List, ◌∷◌, length, get_or, drop, take, Option, Some, None, Result, Ok, Err, nat_lt, ◌==◌, ◌&&◌, subst, sym, ap, ◌∙◌, refl}
 use Rattle.std.specs.Prelude.{if◌then◌else◌}
 use Rattle.std.specs.Char.{is_ascii_digit, is_ascii_alphabetic}
 use Rattle.plan_lexer.specs.Faults.{◌>>=◌}
@@ -8,7 +8,7 @@ use Rattle.plan_lexer.specs.Quoted.{string_at, char_at}
 use Rattle.plan_lexer.specs.Hexed.{blob_at}
 use Rattle.plan_lexer.specs.Gaps.{is_blank, comment_at, gap_at}
 use Rattle.plan_lexer.specs.Tables.{symbol_at}
-use Rattle.plan_lexer.specs.WordTokens.{word_len, word_kind, word_at}
+use Rattle.plan_lexer.specs.WordTokens.{word_len, word_at}
 use Rattle.plan_lexer.specs.Scanning.{int_at, negative_at, host_at, dev_at, part_at, hash_at, symbol_by, signed_at, token_at, move_at, Refuses, here, past}
 use Rattle.plan_lexer.specs.declared.token.Symbol.{Symbol}
 use Rattle.plan_lexer.specs.declared.token.TokenKind.TheVariants as kind

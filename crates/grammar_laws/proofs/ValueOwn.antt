@@ -1,9 +1,7 @@
 -- No first refusal of a value, of arguments or of their text is `NoMemory`.
-use Rattle.std.proofs.Common.{◌≡◌, ◌≢◌, ℕ, zero, suc, ◌+◌, Bool, true, false, List, [], ◌∷◌, length, nat_lt, Option, Some, None, Result, Ok, Err, sym, ◌∙◌}
-use Rattle.std.specs.Prelude.{if◌then◌else◌}
+use Rattle.std.proofs.Common.{◌≡◌, ◌≢◌, ℕ, zero, suc, List, length, nat_lt, Option, Some, None, Result, Err}
 use Rattle.plan_base.specs.declared.limit.Limit.TheVariants as limits
 use Rattle.plan_base.specs.declared.tree.Ty.{Ty}
-use Rattle.plan_base.specs.declared.tree.Value.{Value}
 use Rattle.plan_base.specs.Sizes.{type_depth}
 use Rattle.plan_base.specs.SameTypes.{same_type}
 use Rattle.plan_lexer.specs.Scanning.{Refuses}
@@ -16,7 +14,6 @@ use Rattle.plan_grammar.specs.declared.fault.ParseFault.TheVariants as parsing
 use Rattle.plan_grammar.specs.declared.fault.Wanted.TheVariants as wanted
 use Rattle.plan_grammar.specs.Ahead.{Front, place, behind, next_kind, is_symbol, is_key}
 use Rattle.plan_grammar.specs.Begins.{kind_type, begins_type}
-use Rattle.plan_grammar.specs.Types.{past}
 use Rattle.grammar_laws.specs.Agenda.{StepOf, expected_fault}
 use Rattle.grammar_laws.proofs.Own.{Own, goes_on, expects, expects_at, too_deep, past_own, either, first_own}
 use Rattle.plan_parser.specs.Values.{begins_value, value_of, args_of}

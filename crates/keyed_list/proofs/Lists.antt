@@ -1,10 +1,10 @@
 -- Look-ups by key after a put and a removal, and what these are where the key's place is known.
-use Rattle.std.proofs.Common.{◌≡◌, ◌≢◌, ◌⊎◌, inl, inr, ℕ, zero, suc, ◌+◌, ◌<◌, Bool, true, false, List, [], ◌∷◌, ◌++◌, length, get_or, Option, Some, None, refl, sym, ap, ◌∙◌, subst, arith}
+use Rattle.std.proofs.Common.{◌≡◌, inl, inr, ℕ, zero, suc, ◌<◌, List, [], ◌∷◌, ◌++◌, length, get_or, Some, None, refl, sym, ap, ◌∙◌, subst, arith}
 use Rattle.std.proofs.Math.ListN.{set}
 use Rattle.std.specs.List.{remove}
 use Rattle.plan_items.proofs.Options.{none-some}
-use Rattle.plan_items.specs.Keys.{Key, same_key, first_of_key, put, without, IsUnique}
-use Rattle.keyed_list.proofs.Orders.{same_key_is, same_key_true, same_key_false, same_or_not}
+use Rattle.plan_items.specs.Keys.{Key, first_of_key, put, without, IsUnique}
+use Rattle.keyed_list.proofs.Orders.{same_key_true, same_key_false, same_or_not}
 
 module _ {R : Type 0} (key : R → Key) where
   -- ---- one step, where the first item has the key and where it hasn't

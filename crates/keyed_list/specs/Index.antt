@@ -1,5 +1,5 @@
 -- An index: the places of a list's items in the order of their keys.
-use Rattle.std.specs.Prelude.{◌≡◌, ℕ, ◌+◌, ◌<◌, ◌≤◌, List, [], length, slice_index, slice_index_or, pos, Result, Ok, Err, nat_lt, if◌then◌else◌, ◌-◌}
+use Rattle.std.specs.Prelude.{◌≡◌, ℕ, ◌<◌, ◌≤◌, List, [], length, slice_index, slice_index_or, pos, Result, Ok, Err, nat_lt, if◌then◌else◌, ◌-◌}
 use Rattle.std.specs.declared.cmp.Ordering.TheVariants.{Less}
 use Rattle.plan_items.specs.Keys.{Key}
 use Rattle.keyed_list.specs.Order.{key_cmp}

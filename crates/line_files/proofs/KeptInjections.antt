@@ -1,5 +1,5 @@
 -- What is injected is typed, and its handler may handle.
-use Rattle.std.proofs.Common.{◌≡◌, ℕ, Bool, true, false, cond, not, List, Option, Some, None, Result, Ok, refl, sym, ap, subst, ◌∙◌}
+use Rattle.std.proofs.Common.{◌≡◌, ℕ, Bool, true, false, cond, not, List, Option, Some, None, Result, refl, sym, subst}
 use Rattle.std.specs.Prelude.{is_some}
 use lib.Chars.{codes}
 use Rattle.plan_base.specs.declared.name.Name.{Name}

@@ -1,13 +1,10 @@
 -- The programs of a file are typed, and so are the chunks that are injected.
 use Rattle.std.proofs.Common.{◌≡◌, ℕ, ◌+◌, ◌≤◌, not, leb, List, length, Result, Ok, Err, refl, ap}
-use Rattle.std.specs.Prelude.{IsTrue, is_some}
-use Rattle.std.specs.List.{list_all}
+use Rattle.std.specs.Prelude.{is_some}
 use Rattle.std.proofs.lemmas.Bool.{leb-true}
 use Rattle.plan_base.specs.declared.tree.Chunk.{Chunk}
 use Rattle.plan_base.specs.declared.tree.Program.{Program}
-use Rattle.plan_base.specs.declared.tree.Value.{Value}
 use Rattle.plan_base.specs.Sizes.{chunk_weight}
-use Rattle.plan_base.specs.WellFormed.{well_formed_value, value_has_types}
 use Rattle.plan_types.specs.Kept.{IsChecked}
 use Rattle.chunk_types.specs.Chunks.{refusal_of, IsCheckedChunk}
 use Rattle.program_text.specs.declared.fault.TextFault.{TextFault}

@@ -27,7 +27,7 @@ use Rattle.node_model.proofs.CountLaws.{no_queues_sum, act_sum-nil, act_sum-cons
 use Rattle.node_model.proofs.NodeBalance.{inject_event_balances, stamped_balances, arrive_balances, tick_balances, take_balances}
 use Rattle.node_model.proofs.Staying.{inject_frame, stamped_frame, arrive_frame, tick_frame}
 use Rattle.world_model.specs.declared.lines.Line.{Line}
-use Rattle.world_model.specs.declared.lines.Line.TheVariants.{At, Forged, Wire, Off, Again, Lost, Nothing}
+use Rattle.world_model.specs.declared.lines.Line.TheVariants.{Forged, Wire, Off, Again, Lost, Nothing}
 use Rattle.world_model.specs.declared.lines.LinkEnd.{LinkEnd}
 use Rattle.world_model.specs.declared.lines.Wired.{Wired}
 use Rattle.world_model.specs.declared.lines.Handing.{Handing}
@@ -39,8 +39,8 @@ use Rattle.network_laws.proofs.CountLaws.{line_sum-nil, line_sum-cons, line_sum-
 use Rattle.network_laws.proofs.Places.{first_of_host}
 use Rattle.std.proofs.lemmas.List.Elements.{All-get_or}
 use Rattle.std.proofs.lemmas.Option.{slice_get_within, get_or_from_slice_get}
-use Rattle.std.specs.Prelude.{All, if◌then◌else◌}
-use Rattle.std.proofs.Common.{sym, subst}
+use Rattle.std.specs.Prelude.{if◌then◌else◌}
+use Rattle.std.proofs.Common.{sym}
 
 -- what is counted of what is stale
 abbrev pub stale_count : Bool → ℕ → ℕ

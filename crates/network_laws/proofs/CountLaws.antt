@@ -1,6 +1,6 @@
 -- Laws of the counts of a network.
 use Rattle.std.proofs.Common.{◌≡◌, ℕ, ◌+◌, List, [], ◌∷◌, ◌++◌, refl, sym, ap, ◌∙◌, arith}
-use Rattle.std.specs.Prelude.{map, remove, slice_set, slice_get, Some, Bool, true, false, if◌then◌else◌}
+use Rattle.std.specs.Prelude.{map, remove, slice_set, slice_get, Some}
 use Rattle.std.proofs.lemmas.List.Sums.{sum_by-cons, sum_by-append, sum_by_push, sum_by-set, sum_by-remove}
 use Rattle.std.proofs.lemmas.Option.{slice_get_within, get_or_from_slice_get}
 use Rattle.plan_base.specs.declared.ids.Host.{Host}

@@ -15,18 +15,18 @@ use Rattle.plan_base.specs.declared.tree.Chunk.{Chunk}
 use Rattle.wire_bytes.specs.Fields.{IsBytes}
 use Rattle.packet_frame.specs.declared.frame.PlainStamped.{PlainStamped}
 use Rattle.link_window.specs.declared.window.Version.{Version}
-use Rattle.link_window.specs.declared.window.Version.TheVariants.{One, Two}
+use Rattle.link_window.specs.declared.window.Version.TheVariants.{Two}
 use Rattle.link_window.specs.Seen.{is_fresh}
 use Rattle.network_plan.specs.Rules.{IsLinkDevice, KeepsInjection}
 use Rattle.network_plan.specs.declared.event.WorldEvent.{WorldEvent}
 use Rattle.network_plan.specs.declared.event.WorldEvent.TheVariants.{Inject, Send, Deliver, Repeat, Lose, Tick, Raw}
 use Rattle.node_model.specs.State.{Links, NodeState}
-use Rattle.node_model.specs.Node.{NodeStep, takes_as, inject_step, stamped_step, arrive_step, tick_step, take_step}
+use Rattle.node_model.specs.Node.{NodeStep, inject_step, stamped_step, arrive_step, tick_step, take_step}
 use Rattle.node_model.specs.Fits.{IsMarked, StampedKeeps, NodeFits}
 use Rattle.node_model.proofs.Fitting.{FrameTaken, inject_event_fits, stamped_fits, arrive_fits, tick_fits, take_fits}
 use Rattle.node_model.proofs.Staying.{Stays, inject_stays, stamped_stays, arrive_stays, tick_stays, take_stays}
 use Rattle.node_model.proofs.Windows.{SeenLater, same_later, inject_seen, arrive_later, stamped_later, stamped_taken}
-use Rattle.network_laws.proofs.Places.{SetAt, there, elsewhere, set_at, first_of_host, set_of_host}
+use Rattle.network_laws.proofs.Places.{SetAt, there, elsewhere, set_at, set_of_host}
 use Rattle.network_laws.proofs.Numbers.{numbers_differ}
 use Rattle.world_model.specs.declared.lines.Line.{Line}
 use Rattle.world_model.specs.declared.lines.LinkEnd.{LinkEnd}

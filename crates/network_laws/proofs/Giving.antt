@@ -45,7 +45,6 @@ use Rattle.world_model.specs.Sound.{event_fits, EventsFit}
 use Rattle.network_laws.proofs.CountLaws.{line_sum-nil, line_sum-cons, line_sum-one, line_sum-append, line_sum-at, tally-nil, tally-append, tally-entries, nodes_sum-set, wire_sum-push, wire_sum-remove, wire_sum-set}
 use Rattle.network_laws.proofs.Balance.{opening_frames}
 use Rattle.network_laws.proofs.Handings.{opening_balances}
-use Rattle.network_laws.proofs.Opening.{opening_sound}
 
 module _ (f : Family) where
   unfoldable may_give_all : List NodeState → ℕ

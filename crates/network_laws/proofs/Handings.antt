@@ -1,8 +1,8 @@
 -- What a history tells of handings agrees with the wire, and so what a family left is counted event by event; each run is in balance.
-use Rattle.std.proofs.Common.{◌≡◌, ◌≢◌, ℕ, zero, suc, ◌+◌, ◌<◌, ◌≤◌, Bool, true, false, ◌||◌, cond, List, [], ◌∷◌, ◌++◌, length, refl, sym, ap, ◌∙◌, subst, arith}
-use Rattle.std.specs.Prelude.{map, slice_get, slice_set, remove, nat_lt, ◌==◌, if◌then◌else◌, Option, Some, None, Result, Ok, Err, All}
+use Rattle.std.proofs.Common.{◌≡◌, ◌≢◌, ℕ, zero, suc, ◌+◌, ◌<◌, Bool, true, false, ◌||◌, cond, List, [], ◌∷◌, ◌++◌, length, refl, sym, ap, ◌∙◌, subst, arith}
+use Rattle.std.specs.Prelude.{map, slice_get, slice_set, nat_lt, ◌==◌, Option, Some, None, Result, Ok, Err, All}
 use Rattle.std.specs.List.{list_any}
-use Rattle.std.proofs.lemmas.List.Elements.{All-nil, All-cons, All-head, All-tail, All-push, All-set, All-append, All-weaker, All-get_or}
+use Rattle.std.proofs.lemmas.List.Elements.{All-nil, All-cons, All-head, All-tail, All-push, All-weaker, All-get_or}
 use Rattle.std.proofs.lemmas.Option.{slice_get_within, get_or_from_slice_get}
 use Rattle.std.proofs.lemmas.Bool.Decides.{nat_tests}
 use Rattle.plan_base.specs.declared.ids.Host.{Host}
@@ -26,14 +26,14 @@ use Rattle.node_model.specs.Node.{NodeStep, takes_as, inject_step, stamped_step,
 use Rattle.node_model.specs.Counts.{act_sum, act_stale, frame_live, if_stale, bytes_stale}
 use Rattle.node_model.proofs.NodeBalance.{inject_event_balances, arrive_balances, tick_balances, take_balances}
 use Rattle.world_model.specs.declared.lines.Line.{Line}
-use Rattle.world_model.specs.declared.lines.Line.TheVariants.{At, Forged, Wire, Off, Again, Lost, Nothing}
+use Rattle.world_model.specs.declared.lines.Line.TheVariants.{At, Forged, Wire, Off, Lost, Nothing}
 use Rattle.world_model.specs.declared.lines.LinkEnd.{LinkEnd}
 use Rattle.world_model.specs.declared.lines.Entry.{Entry}
 use Rattle.world_model.specs.declared.lines.Wired.{Wired}
 use Rattle.world_model.specs.declared.lines.Handing.{Handing}
 use Rattle.world_model.specs.declared.lines.Handing.TheVariants.{Taking, Leaving}
 use Rattle.world_model.specs.World.{WorldState, EventResult, nothing, lines_at, step_at, step_place, steps, none_before, forged_frame, forged_lines, forged_at, send_taken, send_at, send_over, send_place, sends, place_of, far_end, wire_place, hand_line, as_handed, wire_after, hand_at, hand_to, hand_frame, hand_place, hands, lose_frame, lose_place, loses, acted_event, happens, entry_at, entries, world_after, history_of, opening}
-use Rattle.world_model.specs.Counts.{line_granted, line_hops, line_evals, line_left, line_sum, tally, granted_sum, hops, evals, left_sum, Past, no_past, was_handed, past_with, past_after, left_from, live, late_frame, late_at, is_late, EventInBalance, LeavesByWire, PastAgrees, Balanced}
+use Rattle.world_model.specs.Counts.{line_granted, line_hops, line_evals, line_left, line_sum, granted_sum, hops, evals, left_sum, Past, no_past, was_handed, past_with, past_after, left_from, live, late_frame, late_at, is_late, EventInBalance, LeavesByWire, PastAgrees, Balanced}
 use Rattle.world_model.specs.Sound.{Rise, number_of, IsSound, event_fits, EventsFit}
 use Rattle.network_laws.proofs.CountLaws.{line_sum-nil, line_sum-cons, line_sum-append, line_sum-at, tally-nil, tally-append, tally-entries}
 use Rattle.network_laws.proofs.Balance.{stale_count, acts_left, event_balances, opening_live}

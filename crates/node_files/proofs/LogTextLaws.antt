@@ -29,7 +29,7 @@ use Rattle.network_plan.specs.declared.node.Log.{Log}
 use Rattle.network_plan.specs.Hosts.{host_of, is_listed}
 use Rattle.network_plan.specs.Rules.{PackagesDiffer, MayName, KeepsInjection, MayArrive}
 use Rattle.network_plan.specs.NodeRules.{Ascend, DevicesAscend, IsNeighbour, first_link, KeepsBoot, KeepsNode, KeepsEntry, KeepsLog}
-use Rattle.line_files.specs.Lines.{lines, words, spaced_words, behind}
+use Rattle.line_files.specs.Lines.{lines, spaced_words, behind}
 use Rattle.line_files.specs.Files.{is_skipped, read_on}
 use Rattle.line_files.specs.Packages.{same_package}
 use Rattle.line_files.specs.HexWords.{within_size, hex_at}

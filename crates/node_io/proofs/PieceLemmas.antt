@@ -1,5 +1,5 @@
 -- Fronts and rests of lists of bytes.
-use Rattle.std.proofs.Common.{◌≡◌, ℕ, ◌+◌, ◌-◌, ◌<◌, ◌≤◌, min, suc, List, [], ◌∷◌, ◌++◌, length, take, drop, refl, sym, ap, ◌∙◌, arith, zero, length-drop}
+use Rattle.std.proofs.Common.{◌≡◌, ℕ, ◌+◌, ◌-◌, ◌≤◌, suc, List, [], ◌∷◌, ◌++◌, length, take, drop, refl, sym, ap, ◌∙◌, arith, zero, length-drop}
 use Rattle.std.proofs.lemmas.List.{take-append-drop, take-append-le, length-take, drop-drop}
 
 -- what is left at a place is what is copied from there, and what is left behind it

@@ -1,5 +1,5 @@
 -- When a call of the outside may fail: a count of faults rises in it.
-use Rattle.std.specs.Prelude.{ℕ, Bool, List, ◌+◌, ◌-◌, ◌^◌, ◌≤◌, ◌==◌, min, IsTrue}
+use Rattle.std.specs.Prelude.{ℕ, List, ◌+◌, ◌-◌, ◌^◌, ◌≤◌, ◌==◌, min, IsTrue}
 use Rattle.std.specs.List.{list_any}
 
 -- a count rose: it is greater now, or stands at its last value

@@ -1,11 +1,10 @@
 -- A step injects a family at most once, where its node may yet give it, and with at most 65,535; and it queues no packet of a family
 -- that it doesn't inject and that doesn't come.
-use Rattle.std.proofs.Common.{◌≡◌, ℕ, zero, suc, ◌+◌, ◌-◌, ◌*◌, ◌<◌, ◌≤◌, Bool, true, false, cond, List, [], ◌∷◌, ◌++◌, refl, sym, ap, ◌∙◌, arith, length}
-use Rattle.std.specs.Prelude.{sum_by, map, slice_set, slice_get, nat_lt, nat_le, ◌==◌, ◌&&◌, Option, Some, None, Result, Ok, Err, All}
+use Rattle.std.proofs.Common.{◌≡◌, ℕ, ◌+◌, ◌-◌, ◌*◌, ◌≤◌, Bool, true, false, cond, List, [], ◌∷◌, ◌++◌, refl, sym, ap, ◌∙◌, arith}
+use Rattle.std.specs.Prelude.{map, slice_get, nat_le, ◌==◌, ◌&&◌, Option, Some, None, Result, Ok, Err, All}
 use Rattle.std.proofs.lemmas.List.Elements.{All-nil, All-cons, All-head, All-tail}
 use Rattle.std.proofs.lemmas.Bool.Decides.{nat_tests}
 use Rattle.plan_base.specs.declared.name.Name.{Name}
-use Rattle.plan_base.specs.declared.ids.Host.{Host}
 use Rattle.plan_base.specs.declared.ids.Dev.{Dev}
 use Rattle.plan_base.specs.declared.ids.Family.{Family}
 use Rattle.plan_base.specs.declared.tree.Chunk.{Chunk}
@@ -36,7 +35,7 @@ use Rattle.node_model.specs.Visits.{visit_at, settled_at}
 use Rattle.spelled_frame.specs.Spelled.{numbered_frame}
 use Rattle.node_model.specs.Node.{NodeStep, stepped_node, queue_room, has_room, lane_room, lane_with, queue_push, drop_act, mark, takes_as, stamped_as, stamped_step, take_first, hop_packet, packet_sending, advert_sending, visit_sends, tick_sends, send_act, send_queues, sends_acts, sends_queues, handled_acts, visit_acts, visit_step, next_serial, injected_packet, inject_step, only_acts, onward, forward_by, forward_step, packet_step, hearing, advert_step, frame_step, arrived_read, arrive_step, next_tick, tick_step, take_from, take_step}
 use Rattle.node_model.specs.Counts.{only, is_family, act_sum, act_granted, act_injections, queues_sum, frame_one, packet_one, taken_sum}
-use Rattle.node_model.proofs.CountLaws.{act_sum-nil, act_sum-cons, act_sum-append, queue_sum-push, queue_sum-cons, queues_sum-set, only-zero}
+use Rattle.node_model.proofs.CountLaws.{act_sum-nil, act_sum-cons, act_sum-append, queue_sum-push, queue_sum-cons, queues_sum-set}
 use Rattle.node_model.proofs.VisitLaws.{settled_keeps}
 use Rattle.node_model.proofs.Staying.{StepStays, StampedStays, visited_stays, stamped_stays, arrive_stays, tick_stays, take_stays}
 

@@ -1,6 +1,6 @@
 -- The hosts of a network, among others and sorted, and a node at the beginning.
-use Rattle.std.proofs.Common.{◌≡◌, ◌<◌, ◌≤◌, ◌^◌, List, [], ◌∷◌, length, refl, ap, arith}
-use Rattle.std.specs.Prelude.{All, map, ◌==◌, ◌||◌}
+use Rattle.std.proofs.Common.{◌≡◌, ◌<◌, ◌^◌, List, [], ◌∷◌, refl, ap, arith}
+use Rattle.std.specs.Prelude.{map, ◌==◌, ◌||◌}
 use Rattle.std.proofs.lemmas.List.Elements.{All-nil}
 use Rattle.plan_base.specs.declared.ids.Host.{Host}
 use Rattle.service_api.specs.Services.{ServiceState}

@@ -1,6 +1,6 @@
 -- The numbers of a device's frames ascend and are below its next one, behind those that it sent before.
-use Rattle.std.proofs.Common.{◌≡◌, ℕ, zero, suc, ◌+◌, ◌<◌, Bool, true, false, cond, List, [], ◌∷◌, ◌++◌, refl, sym, ap, ◌∙◌, subst, append_assoc, length, arith}
-use Rattle.std.specs.Prelude.{slice_set, slice_get, nat_lt, ◌==◌, Option, Some, None, Result, Ok, Err}
+use Rattle.std.proofs.Common.{◌≡◌, ℕ, zero, suc, ◌+◌, ◌<◌, Bool, true, false, cond, List, [], ◌∷◌, ◌++◌, refl, sym, ap, ◌∙◌, subst, append_assoc, arith}
+use Rattle.std.specs.Prelude.{slice_set, slice_get, ◌==◌, Option, Some, None, Result, Ok, Err}
 use Rattle.std.specs.List.{All}
 use Rattle.std.proofs.lemmas.List.{append-nil}
 use Rattle.std.proofs.lemmas.List.Elements.{All-nil, All-head, All-tail, All-push, All-weaker}
@@ -29,8 +29,8 @@ use Rattle.node_model.specs.declared.acts.Sending.{Sending}
 use Rattle.node_model.specs.State.{Queues, NodeState, routing_of, is_host, leads_to}
 use Rattle.node_model.specs.Visits.{settled_at}
 use Rattle.spelled_frame.specs.Spelled.{stamp_with, numbered_frame}
-use Rattle.node_model.specs.Node.{NodeStep, stepped_node, queue_room, has_room, number_after, lane_with, queue_push, mark, takes_as, stamped_as, stamped_step, asked_plain, take_first, packet_sending, visit_sends, tick_sends, send_queues, sends_queues, visit_step, next_serial, injected_packet, inject_step, forward_by, forward_step, packet_step, advert_step, frame_step, arrived_read, arrive_step, asked_read, control_step, tick_step, take_from, take_step, node_step}
-use Rattle.node_model.specs.Orders.{frames_of, queue_at, MovesInOrder, joined, taken}
+use Rattle.node_model.specs.Node.{NodeStep, stepped_node, queue_room, has_room, number_after, lane_with, queue_push, mark, takes_as, stamped_as, stamped_step, asked_plain, take_first, packet_sending, visit_sends, tick_sends, send_queues, sends_queues, visit_step, next_serial, injected_packet, inject_step, forward_by, forward_step, packet_step, advert_step, frame_step, arrived_read, arrive_step, asked_read, control_step, tick_step, take_from, node_step}
+use Rattle.node_model.specs.Orders.{frames_of, queue_at, MovesInOrder}
 use Rattle.node_model.specs.Numbers.{link_in, numbers_in, Ascend, NumbersFit, FitsAt}
 
 -- a number more that is above all

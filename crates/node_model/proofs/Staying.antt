@@ -1,12 +1,9 @@
 -- What no step of a node changes, and the one act that gives a serial number.
-use Rattle.std.proofs.Common.{◌≡◌, ℕ, zero, suc, ◌+◌, ◌-◌, ◌*◌, ◌<◌, ◌≤◌, Bool, true, false, cond, List, [], ◌∷◌, ◌++◌, refl, sym, ap, ◌∙◌, arith, length}
-use Rattle.std.specs.Prelude.{sum_by, map, slice_set, slice_get, nat_lt, nat_le, ◌==◌, ◌&&◌, Option, Some, None, Result, Ok, Err}
+use Rattle.std.proofs.Common.{◌≡◌, ℕ, Bool, true, false, cond, List, [], ◌∷◌, ◌++◌, refl, ◌∙◌, length}
+use Rattle.std.specs.Prelude.{slice_get, ◌==◌, Option, Some, None, Result, Ok, Err}
 use Rattle.std.proofs.lemmas.List.{length-set}
-use Rattle.std.proofs.lemmas.Bool.Decides.{nat_tests}
 use Rattle.plan_base.specs.declared.name.Name.{Name}
-use Rattle.plan_base.specs.declared.ids.Host.{Host}
 use Rattle.plan_base.specs.declared.ids.Dev.{Dev}
-use Rattle.plan_base.specs.declared.ids.Family.{Family}
 use Rattle.plan_base.specs.declared.tree.Chunk.{Chunk}
 use Rattle.plan_base.specs.declared.tree.Packet.{Packet}
 use Rattle.packet_frame.specs.declared.frame.PlainFrame.{PlainFrame}
@@ -20,9 +17,9 @@ use Rattle.service_api.specs.declared.advert.Advert.{Advert}
 use Rattle.service_api.specs.declared.router.Hop.{Hop}
 use Rattle.service_api.specs.declared.router.Hop.TheVariants.{To, NoService, NoRoute}
 use Rattle.service_api.specs.Routes.{hop}
-use Rattle.dv_routing.specs.Routing.{all_routes, own_advert}
+use Rattle.dv_routing.specs.Routing.{all_routes}
 use Rattle.node_model.specs.declared.acts.Act.{Act}
-use Rattle.node_model.specs.declared.acts.Act.TheVariants.{Injected, Arrived, SerialsSpent, Heard, Misplaced}
+use Rattle.node_model.specs.declared.acts.Act.TheVariants.{Injected, SerialsSpent}
 use Rattle.node_model.specs.declared.acts.Sending.{Sending}
 use Rattle.node_model.specs.State.{Links, Queues, NodeState, routing_of, is_host, leads_to}
 use Rattle.node_model.specs.Visits.{settled_at}

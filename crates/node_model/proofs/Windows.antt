@@ -1,10 +1,9 @@
 -- What a device has taken: what isn't fresh there stays so at each step, and a frame that arrives isn't fresh any more.
-use Rattle.std.proofs.Common.{◌≡◌, ℕ, zero, suc, ◌<◌, ◌≤◌, Bool, true, false, cond, List, [], ◌∷◌, ◌++◌, length, refl, sym, ap, ◌∙◌, subst, arith}
+use Rattle.std.proofs.Common.{◌≡◌, ℕ, zero, suc, ◌<◌, Bool, true, false, cond, List, [], ◌∷◌, ◌++◌, length, refl, sym, ap, ◌∙◌, arith}
 use Rattle.std.specs.Prelude.{slice_get, slice_set, ◌==◌, Option, Some, None, Result, Ok, Err}
 use Rattle.plan_base.specs.declared.name.Name.{Name}
 use Rattle.plan_base.specs.declared.ids.Dev.{Dev}
 use Rattle.plan_base.specs.declared.tree.Chunk.{Chunk}
-use Rattle.plan_base.specs.declared.tree.Packet.{Packet}
 use Rattle.packet_frame.specs.declared.frame.PlainStamped.{PlainStamped}
 use Rattle.packet_frame.specs.declared.fault.FrameFault.{FrameFault}
 use Rattle.packet_frame.specs.Decoding.{read_by}
@@ -14,12 +13,10 @@ use Rattle.link_window.specs.declared.window.Took.{Took}
 use Rattle.link_window.specs.declared.window.Took.TheVariants.{Fresh, Repeated, TooOld}
 use Rattle.link_window.specs.Seen.{Seen, took, seen_with, seen_by, is_fresh}
 use Rattle.link_window.proofs.Stale as stale
-use Rattle.node_model.specs.declared.acts.Act.{Act}
 use Rattle.node_model.specs.declared.acts.Act.TheVariants.{Injected, SerialsSpent}
 use Rattle.node_model.specs.State.{NodeState}
 use Rattle.node_model.specs.Fits.{IsMarked}
 use Rattle.node_model.specs.Node.{NodeStep, stepped_node, took_by, takes_as, seen_at, seen_then, noting, stamped_as, stamped_step, arrived_read, arrive_step, visit_step, next_serial, injected_packet, inject_step, frame_step}
-use Rattle.node_model.proofs.Staying.{frame_stays}
 
 -- what isn't fresh on a device isn't fresh there later
 abbrev pub SeenLater : List Seen → List Seen → Type 0

@@ -13,7 +13,6 @@ use Rattle.network_plan.specs.declared.event.Event.{Event}
 use Rattle.network_plan.specs.declared.event.Event.TheVariants as event
 use Rattle.node_model.specs.declared.acts.Act.{Act}
 use Rattle.node_model.specs.declared.acts.Act.TheVariants.{Injected, Ended, Queued, Dropped, Stale}
-use Rattle.node_model.specs.declared.acts.Lane.{Lane}
 use Rattle.spelled_frame.specs.declared.spelled.What.{What}
 use Rattle.spelled_frame.specs.declared.spelled.What.TheVariants as what
 use Rattle.node_model.specs.State.{Queues, NodeState}

@@ -1,5 +1,5 @@
 -- What every node keeps.
-use Rattle.std.specs.Prelude.{◌≡◌, ◌≢◌, ℕ, ◌≤◌, ◌<◌, ◌^◌, false, List, length, Option, None, Some, All}
+use Rattle.std.specs.Prelude.{◌≡◌, ◌≤◌, ◌<◌, ◌^◌, false, List, length, Option, None, Some, All}
 use Rattle.plan_base.specs.declared.ids.Host.{Host}
 use Rattle.plan_base.specs.declared.tree.Packet.{Packet}
 use Rattle.typing_rules.specs.Handlers.{MayHandle}

@@ -1,5 +1,5 @@
 -- What a node does at each event.
-use Rattle.std.specs.Prelude.{◌≡◌, ℕ, ◌+◌, ◌-◌, Bool, true, false, ◌==◌, ◌&&◌, not, nat_lt, if◌then◌else◌, List, [], ◌∷◌, ◌++◌, length, map, slice_get, slice_set, Option, Some, None, Result, Ok, Err}
+use Rattle.std.specs.Prelude.{ℕ, ◌+◌, ◌-◌, Bool, false, ◌==◌, ◌&&◌, not, nat_lt, if◌then◌else◌, List, [], ◌∷◌, ◌++◌, length, map, slice_get, slice_set, Option, Some, None, Result, Ok, Err}
 use Rattle.plan_base.specs.declared.ids.Host.{Host}
 use Rattle.plan_base.specs.declared.ids.Dev.{Dev}
 use Rattle.plan_base.specs.declared.name.Name.{Name}
@@ -11,7 +11,7 @@ use Rattle.link_window.specs.declared.window.Stamp.{Stamp}
 use Rattle.link_window.specs.declared.window.Version.{Version}
 use Rattle.link_window.specs.declared.window.Version.TheVariants.{One, Two}
 use Rattle.link_window.specs.declared.window.Took.{Took}
-use Rattle.link_window.specs.declared.window.Took.TheVariants.{Fresh, Repeated, TooOld}
+use Rattle.link_window.specs.declared.window.Took.TheVariants.{Fresh}
 use Rattle.link_window.specs.Seen.{Seen, took, seen_with}
 use Rattle.packet_frame.specs.declared.fault.FrameFault.{FrameFault}
 use Rattle.packet_frame.specs.Decoding.{read_by}

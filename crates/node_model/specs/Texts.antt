@@ -1,6 +1,5 @@
 -- The texts of acts.
-use Rattle.std.specs.Prelude.{ℕ, if◌then◌else◌, List, [], ◌∷◌, ◌++◌, fold, codes, Option, Some, None}
-use Rattle.std.specs.List.{list_any, flat_map}
+use Rattle.std.specs.Prelude.{ℕ, List, ◌++◌, codes}
 use Rattle.std.specs.Fmt.{decimal}
 use Rattle.plan_base.specs.declared.ids.Host.{Host}
 use Rattle.plan_base.specs.declared.ids.Dev.{Dev}
@@ -19,7 +18,6 @@ use Rattle.node_model.specs.declared.acts.Reason.{Reason}
 use Rattle.node_model.specs.declared.acts.Reason.TheVariants as reason
 use Rattle.spelled_frame.specs.declared.spelled.What.{What}
 use Rattle.spelled_frame.specs.declared.spelled.What.TheVariants as what
-use Rattle.node_model.specs.Counts.{is_family}
 
 -- a family: its host and its serial number
 abbrev pub family_text : Family → List ℕ

@@ -1,4 +1,4 @@
-use Rattle.std.proofs.Common.{◌≡◌, ◌⊎◌, inl, inr, ℕ, ◌+◌, ◌≤◌, List, Option, Some, None, Result, Ok, Err, refl, sym, ◌∙◌, ap, subst, arith}
+use Rattle.std.proofs.Common.{◌≡◌, ◌⊎◌, inl, inr, ℕ, ◌+◌, ◌≤◌, List, Option, Some, None, Result, Ok, Err, sym, ◌∙◌, subst, arith}
 use Rattle.std.specs.Prelude.{IfOk, IfErr, MatchResult}
 use Rattle.plan_base.specs.Sizes.{chunk_weight}
 use Rattle.plan_base.specs.WellFormed.{IsWellFormedChunk, ChunkHasTypes}
@@ -6,8 +6,6 @@ use Rattle.plan_base.specs.declared.tree.Chunk.{Chunk}
 use Rattle.chunk_spelling.specs.Spelling.{a_whole_chunk}
 use Rattle.chunk_spelling.proofs.SpelledForms.{chunk_is_well}
 use Rattle.plan_base.specs.declared.tree.Packet.{Packet}
-use Rattle.chunk_types.specs.declared.fault.Ill.{Ill}
-use Rattle.chunk_types.specs.Chunks.{illness}
 use Rattle.packet_frame.specs.declared.fault.FrameFault.{FrameFault}
 use Rattle.packet_frame.specs.declared.frame.PlainFrame.{PlainFrame}
 use Rattle.packet_frame.specs.declared.checked.Frame.{Frame}

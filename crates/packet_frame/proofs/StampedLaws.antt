@@ -1,5 +1,5 @@
 -- The laws of a frame of version 2.
-use Rattle.std.proofs.Common.{◌≡◌, ◌⊎◌, inl, inr, ℕ, ◌+◌, ◌<◌, ◌≤◌, ◌^◌, List, [], ◌∷◌, ◌++◌, length, append-nil, append_assoc, Bool, true, false, Option, Some, None, Result, Ok, Err, refl, sym, ◌∙◌, ap, subst, arith}
+use Rattle.std.proofs.Common.{◌≡◌, ◌⊎◌, inl, inr, ℕ, ◌+◌, ◌<◌, ◌≤◌, List, [], ◌∷◌, ◌++◌, length, append-nil, Bool, true, false, Option, Some, None, Ok, refl, sym, ◌∙◌, ap, subst, arith}
 use Rattle.std.specs.Prelude.{◌==◌, ◌||◌, if◌then◌else◌}
 use Rattle.std.specs.Int.{w8, w32, w64, to_be_bytes}
 use Rattle.std.proofs.lemmas.Bool.{eqb-true}
@@ -19,7 +19,7 @@ use Rattle.packet_frame.specs.declared.kind.Kind.{Kind}
 use Rattle.packet_frame.specs.declared.kind.Form.{Form}
 use Rattle.plan_base.specs.declared.name.Name.{Name}
 use Rattle.plan_base.specs.declared.tree.Packet.{Packet}
-use Rattle.packet_frame.specs.Bytes.{letters, head_bytes, packet_bytes, rows_bytes, frame_bytes}
+use Rattle.packet_frame.specs.Bytes.{letters, head_bytes, packet_bytes, rows_bytes}
 use Rattle.packet_frame.specs.Faults.{of_number}
 use Rattle.packet_frame.specs.Fields.{number, magic_at}
 use Rattle.packet_frame.specs.Forms.{FrameItem, the_magic, the_end, either_version, the_form, forms, FieldValues, bytes_of_fields, AllFit, items_of_fields, frame_of_fields, fields_of, FrameFits}
@@ -27,7 +27,7 @@ use Rattle.packet_frame.specs.Versions.{either_version_at, form_of, known_form, 
 use Rattle.packet_frame.specs.Frames.{frame_step}
 use Rattle.packet_frame.specs.Stamped.{stamped_head, bytes_with, stamped_bytes, StampFits, HandlerFits, BearsStamp, IsAsk, IsOfTwo, StampedFits}
 use Rattle.packet_frame.proofs.FieldLaws.{AllKept, told_ok, told_is, judged_ok, judged_is, host_kept, serial_kept, bound_kept, route_kept, chunk_kept, reads_takes, reads_again, reads_go}
-use Rattle.packet_frame.proofs.FrameLaws.{forms_kept, frame_is, fits_held, magic_takes, magic_again}
+use Rattle.packet_frame.proofs.FrameLaws.{forms_kept, frame_is, magic_takes, magic_again}
 use Rattle.packet_frame.specs.Stamped.{SpellsStamped, StampedFault, too_long, misspelled}
 use Rattle.packet_frame.proofs.WholeLaws.{Whole, Spells, Faulty, one_spelling_is, one_fault_is, either_is, never_both_is}
 use Rattle.packet_frame.proofs.WholeLaws as whole

@@ -1,13 +1,8 @@
 -- What the writers of version 2 put is a spelling.
-use Rattle.std.proofs.Common.{◌≡◌, ℕ, ◌+◌, ◌*◌, ◌<◌, ◌≤◌, List, [], ◌∷◌, ◌++◌, length, drop, get_or, length-append, Bool, true, false, None, refl, sym, ap, subst, arith, ◌^◌}
-use Rattle.std.specs.Prelude.{◌&&◌, nat_le}
+use Rattle.std.proofs.Common.{◌≡◌, ℕ, ◌<◌, ◌≤◌, List, ◌∷◌, ◌++◌, length, length-append, None, sym, ap, subst, arith, ◌^◌}
 use Rattle.std.specs.List.{flat_map}
 use Rattle.std.specs.Int.{w16, w32, w64, to_be_bytes}
-use Rattle.std.proofs.lemmas.Bool.{leb-true}
-use Rattle.std.proofs.lemmas.List.{drop_more}
-use Rattle.plan_items.proofs.Bools.{both_true}
-use Rattle.plan_base.specs.Words.{is_word, is_name, IsName}
-use Rattle.plan_base.specs.Sizes.{chunk_weight}
+use Rattle.plan_base.specs.Words.{IsName}
 use Rattle.plan_base.specs.declared.ids.Family.{Family}
 use Rattle.plan_base.specs.declared.ids.Host.{Host}
 use Rattle.plan_base.specs.declared.tree.Chunk.{Chunk}
@@ -16,19 +11,15 @@ use Rattle.chunk_spelling.specs.Fields.{name_bytes}
 use Rattle.chunk_spelling.specs.Values.{chunk_bytes}
 use Rattle.chunk_spelling.specs.Kept.{chunk_kept}
 use Rattle.chunk_spelling.specs.Spelling.{a_whole_chunk}
-use Rattle.chunk_spelling.proofs.FitsLaws.{chunk_fits_kept}
 use Rattle.chunk_writer.proofs.Puts.{Written}
-use Rattle.chunk_spelling.proofs.LengthLaws.{chunk_length}
-use Rattle.service_api.specs.declared.advert.AdvertRow.{AdvertRow}
 use Rattle.service_api.specs.declared.advert.Advert.{Advert}
 use Rattle.packet_frame.specs.declared.frame.PlainFrame.{PlainFrame}
-use Rattle.packet_frame.specs.Bytes.{head_bytes, row_bytes, frame_bytes}
+use Rattle.packet_frame.specs.Bytes.{head_bytes, row_bytes}
 use Rattle.packet_frame.specs.Forms.{FrameFits}
 use Rattle.packet_frame.specs.Frames.{SpellsFrame}
-use Rattle.std.proofs.Common.{Option, Some, ◌∙◌, append_assoc}
+use Rattle.std.proofs.Common.{Some, ◌∙◌, append_assoc}
 use Rattle.plan_base.specs.declared.name.Name.{Name}
 use Rattle.link_window.specs.declared.window.Stamp.{Stamp}
-use Rattle.packet_frame.specs.declared.frame.PlainStamped.{PlainStamped}
 use Rattle.packet_frame.specs.Stamped.{stamped_head, packet_with, bytes_with, stamped_bytes, StampFits, SpellsStamped}
 use Rattle.packet_frame.proofs.Sizes.{rows_size, route_short, chunk_bytes_small}
 

@@ -1,27 +1,23 @@
 -- The laws of a whole frame, in whatever version: it is read exactly where all the bytes spell it.
-use Rattle.std.proofs.Common.{◌≡◌, ◌⊎◌, inl, inr, ℕ, ◌+◌, ◌<◌, ◌≤◌, List, [], ◌∷◌, ◌++◌, length, length-append, append-nil, Bool, true, false, Option, Some, None, Result, Ok, Err, refl, sym, ◌∙◌, ap, subst, arith}
-use Rattle.std.specs.Prelude.{◌==◌, nat_le, if◌then◌else◌}
-use Rattle.std.specs.Int.{w8, w32, w64, to_be_bytes}
-use Rattle.std.proofs.lemmas.Bool.{eqb-true, leb-true, leb-false}
+use Rattle.std.proofs.Common.{◌≡◌, ◌⊎◌, inl, inr, ℕ, ◌<◌, ◌≤◌, List, [], ◌∷◌, ◌++◌, length, length-append, append-nil, Bool, true, false, Result, Ok, Err, refl, sym, ◌∙◌, ap, subst, arith}
+use Rattle.std.specs.Prelude.{nat_le}
+use Rattle.std.proofs.lemmas.Bool.{leb-true, leb-false}
 use Rattle.chunk_spelling.specs.Spelling.{from_front}
 use Rattle.wire_bytes.specs.Fields.{Front, IsBytes}
 use Rattle.plan_items.specs.Agenda.{FirstFault, here}
-use Rattle.plan_items.proofs.Binds.{ok_inj, some_inj, bind_ok, bind_is}
-use Rattle.plan_items.proofs.Agendas.{Goes, chain, one_step, goes_ok, goes_err, no_fault, one_first_fault}
-use Rattle.chunk_spelling.specs.Scan.{Scan, number_field}
-use Rattle.chunk_spelling.proofs.Took.{Took, Took-bytes, Took-then, Took-first, Took-second, Took-as, between}
-use Rattle.chunk_spelling.proofs.FieldLaws.{byte_takes, byte_again, number_takes, number_again, wide32}
+use Rattle.plan_items.proofs.Binds.{ok_inj}
+use Rattle.plan_items.proofs.Agendas.{Goes, one_step, goes_ok, goes_err, no_fault, one_first_fault}
+use Rattle.chunk_spelling.specs.Scan.{Scan}
+use Rattle.chunk_spelling.proofs.Took.{Took, between}
 use Rattle.packet_frame.specs.declared.fault.FrameFault.{FrameFault}
-use Rattle.packet_frame.specs.declared.frame.PlainFrame.{PlainFrame}
-use Rattle.packet_frame.specs.declared.kind.Kind.{Kind}
-use Rattle.packet_frame.specs.Bytes.{letters, head_bytes, frame_bytes}
+use Rattle.packet_frame.specs.Bytes.{letters, head_bytes}
 use Rattle.packet_frame.specs.Faults.{of_number}
-use Rattle.packet_frame.specs.Fields.{number, magic_at, version_at, kind_of, known_kind, kind_at}
-use Rattle.packet_frame.specs.Forms.{FrameItem, the_magic, the_version, the_kind, the_end, forms, FieldValues, bytes_of_fields, AllFit, items_of_fields, frame_of_fields, fields_of, FrameFits, frame_at}
+use Rattle.packet_frame.specs.Fields.{number, kind_of, known_kind}
+use Rattle.packet_frame.specs.Forms.{FrameItem, the_end, forms, FieldValues, bytes_of_fields, AllFit, items_of_fields, frame_of_fields, fields_of, FrameFits}
 use Rattle.packet_frame.specs.Frames.{frame_step, nothing_left, begins}
 use Rattle.packet_frame.specs.Fields.{Reader}
 use Rattle.packet_frame.specs.Reading.{Fails}
-use Rattle.packet_frame.proofs.FieldLaws.{AllKept, told_ok, told_is, judged_ok, judged_is, host_kept, serial_kept, bound_kept, route_kept, chunk_kept, rows_kept, reads_takes, reads_again, reads_go}
+use Rattle.packet_frame.proofs.FieldLaws.{AllKept}
 
 -- a whole frame: how it is read, what must be read of it, how it is spelled, what may be spelled, and that these agree
 pub record Whole (A : Type 0) : Type 1 where

@@ -1,5 +1,5 @@
 -- The forms of a frame: what stands behind the kind, one field after another.
-use Rattle.std.specs.Prelude.{◌≡◌, ℕ, ◌≤◌, ◌<◌, ◌^◌, List, [], ◌∷◌, ◌++◌, length, Option, None, Some, Ok}
+use Rattle.std.specs.Prelude.{◌≡◌, ℕ, ◌≤◌, ◌<◌, ◌^◌, List, [], ◌∷◌, ◌++◌, length, Option, None, Ok}
 use Rattle.std.specs.Int.{w32, w64, to_be_bytes}
 use Rattle.plan_items.specs.Reading.{◌>>=◌}
 use Rattle.plan_base.specs.Words.{IsName}

@@ -1,6 +1,6 @@
 -- Frames with stamps: the bytes of version 2, and what a node of that version reads.
-use Rattle.std.specs.Prelude.{◌≡◌, ℕ, ◌≤◌, ◌<◌, ◌^◌, ◌==◌, ◌||◌, List, [], ◌∷◌, ◌++◌, length, Option, Some, None, Result, Ok, Err, if◌then◌else◌}
-use Rattle.std.specs.Int.{w8, w32, w64, to_be_bytes}
+use Rattle.std.specs.Prelude.{◌≡◌, ℕ, ◌≤◌, ◌<◌, ◌^◌, List, [], ◌∷◌, ◌++◌, length, Option, Some, None}
+use Rattle.std.specs.Int.{w32, w64, to_be_bytes}
 use Rattle.plan_items.specs.Reading.{◌>>=◌}
 use Rattle.chunk_spelling.specs.Scan.{Scan}
 use Rattle.link_window.specs.declared.window.Stamp.{Stamp}
@@ -14,11 +14,9 @@ use Rattle.chunk_spelling.specs.Values.{chunk_bytes}
 use Rattle.packet_frame.specs.declared.fault.FrameFault.{FrameFault}
 use Rattle.packet_frame.specs.declared.frame.PlainFrame.{PlainFrame}
 use Rattle.packet_frame.specs.declared.frame.PlainStamped.{PlainStamped}
-use Rattle.packet_frame.specs.declared.kind.Kind.{Kind}
-use Rattle.packet_frame.specs.declared.kind.Form.{Form}
 use Rattle.packet_frame.specs.Bytes.{letters, packet_bytes, rows_bytes, frame_bytes}
-use Rattle.packet_frame.specs.Fields.{Reader, number, judged_field, magic_at}
-use Rattle.packet_frame.specs.Forms.{Fields, ◌&◌, FieldValues, reads, serial_field, forms, frame_of_fields, FrameFits, IsPlain}
+use Rattle.packet_frame.specs.Fields.{Reader, number, judged_field}
+use Rattle.packet_frame.specs.Forms.{Fields, FieldValues, reads, serial_field, forms, frame_of_fields, FrameFits, IsPlain}
 use Rattle.plan_items.specs.Agenda.{FirstFault}
 use Rattle.packet_frame.specs.Forms.{FrameItem, the_magic, the_end, either_version}
 use Rattle.packet_frame.specs.Frames.{frame_step, begins}

@@ -1,5 +1,5 @@
 -- When bytes are a frame whose chunk is typed, and the first fault of those that are none.
-use Rattle.std.specs.Prelude.{◌≡◌, ℕ, List, Option, Some, None}
+use Rattle.std.specs.Prelude.{◌≡◌, ℕ, List, Some}
 use Rattle.plan_base.specs.declared.tree.Chunk.{Chunk}
 use Rattle.typing_rules.specs.Typing.{IsTypedChunk}
 use Rattle.chunk_types.specs.declared.fault.Ill.{Ill}

@@ -1,17 +1,14 @@
 -- What a node of version 2 reads, field by field.
-use Rattle.std.specs.Prelude.{◌≡◌, ℕ, ◌≤◌, ◌<◌, ◌^◌, ◌==◌, ◌||◌, List, [], ◌∷◌, ◌++◌, length, Option, Some, None, Result, Ok, Err, if◌then◌else◌}
-use Rattle.std.specs.Int.{w8, w32, w64, to_be_bytes}
+use Rattle.std.specs.Prelude.{ℕ, ◌==◌, ◌||◌, Option, Some, None, Result, Ok, Err, if◌then◌else◌}
+use Rattle.std.specs.Int.{w8}
 use Rattle.plan_items.specs.Reading.{◌>>=◌}
 use Rattle.chunk_spelling.specs.Scan.{Scan}
-use Rattle.link_window.specs.declared.window.Stamp.{Stamp}
-use Rattle.link_window.specs.declared.window.Version.{Version}
-use Rattle.link_window.specs.declared.window.Version.TheVariants.{One, Two}
 use Rattle.packet_frame.specs.declared.fault.FrameFault.{FrameFault}
 use Rattle.packet_frame.specs.declared.frame.PlainFrame.{PlainFrame}
 use Rattle.packet_frame.specs.declared.frame.PlainStamped.{PlainStamped}
 use Rattle.packet_frame.specs.declared.kind.Kind.{Kind}
 use Rattle.packet_frame.specs.declared.kind.Form.{Form}
-use Rattle.packet_frame.specs.Bytes.{letters, packet_bytes, rows_bytes, frame_bytes}
+use Rattle.packet_frame.specs.Bytes.{letters, packet_bytes, rows_bytes}
 use Rattle.packet_frame.specs.Fields.{Reader, number, judged_field, magic_at}
 use Rattle.packet_frame.specs.Forms.{Fields, done, ◌&◌, host_field, bound_field, route_field, chunk_field, Fields, ◌&◌, FieldValues, reads, serial_field, forms, frame_of_fields, FrameFits}
 

@@ -1,5 +1,5 @@
 -- What the rules of well-formed trees are, by a tree's outermost level.
-use Rattle.std.proofs.Common.{◌≡◌, ◌-◌, Bool, ◌&&◌, refl, ap, sym, ◌∙◌, List, [], ◌∷◌, length, take}
+use Rattle.std.proofs.Common.{◌≡◌, ◌-◌, Bool, ◌&&◌, refl, ap, sym, ◌∙◌, length, take}
 use Rattle.std.proofs.lemmas.List.{length-map, take-map}
 use Rattle.std.specs.Prelude.{map, nat_le, is_some}
 use Rattle.std.specs.List.{list_all}

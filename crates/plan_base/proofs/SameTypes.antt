@@ -1,5 +1,5 @@
 -- The test whether two types are the same is right.
-use Rattle.std.proofs.Common.{◌≡◌, ℕ, zero, suc, ◌≤◌, ◌∙◌, sym, ap, refl, Bool, true, false, ◌&&◌, max, List, [], ◌∷◌, map, arith}
+use Rattle.std.proofs.Common.{◌≡◌, ℕ, zero, suc, ◌≤◌, ◌∙◌, sym, ap, refl, Bool, true, false, max, List, [], ◌∷◌, map, arith}
 use Rattle.std.specs.List.{fold}
 use Rattle.std.specs.Prelude.{IsTrue, ◌↔◌}
 use Rattle.plan_items.proofs.Bools.{and_left, and_right, and_both}

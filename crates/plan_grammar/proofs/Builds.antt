@@ -1,7 +1,6 @@
 -- One more item in what is made of several.
-use Rattle.std.proofs.Common.{◌≡◌, ℕ, List, [], ◌∷◌, ◌++◌, max, refl, sym, ap, ◌∙◌, append_assoc}
-use Rattle.std.specs.Prelude.{map}
-use Rattle.std.specs.List.{fold, flat_map}
+use Rattle.std.proofs.Common.{◌≡◌, List, [], ◌∷◌, ◌++◌, max, refl, sym, ap, ◌∙◌, append_assoc}
+use Rattle.std.specs.List.{flat_map}
 use Rattle.std.proofs.lemmas.List.{map-append, flat_map_more}
 use Rattle.std.proofs.lemmas.Grind.{fold-append}
 use Rattle.plan_base.specs.Sizes.{largest_by}

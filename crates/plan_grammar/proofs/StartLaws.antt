@@ -1,5 +1,5 @@
 -- An operand is read by what it begins with.
-use Rattle.std.proofs.Common.{◌≡◌, ℕ, Option, Some, None, refl, sym, ap}
+use Rattle.std.proofs.Common.{◌≡◌, ℕ, Option, Some, refl, sym, ap}
 use Rattle.plan_lexer.specs.declared.token.TokenKind.{TokenKind}
 use Rattle.plan_lexer.specs.declared.token.TokenKind.TheVariants as kinds
 use Rattle.plan_lexer.specs.declared.token.Key.{Key}

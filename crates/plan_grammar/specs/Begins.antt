@@ -1,5 +1,5 @@
 -- Which tokens may begin a type or an expression.
-use Rattle.std.specs.Prelude.{◌≡◌, ◌||◌, Bool, true, false, Option, Some, None, is_some}
+use Rattle.std.specs.Prelude.{◌||◌, Bool, true, false, Option, Some, None, is_some}
 use Rattle.plan_base.specs.declared.tree.Ty.{Ty}
 use Rattle.plan_base.specs.declared.tree.Ty.TheVariants as ty
 use Rattle.plan_lexer.specs.declared.token.TokenKind.{TokenKind}

@@ -1,5 +1,5 @@
 -- An expression as it was read: the tree, its place, the places below it, and how deep it is.
-use Rattle.std.specs.Prelude.{◌≡◌, ◌+◌, ℕ, max, List, [], ◌∷◌, ◌++◌, map, nat_lt, if◌then◌else◌}
+use Rattle.std.specs.Prelude.{◌+◌, ℕ, max, List, [], ◌∷◌, ◌++◌, map, nat_lt, if◌then◌else◌}
 use Rattle.std.specs.List.{flat_map}
 use Rattle.plan_base.specs.declared.tree.Op.TheVariants as ops
 use Rattle.plan_base.specs.declared.tree.Expr.{Expr}

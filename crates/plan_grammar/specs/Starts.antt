@@ -1,5 +1,5 @@
 -- What an operand begins with, and how it is read from there.
-use Rattle.std.specs.Prelude.{ℕ, Option, Some, None}
+use Rattle.std.specs.Prelude.{ℕ, Option, Some}
 use Rattle.plan_lexer.specs.declared.token.TokenKind.{TokenKind}
 use Rattle.plan_lexer.specs.declared.token.TokenKind.TheVariants as kinds
 use Rattle.plan_lexer.specs.declared.token.Key.{Key}

@@ -1,4 +1,4 @@
-use Rattle.std.proofs.Common.{◌≡◌, ℕ, zero, suc, List, [], ◌∷◌, Result, Ok, Err, refl, sym, ◌∙◌, ap, subst}
+use Rattle.std.proofs.Common.{◌≡◌, ℕ, zero, suc, List, [], ◌∷◌, Result, Ok, Err, refl, sym, subst}
 use Rattle.plan_items.specs.Reading.{◌>>=◌, many}
 use Rattle.plan_items.specs.Agenda.{times, FirstFault, here, later}
 

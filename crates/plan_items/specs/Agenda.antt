@@ -1,4 +1,4 @@
-use Rattle.std.specs.Prelude.{◌≡◌, ℕ, zero, suc, List, [], ◌∷◌, Result, Ok, Err}
+use Rattle.std.specs.Prelude.{◌≡◌, ℕ, zero, suc, List, ◌∷◌, Result, Ok, Err}
 
 -- an item n times, before what was to come
 abbrev pub times : {I : Type 0} → ℕ → I → List I → List I

@@ -1,5 +1,5 @@
 -- Visits with different allowances.
-use Rattle.std.proofs.Common.{◌≡◌, ◌≢◌, ◌⊎◌, inl, inr, ⊎_elim, ◌↔◌, ℕ, ◌+◌, ◌-◌, ◌≤◌, refl, sym, ap, ◌∙◌, subst, arith}
+use Rattle.std.proofs.Common.{◌≡◌, ◌≢◌, ◌⊎◌, inl, inr, ⊎_elim, ◌↔◌, ℕ, ◌+◌, ◌-◌, ◌≤◌, sym, ap, ◌∙◌, subst, arith}
 use Rattle.plan_base.specs.declared.ids.Family.{Family}
 use Rattle.plan_base.specs.declared.tree.Chunk.{Chunk}
 use Rattle.plan_base.specs.declared.tree.Value.{Value}
@@ -11,7 +11,6 @@ use Rattle.plan_meaning.specs.declared.outcome.Outcome.TheVariants as outcome
 use Rattle.plan_meaning.specs.declared.outcome.Visit.{Visit}
 use Rattle.plan_meaning.specs.State.{VisitState}
 use Rattle.plan_meaning.specs.Run.{After, gave, stopped, RunStep}
-use Rattle.plan_meaning.specs.Meaning.{meaning, visited_chunk}
 use Rattle.plan_meaning.specs.Safe.{IsGoodState}
 use Rattle.plan_meaning.specs.Visit.{IsVisit, Ends, begun_state, ended_visit, spent_visit}
 use Rattle.service_api.specs.Services.{IsGoodChunk}

@@ -1,5 +1,5 @@
 -- Well-formed values: their parts, and what is made of well-formed parts.
-use Rattle.std.proofs.Common.{◌≡◌, ℕ, zero, suc, ◌+◌, ◌≤◌, Bool, true, false, ◌&&◌, nat_le, ℤ, List, [], ◌∷◌, length, Some, slice_get, is_some, refl, sym, ap, ◌∙◌, subst, lit≤, arith}
+use Rattle.std.proofs.Common.{◌≡◌, ℕ, zero, suc, ◌+◌, ◌≤◌, Bool, true, ◌&&◌, nat_le, ℤ, List, [], ◌∷◌, length, Some, slice_get, is_some, refl, sym, ap, ◌∙◌, subst, lit≤, arith}
 use Rattle.std.specs.List.{list_all}
 use Rattle.std.proofs.lemmas.Bool.{leb-true, le-leb}
 use lib.Utf8.{scalar}

@@ -1,6 +1,6 @@
 -- Evaluations of typed code, put together: each is right, leaves no greater purse, gives the same with a greater allowance, and
 -- ends with some allowance.
-use Rattle.std.proofs.Common.{◌≡◌, ℕ, zero, suc, ◌+◌, ◌-◌, ◌<◌, ◌≤◌, Bool, true, false, if◌then◌else◌, ◌==◌, nat_lt, ℤ, List, Option, Some, None, refl, sym, ap, ◌∙◌, subst, arith}
+use Rattle.std.proofs.Common.{◌≡◌, ℕ, ◌+◌, ◌-◌, ◌<◌, ◌≤◌, Bool, true, false, if◌then◌else◌, ◌==◌, nat_lt, ℤ, List, Option, Some, refl, sym, ap, ◌∙◌, subst, arith}
 use Rattle.std.proofs.lemmas.Bool.Decides.{nat_tests}
 use Rattle.plan_base.specs.declared.name.Name.{Name}
 use Rattle.plan_base.specs.declared.ids.Host.{Host}
@@ -28,7 +28,7 @@ use Rattle.plan_meaning.specs.Laws.{left_by, IsSpent, more, after_more, step_mor
 use Rattle.plan_meaning.proofs.Growing.{Growing, growing_kept, between, same_number}
 use Rattle.plan_meaning.proofs.Keeps.{Keeps}
 use Rattle.plan_meaning.proofs.Longer.{Longer, longer_kept, first_lasts, rescue_lasts}
-use Rattle.plan_meaning.proofs.Right.{Good, Mild, raised_not_wrong, weaker, is_small, mild_good, pure_yields, raise_yields, spent_state, spend_yields, paid_state, remote_yields, neighbour_yields, serve_yields}
+use Rattle.plan_meaning.proofs.Right.{Good, Mild, raised_not_wrong, weaker, mild_good, pure_yields, raise_yields, spent_state, spend_yields, paid_state, remote_yields, neighbour_yields, serve_yields}
 
 pub record HaltsAt {A : Type 0} (P : A → Type 0) (p : Run A) (s : VisitState) : Type 0 where
   pub right : IsRight P (p s)

@@ -1,5 +1,5 @@
 -- Evaluations that are right, put together.
-use Rattle.std.proofs.Common.{◌≡◌, ◌≢◌, ℕ, zero, suc, ◌+◌, ◌-◌, ◌<◌, ◌≤◌, Bool, true, false, ◌||◌, if◌then◌else◌, ◌==◌, nat_lt, ℤ, List, [], ◌∷◌, ◌++◌, Option, Some, None, refl, sym, subst, arith}
+use Rattle.std.proofs.Common.{◌≡◌, ◌≢◌, ℕ, zero, suc, ◌-◌, ◌<◌, ◌≤◌, Bool, true, false, ◌||◌, if◌then◌else◌, nat_lt, ℤ, List, [], ◌∷◌, ◌++◌, Option, Some, None, refl, arith}
 use Rattle.std.specs.List.{All, slice_index_or}
 use Rattle.std.proofs.lemmas.List.Elements.{All-append}
 use Rattle.std.proofs.lemmas.Bool.Decides.{nat_tests}
@@ -13,7 +13,7 @@ use Rattle.plan_base.specs.declared.tree.Value.{Value}
 use Rattle.plan_base.specs.declared.tree.Chunk.{Chunk}
 use Rattle.plan_base.specs.Sizes.{weight, nesting}
 use Rattle.typing_rules.specs.Typing.{IsSmall, HasType}
-use Rattle.typing_rules.specs.Rules.{Given, gives, raises, unfit, too_large}
+use Rattle.typing_rules.specs.Rules.{Given, too_large}
 use Rattle.service_api.specs.declared.answer.Note.{Note}
 use Rattle.service_api.specs.declared.answer.Answer.{Answer}
 use Rattle.service_api.specs.declared.answer.Answer.TheVariants.{Gives, Raises}
@@ -23,8 +23,8 @@ use Rattle.service_api.specs.Routes.{hop, default_route}
 use Rattle.service_api.specs.Services.{Served, served_call, called_services, IsGoodValue, IsGoodChunk, AreGoodValues, IsGoodAnswer, IsGoodServed, IsGoodNote, IsGoodOptionNote, AreGoodRows}
 use Rattle.plan_meaning.specs.declared.stop.EvalStop.TheVariants.{Raised, WorkSpent, Wrong, NoMemory}
 use Rattle.plan_meaning.specs.State.{VisitState}
-use Rattle.plan_meaning.specs.Run.{After, gave, stopped, RunStep, Run, «next», ◌>>=◌, ◌>>◌, pure, stop, raise, or_wrong, given_value, otherwise, rescue, spend, is_too_large, weighed_value, whole, serve, answered_call, notes_after}
-use Rattle.plan_meaning.specs.Meaning.{pay_eval, no_bound, is_paid, bound_of, sent_packet, sent_by, send_remote, is_next, not_neighbour, send_neighbour}
+use Rattle.plan_meaning.specs.Run.{After, gave, stopped, RunStep, Run, «next», ◌>>=◌, ◌>>◌, pure, stop, raise, or_wrong, given_value, otherwise, rescue, spend, is_too_large, serve, answered_call, notes_after}
+use Rattle.plan_meaning.specs.Meaning.{no_bound, is_paid, bound_of, sent_packet, sent_by, send_remote, is_next, not_neighbour, send_neighbour}
 use Rattle.plan_meaning.specs.Safe.{AreGoodNotes, IsGoodSent, IsGoodState, Holds, IsRight, Yields}
 use Rattle.plan_meaning.proofs.Formed.{IsFormed, well_formed}
 use Rattle.typing_rules.specs.Typed.{Fits}

@@ -38,7 +38,7 @@ use Rattle.service_api.specs.Services.{IsGoodChunk, AreGoodValues}
 use Rattle.plan_meaning.specs.State.{VisitState}
 use Rattle.plan_meaning.specs.Run.{Run, ◌>>◌, pure}
 use Rattle.plan_meaning.specs.Meaning as m
-use Rattle.plan_meaning.specs.Meaning.{Env, Runs, as_bool, bool_at, as_int, int_at, as_host, host_at, as_dev, dev_at, as_chunk, chunk_at, as_items, items_at, value_of, value_if, bound_behind, bound, pay_eval, send_remote, send_neighbour, values_behind, values, entered_function, applied_at, applied_function, served_or, called_by, called_name, left_along, right_along, handled_exception, visited_chunk, opened_at, opened_expression, node, run_to, meaning, catches}
+use Rattle.plan_meaning.specs.Meaning.{Env, Runs, as_bool, bool_at, as_int, int_at, as_host, host_at, as_dev, dev_at, as_chunk, chunk_at, as_items, items_at, value_of, value_if, bound_behind, bound, values_behind, values, entered_function, applied_at, applied_function, served_or, called_by, called_name, left_along, right_along, handled_exception, visited_chunk, opened_at, opened_expression, node, meaning, catches}
 use Rattle.plan_meaning.specs.Safe.{HasEnv, IsGoodState, Yields}
 use Rattle.plan_items.proofs.Bools.{and_left, and_right, both_true}
 use Rattle.typing_rules.proofs.Shapes.{shape_at}

@@ -1,5 +1,5 @@
 -- Sums and greatest numbers of lists, and sizes of values.
-use Rattle.std.proofs.Common.{◌≡◌, ℕ, ◌+◌, ◌≤◌, max, List, [], ◌∷◌, length, arith}
+use Rattle.std.proofs.Common.{ℕ, ◌+◌, ◌≤◌, max, List, [], ◌∷◌, length, arith}
 use Rattle.std.specs.List.{fold, sum_by}
 use Rattle.plan_items.proofs.Lists.{sum_from, largest_from}
 use Rattle.plan_base.specs.declared.tree.Value.{Value, Value-F, out-Value}

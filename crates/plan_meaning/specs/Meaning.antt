@@ -1,5 +1,5 @@
 -- What an expression gives and does, a case for each form.
-use Rattle.std.specs.Prelude.{◌≡◌, ℕ, zero, suc, ◌+◌, ◌-◌, Bool, true, false, not, ◌&&◌, if◌then◌else◌, ◌==◌, nat_le, ℤ, pos, negsuc, List, [], ◌∷◌, ◌++◌, length, take, reverse, slice_get, codes, Option, Some, None}
+use Rattle.std.specs.Prelude.{ℕ, zero, suc, ◌+◌, ◌-◌, Bool, true, false, not, ◌&&◌, if◌then◌else◌, ◌==◌, nat_le, ℤ, pos, negsuc, List, [], ◌∷◌, ◌++◌, take, reverse, slice_get, codes, Option, Some, None}
 use Rattle.std.specs.Option.{option_or}
 use Rattle.std.specs.Str.{bytes_eq}
 use Rattle.plan_base.specs.declared.name.Name.{Name}
@@ -13,7 +13,6 @@ use Rattle.plan_base.specs.declared.tree.Expr.{Expr, Expr-F, out-Expr}
 use Rattle.plan_base.specs.declared.tree.Clause.{Clause}
 use Rattle.plan_base.specs.declared.tree.Param.{Param}
 use Rattle.plan_base.specs.declared.tree.Svc.{Svc}
-use Rattle.plan_base.specs.declared.tree.Fun.{Fun}
 use Rattle.plan_base.specs.declared.tree.Program.{Program}
 use Rattle.plan_base.specs.declared.tree.Value.{Value, Value-F, out-Value}
 use Rattle.plan_base.specs.declared.tree.Value as value
@@ -26,7 +25,6 @@ use Rattle.service_api.specs.declared.router.Hop.{Hop}
 use Rattle.service_api.specs.declared.router.Hop.TheVariants.{To, NoService, NoRoute}
 use Rattle.service_api.specs.Routes.{hop, own_device, default_route}
 use Rattle.plan_meaning.specs.declared.binding.Binding.{Binding}
-use Rattle.plan_meaning.specs.declared.sent.Sent.{Sent}
 use Rattle.plan_meaning.specs.declared.stop.EvalStop.TheVariants.{WorkSpent}
 use Rattle.plan_meaning.specs.State.{VisitState}
 use Rattle.plan_meaning.specs.Run.{Run, ◌>>=◌, ◌>>◌, pure, stop, raise, quiet, gave, or_wrong, wrong, given_value, rescue, whole, serve, sends}

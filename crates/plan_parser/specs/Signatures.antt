@@ -1,5 +1,5 @@
 -- How the head of a declaration is read, with its first refusal.
-use Rattle.std.specs.Prelude.{Bool, List, [], ◌∷◌, Ok, Err, if◌then◌else◌}
+use Rattle.std.specs.Prelude.{List, [], ◌∷◌, Ok, Err, if◌then◌else◌}
 use Rattle.plan_base.specs.declared.limit.Limit.TheVariants as limits
 use Rattle.plan_base.specs.declared.tree.Ty.{Ty}
 use Rattle.plan_base.specs.declared.tree.Svc.{Svc}
@@ -7,7 +7,7 @@ use Rattle.plan_base.specs.declared.tree.Param.{Param}
 use Rattle.plan_lexer.specs.declared.token.Symbol.TheVariants as symbols
 use Rattle.plan_grammar.specs.declared.fault.ParseFault.TheVariants.{Expected}
 use Rattle.plan_grammar.specs.declared.fault.Wanted.TheVariants as wanted
-use Rattle.plan_grammar.specs.Ahead.{Front, Reader, ◌>>=◌, place, behind, next_kind, is_word, is_symbol, need_symbol, name_at}
+use Rattle.plan_grammar.specs.Ahead.{Front, Reader, ◌>>=◌, place, behind, is_word, is_symbol, need_symbol, name_at}
 use Rattle.plan_grammar.specs.Begins.{begins_type, begins_name}
 use Rattle.plan_grammar.specs.Types.{more, type_to}
 use Rattle.plan_parser.specs.declared.signature.Head.{Head}

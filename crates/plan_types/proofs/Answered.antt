@@ -1,5 +1,5 @@
 -- What the answer of the checking says of a program.
-use Rattle.std.proofs.Common.{◌≡◌, ◌≢◌, ◌∙◌, sym, refl, subst}
+use Rattle.std.proofs.Common.{◌≡◌, ◌≢◌, ◌∙◌, refl, subst}
 use Rattle.std.specs.Prelude.{Result, Ok, Err, IsErrAnd, MatchResult}
 use Rattle.plan_base.specs.declared.tree.Program.{Program}
 use Rattle.typing_rules.specs.declared.type_fault.TypeFault.{TypeFault}

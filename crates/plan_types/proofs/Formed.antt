@@ -1,13 +1,13 @@
 -- What a well-formed draft becomes is well formed.
 use Rattle.std.proofs.Common.{◌≡◌, ℕ, zero, suc, ◌+◌, ◌-◌, ◌==◌, ◌≤◌, ◌∙◌, sym, ap, refl, subst, max, Bool, true, false, ◌&&◌, if◌then◌else◌, List, [], ◌∷◌, ◌++◌, length, take, Option, Some, None, arith}
 use Rattle.std.specs.Prelude.{map, nat_le, is_some, slice_get, option_and_then}
-use Rattle.std.specs.List.{fold, sum_by, list_all, find, position_or_len}
+use Rattle.std.specs.List.{sum_by, list_all, position_or_len}
 use Rattle.std.specs.Option.{option_or}
 use Rattle.std.specs.Str.{bytes_eq}
 use Rattle.std.proofs.lemmas.List.{length-map, take-map}
 use Rattle.std.proofs.lemmas.List.Sums.{sum-map}
 use Rattle.std.proofs.lemmas.List.Folds.{list_all-append, list_all-map, find_at}
-use Rattle.std.proofs.lemmas.Bool.{leb-true, le-leb, eqb-true}
+use Rattle.std.proofs.lemmas.Bool.{leb-true, le-leb}
 use Rattle.plan_items.proofs.Bools.{and_left, and_right, and_both}
 use Rattle.plan_items.proofs.Lists.{largest_from}
 use Rattle.plan_base.specs.declared.name.Name.{Name}

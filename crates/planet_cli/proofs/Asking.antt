@@ -1,5 +1,5 @@
 -- The laws of `inject` and of `grow`.
-use Rattle.std.proofs.Common.{◌≡◌, ◌⊎◌, inl, inr, ℕ, IsTrue, List, Option, Some, Result, Ok, Err, refl, sym, ap, ◌∙◌, subst}
+use Rattle.std.proofs.Common.{◌≡◌, ◌⊎◌, inl, inr, ℕ, IsTrue, List, Some, Result, Ok, Err, refl, sym, ap, ◌∙◌, subst}
 use Rattle.network_plan.specs.declared.fleet.AskFile.{AskFile}
 use Rattle.node_io.specs.Causes.{HasRisen}
 use Rattle.node_io.specs.Outsides.{Outside}

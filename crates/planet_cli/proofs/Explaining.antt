@@ -1,5 +1,5 @@
 -- A fault comes only where its count rose.
-use Rattle.std.proofs.Common.{◌≡◌, ◌⊎◌, inl, inr, ℕ, List, Option, Some, None, Result, Ok, Err, refl, sym, ap, ◌∙◌, subst}
+use Rattle.std.proofs.Common.{◌≡◌, inl, inr, ℕ, List, Option, Some, None, Result, Ok, Err, sym, ap, subst}
 use Rattle.network_plan.specs.declared.fleet.AskFile.{AskFile}
 use Rattle.network_plan.specs.declared.fleet.Fleet.{Fleet}
 use Rattle.network_plan.specs.declared.serve.ServeConfig.{ServeConfig}

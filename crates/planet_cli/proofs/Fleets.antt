@@ -1,9 +1,8 @@
 -- The laws of `fleet`.
-use Rattle.std.proofs.Common.{◌≡◌, ◌⊎◌, inl, inr, ℕ, IsTrue, List, ◌++◌, length, take, drop, Option, Some, Result, Ok, Err, refl, sym, ap, ◌∙◌, subst}
+use Rattle.std.proofs.Common.{◌≡◌, ◌⊎◌, inl, inr, ℕ, IsTrue, List, ◌++◌, length, drop, Some, Result, Ok, Err, refl, sym, ap, ◌∙◌, subst}
 use Rattle.std.proofs.Math.Seq.{take-length}
 use Rattle.std.proofs.lemmas.List.{append-nil}
 use Rattle.network_plan.specs.declared.fleet.Fleet.{Fleet}
-use Rattle.network_plan.specs.declared.fleet.Kid.{Kid}
 use Rattle.node_io.specs.Causes.{HasRisen}
 use Rattle.node_io.specs.FileMaps.{FileMap}
 use Rattle.node_io.specs.FileStates.{FilesState}
@@ -30,7 +29,7 @@ use Rattle.planet_cli.specs.Does.{shop_in}
 use Rattle.planet_cli.specs.Calls.{Calls}
 use Rattle.planet_cli.specs.Laws.{IfEnded, IsEnded, RunsAtMost}
 use Rattle.planet_cli.proofs.Views.{says_one, Took, took, left, view}
-use Rattle.planet_cli.proofs.Giving.{call_gives_cause, fact_carries_over, found_is_given}
+use Rattle.planet_cli.proofs.Giving.{call_gives_cause, fact_carries_over}
 
 -- ---- ends
 

@@ -1,16 +1,13 @@
 -- What commands leave as it was.
-use Rattle.std.proofs.Common.{◌≡◌, ◌≢◌, ◌⊎◌, inl, inr, ℕ, IsTrue, List, Option, Some, None, Result, Ok, Err, refl, sym, ap, ◌∙◌, subst}
+use Rattle.std.proofs.Common.{◌≡◌, inl, ℕ, IsTrue, List, Option, Some, None, sym, ap, ◌∙◌, subst}
 use Rattle.node_io.specs.FileMaps.{FileMap, MayName}
 use Rattle.node_io.specs.FileStates.{FilesState}
 use Rattle.node_io.specs.Outsides.{Outside}
 use Rattle.node_io.specs.Sinks.{SinkState}
 use Rattle.call_causes.specs.declared.status.Cause.{Cause}
-use Rattle.call_causes.specs.declared.status.Cause.TheVariants.{Done, Usage, Refused, ReadFault, WriteFault, LinkFault, SpawnFault, NoMemory, NodesFailed}
 use Rattle.file_commands.specs.Said.{Said, nothing, outside, says}
 use Rattle.file_commands.specs.Takes.{Takes, TakesAndActs}
 use Rattle.file_commands.specs.Renders.{Prints}
-use Rattle.network_plan.specs.declared.fleet.AskFile.{AskFile}
-use Rattle.network_plan.specs.declared.fleet.Fleet.{Fleet}
 use Rattle.network_plan.specs.declared.serve.ServeConfig.{ServeConfig}
 use Rattle.run_commands.specs.Schedules.{replay_said}
 use Rattle.file_commands.specs.Checks.{check_said}

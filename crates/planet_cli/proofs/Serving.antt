@@ -1,16 +1,13 @@
 -- The laws of `node`, and of files that aren't taken.
-use Rattle.std.proofs.Common.{◌≡◌, ◌⊎◌, inl, inr, ℕ, IsTrue, List, [], Option, Some, None, Result, Ok, Err, MatchResult, refl, sym, ap, ◌∙◌, subst, arith}
-use Rattle.std.proofs.lemmas.List.{append-nil}
-use Rattle.network_plan.specs.declared.fleet.AskFile.{AskFile}
+use Rattle.std.proofs.Common.{◌≡◌, ◌⊎◌, inl, inr, ℕ, IsTrue, List, Option, Some, None, Result, Ok, Err, refl, sym, ap, ◌∙◌, subst}
 use Rattle.network_plan.specs.declared.event.LogEvent.{LogEvent}
 use Rattle.network_plan.specs.declared.serve.ServeConfig.{ServeConfig}
 use Rattle.node_io.specs.Causes.{HasRisen}
-use Rattle.node_io.specs.FileMaps.{FileMap, ChangesOnly, SavesFront, untouched}
+use Rattle.node_io.specs.FileMaps.{FileMap, ChangesOnly, SavesFront}
 use Rattle.node_io.specs.FileStates.{FilesState}
 use Rattle.node_io.specs.Outsides.{Outside}
 use Rattle.node_io.specs.Sinks.{SinkState}
 use Rattle.node_model.specs.State.{NodeState}
-use Rattle.serve_model.specs.Follow.{lost_after}
 use Rattle.fleet_run.specs.Asks.{ask_line}
 use Rattle.link_window.specs.declared.window.Version.{Version}
 use Rattle.link_window.specs.declared.window.Version.TheVariants.{One, Two}
@@ -23,7 +20,7 @@ use Rattle.node_serve.specs.declared.fault.ServeFault.{ServeFault}
 use Rattle.node_serve.specs.declared.fault.ServeFault.TheVariants as faults
 use Rattle.call_causes.specs.Causes.{Gives}
 use Rattle.call_causes.specs.declared.status.Cause.{Cause}
-use Rattle.call_causes.specs.declared.status.Cause.TheVariants.{Done, Usage, Refused, ReadFault, WriteFault, LinkFault, SpawnFault, NoMemory, NodesFailed}
+use Rattle.call_causes.specs.declared.status.Cause.TheVariants.{Done, WriteFault, LinkFault, NoMemory}
 use Rattle.file_commands.specs.Said.{Said, nothing, outside, says}
 use Rattle.file_commands.specs.Takes.{Untaken}
 use Rattle.live_commands.specs.Asks.{AsksAs, ask_said}

@@ -1,5 +1,5 @@
 -- The laws of `show`.
-use Rattle.std.proofs.Common.{◌≡◌, ℕ, IsTrue, List, Option, Some, subst}
+use Rattle.std.proofs.Common.{◌≡◌, ℕ, IsTrue, List, Some, subst}
 use Rattle.node_io.specs.Outsides.{Outside}
 use Rattle.node_io.specs.Sinks.{SinkState, Writes}
 use Rattle.packet_frame.specs.declared.frame.PlainStamped.{PlainStamped}

@@ -1,5 +1,5 @@
 -- A command of one text that is done wrote the text of its file.
-use Rattle.std.proofs.Common.{◌≡◌, ℕ, IsTrue, Bool, true, false, cond, nat_lt, List, length, Option, Some, None, Result, Ok, Err, refl, sym, ap, ◌∙◌, subst}
+use Rattle.std.proofs.Common.{◌≡◌, ℕ, IsTrue, Bool, true, false, cond, nat_lt, List, length, Option, Some, Ok, ap, subst}
 use Rattle.plan_base.specs.declared.tree.Program.{Program}
 use Rattle.program_text.specs.Texts.{program_of}
 use Rattle.network_plan.specs.declared.schedule.Schedule.{Schedule}
@@ -12,7 +12,6 @@ use Rattle.node_io.specs.Outsides.{Outside}
 use Rattle.node_io.specs.Sinks.{SinkState, Writes}
 use Rattle.call_causes.specs.declared.status.Cause.{Cause}
 use Rattle.call_causes.specs.declared.status.Cause.TheVariants.{Done}
-use Rattle.call_causes.specs.declared.status.Refusal.{Refusal}
 use Rattle.call_causes.specs.declared.status.Refusal.TheVariants.{TooLong}
 use Rattle.file_commands.specs.Said.{Said, outside, says, said_at, said_by, line_limit}
 use Rattle.file_commands.specs.Checks.{program_limit, program_said, check_said, sizes_text, sizes_of}

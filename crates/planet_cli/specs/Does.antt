@@ -1,5 +1,5 @@
 -- What a call does to the outside, and how it ends, by what its words ask for.
-use Rattle.std.specs.Prelude.{ℕ, ◌≡◌, Option, Some, None}
+use Rattle.std.specs.Prelude.{◌≡◌, Option, Some, None}
 use Rattle.node_io.specs.Outsides.{Outside}
 use Rattle.node_serve.specs.Desks.{Serving}
 use Rattle.call_causes.specs.declared.status.Cause.{Cause}

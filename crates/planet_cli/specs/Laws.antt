@@ -16,7 +16,7 @@ use Rattle.fleet_run.specs.declared.reports.FleetEnd.TheVariants.{Well, Failed}
 use Rattle.node_serve.specs.Desks.{Serving}
 use Rattle.node_serve.specs.Served.{Served, Begun}
 use Rattle.call_causes.specs.declared.status.Cause.{Cause}
-use Rattle.call_causes.specs.declared.status.Cause.TheVariants.{Done, Usage, Refused, ReadFault, WriteFault, LinkFault, SpawnFault, NoMemory, NodesFailed}
+use Rattle.call_causes.specs.declared.status.Cause.TheVariants.{Done, NodesFailed}
 use Rattle.file_commands.specs.Said.{Said, nothing, outside, says}
 use Rattle.audit_commands.specs.Audits.{MayNames}
 use Rattle.live_commands.specs.Nodes.{config_said, own_node, begun_config, begun_with}

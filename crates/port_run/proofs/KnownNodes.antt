@@ -36,7 +36,7 @@ use Rattle.node_model.specs.State.{Links, Queues, NodeState, routing_of, is_host
 use Rattle.settled_visit.specs.declared.settling.Settled.{Settled}
 use Rattle.settled_visit.specs.Settles.{handed_packet, telling_by, with_telling, visit_settled}
 use Rattle.node_model.specs.Visits.{evaluated_packet, visit_end, visit_of, services_end, services_after, around, visit_at, settled_at}
-use Rattle.node_model.specs.Node.{NodeStep, send_act, send_queues, sends_acts, sends_queues, has_room, packet_sending, visit_sends, handled_acts, visit_acts, visit_step, inject_step, next_serial, injected_packet, forward_by, forward_step, packet_step, advert_step, frame_step, drop_act, lane_room, mark, takes_as, stamped_as, stamped_step, tick_step, ticking, tick_sends, advert_sending, take_step, take_first, take_from, only_acts, onward, hearing}
+use Rattle.node_model.specs.Node.{NodeStep, send_act, send_queues, sends_acts, has_room, packet_sending, visit_sends, handled_acts, visit_acts, visit_step, inject_step, next_serial, injected_packet, forward_by, forward_step, packet_step, advert_step, frame_step, drop_act, lane_room, mark, takes_as, stamped_as, stamped_step, tick_step, ticking, tick_sends, advert_sending, take_step, take_first, take_from, only_acts, onward, hearing}
 use Rattle.node_model.specs.Fits.{QueuesKeep}
 use Rattle.node_model.proofs.Keeping.{Whatever, send_keeps, sends_keep, took}
 use Rattle.port_run.specs.Only.{Allowed, MaySend}

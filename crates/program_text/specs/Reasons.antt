@@ -1,7 +1,6 @@
 -- How a refusal of a text is printed.
-use Rattle.std.specs.Prelude.{ℕ, List, [], ◌∷◌, ◌++◌}
+use Rattle.std.specs.Prelude.{ℕ, List, [], ◌++◌}
 use lib.Chars.{codes}
-use Rattle.plan_base.specs.declared.limit.Limit.{Limit}
 use Rattle.plan_base.specs.declared.tree.Ty.{Ty}
 use Rattle.typing_rules.specs.declared.type_fault.TypeFault.{TypeFault}
 use Rattle.typing_rules.specs.declared.type_fault.TypeFault.TheVariants as ill

@@ -1,11 +1,10 @@
 -- What the two ends keep of each other.
-use Rattle.std.proofs.Common.{◌≡◌, ℕ, zero, suc, ◌+◌, ◌-◌, ◌≤◌, ◌<◌, Bool, true, false, ◌&&◌, if◌then◌else◌, List, [], ◌∷◌, ◌++◌, length, drop, Option, Some, None, refl, sym, ap, subst, ◌∙◌, arith, length-append}
+use Rattle.std.proofs.Common.{◌≡◌, ℕ, zero, suc, ◌+◌, ◌-◌, ◌≤◌, ◌<◌, Bool, true, false, ◌&&◌, if◌then◌else◌, List, [], ◌∷◌, ◌++◌, length, drop, Option, Some, None, refl, sym, ap, ◌∙◌, arith, length-append}
 use Rattle.std.specs.Prelude.{slice_get, nat_lt, nat_le, nat_eq}
 use Rattle.std.proofs.lemmas.List.{append_assoc, drop-append-le, drop-drop}
 use Rattle.std.proofs.lemmas.Bool.Decides.{nat_tests}
-use Rattle.std.proofs.lemmas.Option.{slice_get_within}
 use Rattle.reliable_ports.specs.Ends.{Body, Sending, Receiving, next_of, ready, kept_bodies, with_next, with_early, with_message, with_offer, with_ack, held_at, is_awaited, is_news, offered_count}
-use Rattle.reliable_ports.proofs.Slots.{Agrees, ready_goes, kept_agrees, more_agrees_behind, get_behind, get_dropped, get_more}
+use Rattle.reliable_ports.proofs.Slots.{Agrees, ready_goes, kept_agrees, more_agrees_behind, get_behind, get_dropped}
 
 -- the message with a number, from 1
 abbrev pub message : ℕ → List Body → Option Body

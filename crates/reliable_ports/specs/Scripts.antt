@@ -1,5 +1,5 @@
 -- Two ends with a network between them that loses, repeats and reorders.
-use Rattle.std.specs.Prelude.{◌≡◌, ◌≤◌, ℕ, zero, suc, Bool, if◌then◌else◌, List, [], ◌∷◌, ◌++◌, length, slice_get, Option, Some, None}
+use Rattle.std.specs.Prelude.{◌≡◌, ◌≤◌, ℕ, if◌then◌else◌, List, [], ◌∷◌, ◌++◌, length, slice_get, Option, Some, None}
 use Rattle.reliable_ports.specs.Ends.{Body, Sending, Receiving, no_offers, no_messages, is_full, with_offer, held_at, with_ack, next_of, with_message}
 
 -- a message as it was sent: its number and its body

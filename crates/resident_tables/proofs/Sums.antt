@@ -1,10 +1,6 @@
 -- The counts of a table's rows after a put and a removal.
-use Rattle.std.proofs.Common.{◌≡◌, ◌⊎◌, inl, inr, ℕ, zero, suc, ◌+◌, ◌-◌, ◌<◌, ◌≤◌, Bool, true, false, List, [], ◌∷◌, length, Option, Some, None, min, refl, sym, ap, ◌∙◌, subst, arith}
-use Rattle.std.specs.Prelude.{◌&&◌, nat_le, if◌then◌else◌}
-use Rattle.std.proofs.lemmas.Bool.Decides.{nat_tests}
-use Rattle.std.specs.List.{sum_by}
+use Rattle.std.proofs.Common.{◌≡◌, inl, inr, ℕ, ◌+◌, List, [], ◌∷◌, length, Option, Some, None, refl, sym, ap, ◌∙◌, subst, arith}
 use Rattle.std.proofs.lemmas.List.Sums.{sum_by-cons}
-use Rattle.plan_items.proofs.Options.{none-some, some-same}
 use Rattle.plan_items.specs.Keys.{Key, first_of_key, put, without, IsUnique}
 use Rattle.keyed_list.proofs.Orders.{same_or_not}
 use Rattle.keyed_list.proofs.Lists.{found_here, found_on, put_here, put_on, without_here, without_on, without_none}

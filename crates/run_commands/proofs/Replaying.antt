@@ -1,5 +1,5 @@
 -- What a file that is replayed says, by what was read of it.
-use Rattle.std.proofs.Common.{◌≡◌, ◌⊎◌, inl, inr, ℕ, Bool, true, false, if◌then◌else◌, List, Result, Ok, Err, refl, sym, ap, ◌∙◌, subst}
+use Rattle.std.proofs.Common.{◌≡◌, ◌⊎◌, inl, inr, ℕ, true, false, if◌then◌else◌, List, Result, Ok, Err, refl, sym, ap, ◌∙◌, subst}
 use Rattle.network_plan.specs.declared.schedule.Schedule.{Schedule}
 use Rattle.network_plan.specs.declared.node.Log.{Log}
 use Rattle.line_files.specs.declared.fault.LineFault.{LineFault}

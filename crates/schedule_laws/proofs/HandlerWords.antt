@@ -15,7 +15,6 @@ use Rattle.plan_lexer.specs.WordTokens.{word_kind, word_at}
 use Rattle.plan_lexer.proofs.LawLemmas.{tokens_or_refusal}
 use Rattle.plan_grammar.specs.Ahead.{next_kind, is_symbol, need_symbol}
 use Rattle.plan_parser.specs.Values.{args_of}
-use Rattle.program_text.specs.Scanned.{tokens_of}
 use Rattle.program_text.specs.Texts.{args_by, args_in, args_of_text}
 use Rattle.program_text.proofs.Scanning.{has_tokens, is_refused}
 use Rattle.line_files.specs.declared.fault.LineReason.{LineReason}

@@ -25,7 +25,6 @@ use Rattle.schedule_text.specs.declared.reading.BegunProgram.{BegunProgram}
 use Rattle.schedule_text.specs.declared.reading.Reading.{Reading}
 use Rattle.schedule_text.specs.declared.reading.Stage.{Stage}
 use Rattle.schedule_text.specs.declared.reading.Stage.TheVariants as stages
-use Rattle.schedule_text.specs.declared.reading.ScheduleFile.{ScheduleFile}
 use Rattle.schedule_text.specs.Answers.{IsRefused}
 use Rattle.schedule_text.specs.Parts.{is_called}
 use Rattle.schedule_text.specs.Schedules.{network_word, frames_line, host_line, link_line, begun_at, program_line, close_program, network_rest, network_line, event_line, with_more, staying, begun_by, step, finish, file_after, schedule_format, nothing_read, schedule_of}

@@ -25,7 +25,7 @@ use Rattle.network_plan.specs.declared.schedule.Cable.{Cable}
 use Rattle.network_plan.specs.Hosts.{host_of, dev_of, has_host, has_link}
 use Rattle.network_plan.specs.Rules.{IsLinkDevice, PackagesDiffer, KeepsLink, KeepsNetwork, KeepsInjection, MayArrive, KeepsEvent, weights, KeepsRules}
 use Rattle.line_files.specs.declared.fault.LineReason.{LineReason}
-use Rattle.line_files.specs.declared.fault.LineReason.TheVariants.{BadHeader, BadWord, UnknownHost, UnknownProgram, TwiceNamed, TooMany, BadArgument}
+use Rattle.line_files.specs.declared.fault.LineReason.TheVariants.{BadWord, UnknownHost, UnknownProgram, TwiceNamed, TooMany, BadArgument}
 use Rattle.line_files.specs.declared.fault.LineFault.{LineFault}
 use Rattle.line_files.specs.Lines.{lines, words}
 use Rattle.line_files.specs.Reads.{FileGives, word_at, end_at, allowed_or_reason}

@@ -1,9 +1,8 @@
 -- The places of steps that were refused.
-use Rattle.std.proofs.Common.{◌≡◌, ℕ, zero, suc, ◌+◌, ◌<◌, ◌≤◌, ◌==◌, Bool, true, false, ◌||◌, if◌then◌else◌, List, [], ◌∷◌, ◌++◌, length, refl, sym, ◌∙◌, ap, subst, arith, rules, tests, append-nil, append_assoc}
-use Rattle.network_plan.specs.declared.event.Event.{Event}
+use Rattle.std.proofs.Common.{◌≡◌, ℕ, ◌+◌, ◌<◌, ◌≤◌, true, false, ◌||◌, List, [], ◌∷◌, ◌++◌, length, refl, ◌∙◌, ap, subst, arith, tests, append_assoc}
 use Rattle.network_plan.specs.declared.event.LogEvent.{LogEvent}
 use Rattle.network_plan.specs.declared.event.LogEvent.TheVariants.{Step, Lost}
-use Rattle.serve_model.specs.Runs.{Running, is_among, is_refused, make, with_entry}
+use Rattle.serve_model.specs.Runs.{Running, is_among, is_refused}
 use Rattle.serve_model.specs.Follow.{Ext, is_lost, FitsAfter, Fits, lost_after, lost_places}
 
 -- what fits a log fits its fronts

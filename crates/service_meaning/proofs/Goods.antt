@@ -1,5 +1,5 @@
 -- Each service answers well from good rows and good arguments, and leaves good rows.
-use Rattle.std.proofs.Common.{◌≡◌, ℕ, ℤ, pos, negsuc, ◌==◌, ◌≤◌, Bool, true, false, nat_le, if◌then◌else◌, List, [], ◌∷◌, length, map, Option, Some, None, refl, sym, ap, ◌∙◌, subst, lit<}
+use Rattle.std.proofs.Common.{◌≡◌, ℕ, ℤ, pos, negsuc, ◌==◌, ◌≤◌, Bool, true, false, nat_le, if◌then◌else◌, List, [], ◌∷◌, length, map, Option, Some, None, refl, sym, subst, lit<}
 use Rattle.std.proofs.Math.Nat.{zero-lt-suc}
 use Rattle.std.specs.Prelude.{int_lt, Contains}
 use Rattle.plan_base.specs.declared.ids.Host.{Host}
@@ -21,7 +21,6 @@ use Rattle.service_api.specs.declared.router.RouteRow.{RouteRow}
 use Rattle.service_api.specs.declared.router.Hop.{Hop}
 use Rattle.service_api.specs.declared.router.Hop.TheVariants.{To, NoService, NoRoute}
 use Rattle.service_api.specs.declared.scheme.SchemeTy.{SchemeTy}
-use Rattle.service_api.specs.declared.scheme.SchemeTy.TheVariants.{Any, Is}
 use Rattle.service_api.specs.Routes.{hop, default_route}
 use Rattle.service_api.specs.Schemes.{instance, AllStandFor, IsInstance, stands_for}
 use Rattle.service_api.specs.Services.{Rows, Served, IsGoodServe, IsGoodServed, IsGoodValue, AreGoodValues, AreGoodRows, IsGoodOptionNote, MayRaise, own_exceptions, exceptions_among, refused_call}

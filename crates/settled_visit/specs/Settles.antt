@@ -1,6 +1,6 @@
 -- What is made of a visit's end: the packet's handler goes on with what it sends, and a visit without a value is told to the
 -- source. Names are tested to be names, since trees may have any bytes there; those of a program always are.
-use Rattle.std.specs.Prelude.{◌≡◌, ℕ, ◌==◌, if◌then◌else◌, List, [], ◌∷◌, ◌++◌, map, codes, Option, Some, None}
+use Rattle.std.specs.Prelude.{◌≡◌, ℕ, ◌==◌, if◌then◌else◌, [], ◌∷◌, ◌++◌, map, codes, Option, Some, None}
 use Rattle.std.specs.Option.{option_to_list}
 use Rattle.plan_base.specs.declared.name.Name.{Name}
 use Rattle.plan_base.specs.declared.text.Text.{Text}

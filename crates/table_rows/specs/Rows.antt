@@ -1,5 +1,5 @@
 -- Rows of a table: what a list of them is after a put, a removal and a tick, what a look-up finds, and the limits.
-use Rattle.std.specs.Prelude.{◌≡◌, ℕ, ◌+◌, Bool, ◌&&◌, if◌then◌else◌, nat_lt, nat_le, ℤ, pos, ◌+ℤ◌, List, length, filter, Option, Some, None}
+use Rattle.std.specs.Prelude.{ℕ, ◌+◌, Bool, ◌&&◌, if◌then◌else◌, nat_lt, nat_le, ℤ, pos, ◌+ℤ◌, List, length, filter, Option, Some, None}
 use Rattle.std.specs.List.{sum_by}
 use Rattle.std.specs.Ordering.{int_eq}
 use Rattle.plan_items.specs.Keys.{Key, first_of_key, put, without}

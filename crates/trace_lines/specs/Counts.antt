@@ -2,7 +2,7 @@
 use Rattle.std.specs.Prelude.{ℕ, Bool, true, false, List}
 use Rattle.std.specs.List.{count_by}
 use Rattle.trace_lines.specs.declared.line.Line.{Line}
-use Rattle.trace_lines.specs.declared.line.Line.TheVariants.{Arrived, Gave, Raised, Spent, Dropped, Refused, Wire, WireShown, Lost, LostAdvert}
+use Rattle.trace_lines.specs.declared.line.Line.TheVariants.{Gave, Raised, Spent, Wire, WireShown, Lost, LostAdvert}
 
 -- a frame went onto the wire
 abbrev pub is_frame : Line → Bool

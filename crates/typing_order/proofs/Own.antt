@@ -1,5 +1,5 @@
 -- No refusal of the checking is `NoMemory`.
-use Rattle.std.proofs.Common.{◌≡◌, ◌≢◌, ℕ, zero, suc, Bool, true, false, not, ◌||◌, List, [], ◌∷◌, ◌++◌, map, length, Option, Some, None, Result, Ok, Err, subst, refl}
+use Rattle.std.proofs.Common.{◌≡◌, ◌≢◌, ℕ, zero, suc, Bool, true, false, not, ◌||◌, List, [], ◌∷◌, ◌++◌, length, Option, Some, None, Result, Ok, Err, subst}
 use Rattle.std.specs.Prelude.{if◌then◌else◌, ◌==◌, nat_le, is_some, option_and_then}
 use Rattle.std.specs.List.{list_any}
 use Rattle.plan_base.specs.declared.name.Name.{Name}
@@ -12,7 +12,6 @@ use Rattle.plan_base.specs.declared.tree.Clause.{Clause}
 use Rattle.plan_base.specs.declared.tree.Svc.{Svc}
 use Rattle.plan_base.specs.declared.tree.Fun.{Fun}
 use Rattle.plan_base.specs.declared.tree.Program.{Program}
-use Rattle.plan_base.specs.declared.tree.Place.{Place}
 use Rattle.plan_base.specs.declared.tree.Place.TheVariants.{Node, Decl}
 use Rattle.typing_rules.specs.declared.type_fault.TypeFault.{TypeFault}
 use Rattle.typing_rules.specs.declared.type_fault.TypeFault.TheVariants.{UnknownName, NotEarlier, Mismatch, Arity, NeedsType, WrongShape, TwiceNamed, TypeTooDeep, CodeTooLarge, NoMemory}

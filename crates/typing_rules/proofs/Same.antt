@@ -1,5 +1,5 @@
 -- The test for equal values is true exactly where they are equal.
-use Rattle.std.proofs.Common.{◌≡◌, Bool, true, false, ◌&&◌, Decides, refl, sym, ap, subst}
+use Rattle.std.proofs.Common.{◌≡◌, true, Decides, refl, ap, subst}
 use Rattle.std.proofs.lemmas.Bool.{eqb-true, eq-eqb, false≢true}
 use Rattle.std.specs.Cmp.Derive.{both_true}
 use Rattle.plan_items.proofs.Bools.{and_left, and_right}

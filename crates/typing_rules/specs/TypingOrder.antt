@@ -1,6 +1,6 @@
 -- The checking of a program in its order: the conditions of each form one after the other, so that the first that fails is
 -- the answer, with its place. On the way the types of `[]` and `raise` that are missing are taken from the wanted types.
-use Rattle.std.specs.Prelude.{ℕ, zero, suc, ◌+◌, ◌==◌, ◌++◌, min, Bool, true, false, not, ◌&&◌, ◌||◌, if◌then◌else◌, List, [], ◌∷◌, map, take, length, slice_get, Option, Some, None, is_some, option_and_then, Result, Ok, Err, nat_le}
+use Rattle.std.specs.Prelude.{ℕ, zero, suc, ◌+◌, ◌==◌, ◌++◌, min, not, ◌||◌, if◌then◌else◌, List, [], ◌∷◌, map, take, length, slice_get, Option, Some, None, is_some, option_and_then, Result, Ok, Err, nat_le}
 use Rattle.std.specs.List.{list_any}
 use Rattle.plan_base.specs.declared.name.Name.{Name}
 use Rattle.plan_base.specs.declared.prim.Primitive.{Primitive}

@@ -1,5 +1,5 @@
 -- What a family has paid and what it still has, counted anew from the history and the network.
-use Rattle.std.specs.Prelude.{◌≡◌, ℕ, ◌+◌, ◌*◌, ◌≤◌, ◌<◌, Bool, true, false, ◌==◌, if◌then◌else◌, List, [], ◌∷◌, ◌++◌, sum_by, slice_get, Option, None, Some, All}
+use Rattle.std.specs.Prelude.{◌≡◌, ℕ, ◌+◌, ◌*◌, ◌≤◌, ◌<◌, Bool, false, ◌==◌, if◌then◌else◌, List, [], ◌∷◌, ◌++◌, sum_by, slice_get, Option, None, Some, All}
 use Rattle.std.specs.List.{list_any}
 use Rattle.plan_base.specs.declared.ids.Family.{Family}
 use Rattle.packet_frame.specs.declared.frame.PlainFrame.{PlainFrame}

@@ -12,7 +12,7 @@ use Rattle.link_window.specs.declared.window.Took.{Took}
 use Rattle.link_window.specs.declared.window.Took.TheVariants.{TooOld}
 use Rattle.link_window.specs.Seen.{is_fresh}
 use Rattle.network_plan.specs.declared.event.WorldEvent.{WorldEvent}
-use Rattle.network_plan.specs.declared.event.WorldEvent.TheVariants.{Inject, Send, Deliver, Repeat, Lose, Tick, Raw}
+use Rattle.network_plan.specs.declared.event.WorldEvent.TheVariants.{Inject, Send, Repeat, Raw}
 use Rattle.network_plan.specs.declared.schedule.Cable.{Cable}
 use Rattle.chunk_types.specs.Chunks.{IsCheckedChunk}
 use Rattle.network_plan.specs.Rules.{IsLinkDevice, MayName, KeepsInjection}

@@ -1,4 +1,3 @@
-use Rattle.std.proofs.Common.{ap, ◌∙◌}
 use Rattle.dv_routing.specs.Routing.{better}
 use Rattle.dv_routing.proofs.Tables.{lane_next, lanes_past}
 use Rattle.dv_routing.proofs.table.best_route.Goals as goal

@@ -1,7 +1,3 @@
-use Rattle.std.proofs.Common.{refl}
-use Rattle.fleet_audit.specs.Pasts.{injected_families}
-use Rattle.fleet_audit.proofs.TallyLaws.{none_tallied}
-use Rattle.fleet_audit.proofs.ActLaws.{no_counts}
 use Rattle.fleet_audit.proofs.PastLaws.{nothing_held}
 use Rattle.fleet_audit.proofs.reckoning.nothing_reckoned.Goals as goal
 

@@ -1,4 +1,4 @@
-use Rattle.std.proofs.Common.{◌≡◌, Option, Some, None, sym, ◌∙◌, ap}
+use Rattle.std.proofs.Common.{◌≡◌, Some, None, sym, ◌∙◌}
 use Rattle.ledger_audit.specs.Crossings.{Over}
 use Rattle.ledger_audit.specs.Audits.{misfit}
 use Rattle.fleet_audit.specs.Ledgers.{over_in}

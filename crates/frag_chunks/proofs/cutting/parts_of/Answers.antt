@@ -1,4 +1,4 @@
-use Rattle.std.proofs.Common.{◌≡◌, ◌++◌, ◌+◌, ◌-◌, List, sym, ap, ◌∙◌, subst, [], ◌∷◌}
+use Rattle.std.proofs.Common.{◌++◌, ◌+◌, ◌-◌, List, ap, ◌∙◌, [], ◌∷◌}
 use Rattle.frag_chunks.specs.declared.cutting.Part.{Part}
 use Rattle.frag_chunks.specs.Parts.{parts_from}
 use Rattle.frag_chunks.proofs.Shares.{part_step}

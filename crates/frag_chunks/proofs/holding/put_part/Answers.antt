@@ -1,4 +1,3 @@
-use Rattle.std.proofs.Common.{ap, ◌∙◌, arith}
 use Rattle.frag_chunks.specs.Saying.{as_said}
 use Rattle.frag_chunks.proofs.Judging.{kept_put, kept_not_spoiled}
 use Rattle.frag_chunks.specs.declared.holding.Holding.TheVariants as holding

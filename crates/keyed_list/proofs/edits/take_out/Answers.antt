@@ -1,5 +1,4 @@
-use Rattle.std.proofs.Common.{◌≡◌, ◌∙◌, List, map, ap, subst, sym, arith}
-use Rattle.std.specs.List.{remove, slice_index}
+use Rattle.std.proofs.Common.{arith}
 use Rattle.plan_items.specs.Keys.{IsUnique}
 use Rattle.keyed_list.specs.Index.{IsIndex, place_moved_up}
 use Rattle.keyed_list.proofs.ByIndex.{unique_taken, index_taken}

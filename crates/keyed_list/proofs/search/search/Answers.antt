@@ -1,4 +1,4 @@
-use Rattle.std.proofs.Common.{◌≡◌, ◌+◌, ◌-◌, ◌/◌, map, sym, ap, ◌∙◌, arith}
+use Rattle.std.proofs.Common.{◌+◌, ◌-◌, ◌/◌, map, sym, ap, ◌∙◌, arith}
 use Rattle.keyed_list.specs.Order.{key_cmp}
 use Rattle.keyed_list.proofs.Orders.{key_cmp_equal}
 use Rattle.keyed_list.proofs.Indexes.{narrow_up, narrow_down}

@@ -1,4 +1,4 @@
-use Rattle.std.proofs.Common.{◌≡◌, ◌++◌, take}
+use Rattle.std.proofs.Common.{◌++◌, take}
 use Rattle.bound_ledger.specs.Rows.{OneEach}
 use Rattle.run_text.specs.Printed.{all_printed}
 use Rattle.net_world.specs.Printing.{IsWaiting}

@@ -1,4 +1,4 @@
-use Rattle.std.proofs.Common.{◌+◌, ◌-◌, ◌≤◌, length, take, drop, arith, length-drop}
+use Rattle.std.proofs.Common.{◌-◌, length, take, drop}
 use Rattle.node_io.specs.Sinks.{WritesSome}
 use Rattle.node_io.proofs.SinkLaws.{writes_more, some_within}
 use Rattle.node_io.proofs.write.put_all.Goals as goal

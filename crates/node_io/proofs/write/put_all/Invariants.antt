@@ -1,4 +1,4 @@
-use Rattle.std.proofs.Common.{◌≡◌, ◌-◌, ◌≤◌, length, take}
+use Rattle.std.proofs.Common.{◌-◌, ◌≤◌, length, take}
 use Rattle.node_io.specs.Sinks.{Writes}
 use Rattle.node_io.proofs.write.put_all.Given as goal
 

@@ -1,4 +1,4 @@
-use Rattle.std.proofs.Common.{◌+◌, ◌-◌, ◌≤◌, IsTrue, length, take, drop, subst, sym}
+use Rattle.std.proofs.Common.{◌-◌, IsTrue, length, take, drop, subst, sym}
 use Rattle.node_io.specs.FileStates.{AddsSome}
 use Rattle.node_io.proofs.FileWrites.{adds_more, some_added}
 use Rattle.node_io.proofs.write.put_file.Goals as goal

@@ -1,4 +1,4 @@
-use Rattle.std.proofs.Common.{◌≡◌, ◌-◌, ◌≤◌, length, take, IsTrue}
+use Rattle.std.proofs.Common.{◌-◌, ◌≤◌, length, take, IsTrue}
 use Rattle.node_io.specs.FileStates.{Adds}
 use Rattle.node_io.proofs.write.put_file.Given as goal
 

@@ -1,4 +1,3 @@
-use Rattle.std.proofs.Common.{◌≡◌}
 use Rattle.std.proofs.lemmas.Result.{err_from_is_err_and}
 use Rattle.node_parts.proofs.ReadingLaws.{first_accepted, first_refused}
 use Rattle.node_parts.proofs.reading.read_first.Goals as goal

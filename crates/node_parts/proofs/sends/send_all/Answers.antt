@@ -1,6 +1,6 @@
-use Rattle.std.proofs.Common.{◌≡◌, ◌+◌, ◌++◌, [], ◌∷◌, length, refl, sym, ap, ◌∙◌, append_assoc, arith}
+use Rattle.std.proofs.Common.{◌++◌, [], ◌∷◌, refl, sym, ap, ◌∙◌, append_assoc, arith}
 use Rattle.std.proofs.lemmas.List.{append-nil, length_push}
-use Rattle.node_model.specs.Node.{sends_acts, sends_queues}
+use Rattle.node_model.specs.Node.{sends_acts}
 use Rattle.node_parts.proofs.SendLaws.{sends_acts_none, sends_queues_none, sends_acts_more, sends_queues_more}
 use Rattle.node_parts.proofs.sends.send_all.Goals as goal
 

@@ -1,4 +1,4 @@
-use Rattle.std.proofs.Common.{◌≡◌, ◌-◌, ◌≤◌, length, replicate}
+use Rattle.std.proofs.Common.{◌-◌, ◌≤◌, length, replicate}
 use Rattle.link_window.specs.Seen.{nothing_seen}
 use Rattle.node_parts.specs.Windows.{AllSeen}
 use Rattle.node_parts.proofs.windows.nine_windows.Given as goal

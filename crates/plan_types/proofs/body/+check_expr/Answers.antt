@@ -1,4 +1,4 @@
-use Rattle.std.proofs.Common.{◌≡◌, ℕ, ◌-◌, ap, refl, arith, suc}
+use Rattle.std.proofs.Common.{◌≡◌, ap, refl, arith}
 use Rattle.std.specs.Option.{option_copied}
 use Rattle.typing_rules.specs.TypingOrder.{checked_expression}
 use Rattle.plan_types.proofs.Loops.{deeper}

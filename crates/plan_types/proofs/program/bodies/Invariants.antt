@@ -1,4 +1,4 @@
-use Rattle.std.proofs.Common.{◌≡◌, ◌++◌, [], length}
+use Rattle.std.proofs.Common.{◌≡◌, [], length}
 use Rattle.typing_rules.specs.TypingOrder.{bodies_from}
 use Rattle.plan_types.proofs.program.bodies.Given as goal
 

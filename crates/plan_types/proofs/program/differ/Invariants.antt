@@ -1,4 +1,4 @@
-use Rattle.std.proofs.Common.{◌≡◌, ◌++◌, [], length}
+use Rattle.std.proofs.Common.{◌≡◌, [], length}
 use Rattle.typing_rules.specs.Typing.{param_names}
 use Rattle.typing_rules.specs.TypingNames.{are_new}
 use Rattle.plan_types.proofs.program.differ.Given as goal

@@ -1,4 +1,4 @@
-use Rattle.std.proofs.Common.{◌≡◌, ◌++◌, [], length}
+use Rattle.std.proofs.Common.{◌≡◌, ◌++◌, length}
 use Rattle.typing_rules.specs.TypingNames.{built_in}
 use Rattle.typing_rules.specs.TypingOrder.{exceptions_from}
 use Rattle.plan_types.proofs.program.exceptions.Given as goal

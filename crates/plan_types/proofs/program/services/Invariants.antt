@@ -1,4 +1,4 @@
-use Rattle.std.proofs.Common.{◌≡◌, ◌++◌, [], length}
+use Rattle.std.proofs.Common.{◌≡◌, [], length}
 use Rattle.typing_rules.specs.TypingOrder.{services_from}
 use Rattle.plan_types.proofs.program.services.Given as goal
 

@@ -1,5 +1,4 @@
-use Rattle.std.proofs.Common.{◌≡◌, ◌++◌, length, ◌-◌}
-use Rattle.std.specs.Prelude.{replicate, None}
+use Rattle.std.proofs.Common.{◌≡◌, length}
 use Rattle.std.specs.VecDeque.{deque_capacity}
 use Rattle.reliable_ports.specs.Ends.{padded_bodies}
 use Rattle.reliable_ports.proofs.ends.pad.Given as goal

@@ -1,4 +1,4 @@
-use Rattle.std.proofs.Common.{◌∙◌, ◌+◌, ◌-◌, length, arith}
+use Rattle.std.proofs.Common.{◌∙◌, ◌+◌, length, arith}
 use Rattle.grow_run.proofs.Summing.{summary_start, summary_next, summary_all, room_less}
 use Rattle.grow_run.proofs.summary.Summary.count.Goals as goal
 

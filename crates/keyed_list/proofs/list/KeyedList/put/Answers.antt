@@ -1,6 +1,6 @@
 use Rattle.keyed_list.proofs.ByIndex.{spot_here, swapped_kept, swapped_is, added_kept, added_is}
 use Rattle.keyed_list.proofs.list.KeyedList.put.Goals as goal
-use Rattle.std.proofs.Common.{Ok, Err, sym, ap, ◌∙◌}
+use Rattle.std.proofs.Common.{Ok, Err, ap, ◌∙◌}
 use Rattle.plan_items.specs.Keys.{put}
 
 pub invariant_of-self : goal.invariant_of-self

@@ -1,4 +1,3 @@
-use Rattle.std.proofs.Common.{◌≡◌, refl}
 use Rattle.node_io.proofs.FileMapLemmas.{ChangesOnly-written, ChangesOnly-added}
 use Rattle.node_io.proofs.file_list.FileList.clear.Goals as goal
 

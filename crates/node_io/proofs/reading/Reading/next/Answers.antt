@@ -1,4 +1,4 @@
-use Rattle.std.proofs.Common.{◌≡◌, ◌+◌, ◌++◌, take, drop, rules, arith}
+use Rattle.std.proofs.Common.{rules, arith}
 use Rattle.node_io.proofs.PieceLemmas.{left_after}
 use Rattle.node_io.proofs.reading.Reading.next.Goals as goal
 

@@ -1,4 +1,4 @@
-use Rattle.std.proofs.Common.{◌≡◌, ◌∙◌, ap, subst}
+use Rattle.std.proofs.Common.{◌∙◌, ap, subst}
 use Rattle.std.specs.Option.{option_copied}
 use Rattle.plan_items.specs.Keys.{IsUnique}
 use Rattle.table_rows.specs.Rows.{row_key, found_row}

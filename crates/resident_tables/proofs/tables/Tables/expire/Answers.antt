@@ -1,4 +1,4 @@
-use Rattle.std.proofs.Common.{◌≡◌, ℕ, true, min, ◌∙◌, ap, sym, subst}
+use Rattle.std.proofs.Common.{◌≡◌, true, min, ◌∙◌, ap, sym, subst}
 use Rattle.table_rows.specs.Rows.{rows_size, fits, living}
 use Rattle.resident_tables.specs.Expiries.{AllStay, least_expiry}
 use Rattle.resident_tables.specs.Tables.{Table}
