@@ -24,7 +24,7 @@ use Rattle.typing_rules.specs.TypingOrder.{annotated_program}
 use Rattle.plan_base.proofs.SizeLaws.{type_depth_out}
 use Rattle.plan_base.proofs.FormLaws.{formed_type_out, formed_expr_out}
 use Rattle.typing_rules.proofs.Programs.{annotated_complete, fills_itself, depths_kept}
-use Rattle.plan_types.specs.Kept.{IsChecked}
+use Rattle.checked_chunks.specs.Kept.{IsChecked}
 use Rattle.plan_lexer.specs.declared.token.Key.TheVariants as key
 use Rattle.printed_forms.specs.Printed.{program_text}
 use Rattle.checked_texts.specs.Proper.{AreBytes, base_key, IsProperType, AreProperTypes, IsReadableType, IsProperCatch, IsProper, AreProper, AreProperClauses, AllProper, IsProperSvc, IsProperParam, IsProperFun, IsProperProgram}

@@ -16,7 +16,7 @@ use Rattle.typing_rules.specs.Typing.{HasType, HaveTypes, AllHaveType, IsTypedCh
 use Rattle.typing_rules.specs.Typing as y
 use Rattle.plan_base.proofs.SizeLaws.{type_depth_out, largest_by-map}
 use Rattle.plan_base.proofs.FormLaws.{formed_value_out, formed_chunk_is}
-use Rattle.chunk_types.specs.Chunks.{IsCheckedChunk}
+use Rattle.checked_chunks.specs.Kept.{IsCheckedChunk}
 use Rattle.plan_parser.specs.Values.{value_of}
 use Rattle.plan_parser.specs.ReadTexts.{Reads}
 use Rattle.printed_forms.specs.Printed.{value_text}

@@ -6,9 +6,9 @@ ghost use Rattle.program_text.specs.Texts.{Says, program_of};
 ghost use Rattle.checked_texts.specs.Exact.{function_exact, program_exact};
 
 use crate::expressions::read_expr;
+use checked_chunks::Checked;
 use chunk_ranges::{range_name, range_names, range_params, range_services};
 use plan_base::{Fun, Program};
-use plan_types::Checked;
 
 /// Reads the names, numbers and bytes of a function.
 fn read_function(f: &Fun)

@@ -8,8 +8,8 @@ ghost use Rattle.checked_texts.specs.Exact.{value_exact};
 ghost use Rattle.checked_texts.specs.ReadBack.{IsReadBack};
 
 use crate::expressions::read_blob;
+use checked_chunks::CheckedChunk;
 use chunk_ranges::{range_dev, range_host, range_int};
-use chunk_types::CheckedChunk;
 use plan_base::Value;
 
 /// Reads the numbers and bytes of a value outside of its chunks.

@@ -15,7 +15,8 @@ use Rattle.plan_base.specs.SameTypes.{same_type}
 use Rattle.typing_rules.specs.TypingOrder.{fun_of, annotated_program}
 use Rattle.chunk_types.specs.declared.fault.Ill.{Ill}
 use Rattle.chunk_types.specs.declared.fault.Ill.TheVariants.{Count, Argument}
-use Rattle.chunk_types.specs.Chunks.{fit_all, fits_layer, fits, ill_from, ill_with, ill_call, ill_code, ill_level, sound_level, paired_right, is_small_chunk, sound, right, illness, is_right_chunk}
+use Rattle.checked_chunks.specs.Kept.{is_small_chunk}
+use Rattle.chunk_types.specs.Chunks.{fit_all, fits_layer, fits, ill_from, ill_with, ill_call, ill_code, ill_level, sound_level, paired_right, sound, right, illness, is_right_chunk}
 
 fit_all-map : (f : Value → Ty → Bool) (vs : List Value) (ts : List Ty) → fit_all (λ g. g) (map f vs) ts ≡ fit_all f vs ts
 fit_all-map f [] [] = refl

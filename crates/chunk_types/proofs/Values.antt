@@ -25,9 +25,9 @@ use Rattle.plan_base.specs.SameTypes.{same_type}
 use Rattle.typing_rules.specs.TypingOrder.{fun_of, annotated_program}
 use Rattle.plan_base.proofs.SameTypes.{out_same, same_type_true, same_type_itself}
 use Rattle.typing_rules.proofs.Programs.{annotated_sound, annotated_complete, fills_itself, fills_full, depths_kept}
-use Rattle.plan_types.specs.Kept.{IsChecked}
+use Rattle.checked_chunks.specs.Kept.{IsChecked, is_small_chunk, IsCheckedChunk}
 use Rattle.chunk_types.specs.declared.fault.Ill.TheVariants.{Count, Argument}
-use Rattle.chunk_types.specs.Chunks.{fit_all, fits_layer, fits, ill_from, ill_with, ill_call, ill_code, sound_level, sound, right, illness, is_small_chunk, is_right_chunk, as_fault, or_large, refusal_of, IsCheckedChunk}
+use Rattle.chunk_types.specs.Chunks.{fit_all, fits_layer, fits, ill_from, ill_with, ill_call, ill_code, sound_level, sound, right, illness, is_right_chunk, as_fault, or_large, refusal_of}
 use Rattle.chunk_types.proofs.Levels.{fits_out, sound_out, illness_is}
 
 -- ---- parts are within the limits of the whole

@@ -1,5 +1,5 @@
 -- Which values have the shape of a type, and what comes first that is wrong with a chunk.
-use Rattle.std.specs.Prelude.{ℕ, ◌+◌, ◌==◌, min, Bool, true, false, not, ◌&&◌, if◌then◌else◌, List, [], ◌∷◌, length, Option, Some, None, is_some, Result, Ok, Err, nat_le}
+use Rattle.std.specs.Prelude.{ℕ, ◌+◌, ◌==◌, min, Bool, true, false, not, ◌&&◌, if◌then◌else◌, List, [], ◌∷◌, length, Option, Some, None, is_some, Result, Ok, Err}
 use Rattle.std.specs.List.{list_all}
 use Rattle.plan_base.specs.declared.name.Name.{Name}
 use Rattle.plan_base.specs.declared.tree.Ty.{Ty, Ty-F, out-Ty}
@@ -9,12 +9,10 @@ use Rattle.plan_base.specs.declared.tree.Value.{Value, Value-F, fold-Value, para
 use Rattle.plan_base.specs.declared.tree.Chunk.{Chunk, Chunk-F}
 use Rattle.typing_rules.specs.declared.type_fault.TypeFault.{TypeFault}
 use Rattle.plan_base.specs.Trees.{TyLayer}
-use Rattle.plan_base.specs.Sizes.{chunk_weight, chunk_nesting}
-use Rattle.plan_base.specs.WellFormed.{IsWellFormedChunk, ChunkHasTypes}
-use Rattle.typing_rules.specs.Typing.{IsTypedChunk}
 use Rattle.typing_rules.specs.TypingNames.{param_types}
 use Rattle.plan_base.specs.SameTypes.{same_type}
 use Rattle.typing_rules.specs.TypingOrder.{fun_of, annotated_program}
+use Rattle.checked_chunks.specs.Kept.{is_small_chunk}
 use Rattle.chunk_types.specs.declared.fault.Ill.{Ill}
 use Rattle.chunk_types.specs.declared.fault.Ill.TheVariants.{Code, Entry, Count, Argument}
 use Rattle.chunk_types.specs.declared.fault.ChunkFault.{ChunkFault}
@@ -75,10 +73,6 @@ sound_level sound chunk (Value-F.List _ vs) = list_all sound vs
 sound_level sound chunk (Value-F.Tuple vs) = list_all sound vs
 sound_level sound chunk _ = true
 
--- a chunk within the limits of size
-abbrev pub is_small_chunk : Chunk → Bool
-is_small_chunk c = nat_le (1 + chunk_weight c) 16384 && nat_le (chunk_nesting c) 4
-
 -- an argument is right where its shape has the type and no chunk inside it is too large or ill
 abbrev pub paired_right : Value × Bool → Ty → Bool
 paired_right v t = fits v.0 t && v.1
@@ -111,9 +105,3 @@ or_large false None = Some fault.TooLarge
 
 abbrev pub refusal_of : Chunk → Option ChunkFault
 refusal_of c = or_large (is_small_chunk c) (as_fault (ill_call right c.code c.entry c.args))
-
--- what a chunk that was checked keeps: it is typed and well formed, and no type is missing in it
-pub record IsCheckedChunk (c : Chunk) : Type 0 where
-  pub typed : IsTypedChunk c
-  pub formed : IsWellFormedChunk c
-  pub full : ChunkHasTypes c

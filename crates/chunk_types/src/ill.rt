@@ -3,26 +3,28 @@
 ghost use Rattle.std.specs.Prelude.{◌≡◌, IfOk, IsTrue, length};
 ghost use Rattle.std.specs.List.{list_all};
 ghost use Rattle.typing_rules.specs.TypingNames.{param_types};
-ghost use Rattle.plan_types.specs.Kept.{IsChecked};
+ghost use Rattle.checked_chunks.specs.Kept as kept;
+ghost use Rattle.checked_chunks.specs.Kept.{IsChecked};
 ghost use Rattle.chunk_types.specs.Chunks as spec;
 
 use crate::fault::Ill;
 use crate::shape::fits;
+use checked_chunks::{Checked, fun_of};
 use plan_base::{Chunk, Name, NoMemory, Param, Program, Ty, Value};
 use plan_equality::Same;
 use plan_sizes::{chunk_nesting, chunk_weight};
-use plan_types::{Checked, first_refusal, fun_of};
+use plan_types::first_refusal;
 use std::alloc::Global;
 
 /// Whether a chunk is within the limits of size. Takes no memory.
 pub fn is_small(chunk: &Chunk) -> bool
-    ensures { result ≡ spec.is_small_chunk chunk.now }
+    ensures { result ≡ kept.is_small_chunk chunk.now }
 {
     chunk_weight(chunk) < 16384 && chunk_nesting(chunk) <= 4
 }
 
 /// Whether a program is the same as one that was checked.
-#[tactic(auto, using(crate::proofs::Known::checked_too))]
+#[tactic(auto, using(checked_chunks::proofs::CodeKept::checked_too))]
 fn is_known(known: Option<&Checked>, code: &Program) -> bool
     ensures { IsTrue result → IsChecked code.now }
 {

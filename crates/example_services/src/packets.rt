@@ -6,10 +6,10 @@ ghost use Rattle.program_text.specs.Texts.{program_of};
 ghost use Rattle.example_services.specs.Packets.{chunk_with, first_packet, IsPacketOf};
 
 use crate::fault::PacketFault;
-use chunk_types::{CheckedChunk, CheckedPacket, ChunkFault, chunk_of};
+use checked_chunks::{Checked, CheckedChunk, CheckedPacket};
+use chunk_types::{ChunkFault, chunk_of};
 use plan_base::{Family, Host, Name};
 use plan_items::Items;
-use plan_types::Checked;
 use program_text::{TextFault, read_program};
 use remote_calls::default_route;
 use std::alloc::Global;

@@ -5,7 +5,7 @@ ghost use Rattle.plan_meaning.specs.Visit.{bounds};
 ghost use Rattle.node_core.specs.Turns.{IsResting, closed_services, is_spent as spent};
 ghost use Rattle.example_services.specs.Visits.{IsMade, IsVisited};
 
-use chunk_types::CheckedPacket;
+use checked_chunks::CheckedPacket;
 use plan_base::NoMemory;
 use plan_eval::visit;
 use plan_meaning::{Outcome, Visit};

@@ -3,10 +3,10 @@ ghost use Rattle.plan_meaning.specs.Meaning.{is_paid, bound_of};
 ghost use Rattle.program_text.specs.Texts.{program_of};
 ghost use Rattle.frag_chunks.specs.Parts as spec;
 
-use chunk_types::{CheckedChunk, chunk_of};
+use checked_chunks::{Checked, CheckedChunk};
+use chunk_types::chunk_of;
 use plan_base::{Bytes, Host, Name, NoMemory, Value, Values};
 use plan_items::Items;
-use plan_types::Checked;
 use program_text::read_program;
 use remote_calls::{NoBound, Purse};
 use std::alloc::{AllocError, Global};

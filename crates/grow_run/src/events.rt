@@ -9,10 +9,10 @@ ghost use Rattle.grow_run.specs.Events.{choice_fits, drawn_event};
 
 use crate::pings::ping;
 use crate::{Choice, choose};
+use checked_chunks::Checked;
 use net_world::World;
 use network_plan::WorldEvent;
 use plan_base::{Host, NoMemory};
-use plan_types::Checked;
 use rand_pcg::Lcg64Xsh32;
 use service_api::Services;
 use std::alloc::Global;

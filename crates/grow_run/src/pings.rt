@@ -2,14 +2,14 @@ ghost use Rattle.std.specs.Prelude.{◌≡◌, ◌≤◌, ◌∷◌, [], length,
 ghost use Rattle.std.specs.List.{list_all};
 ghost use Rattle.plan_base.specs.declared.tree.Value.TheVariants as value;
 ghost use Rattle.plan_base.specs.WellFormed.{well_formed_value, value_has_types};
-ghost use Rattle.chunk_types.specs.Chunks.{IsCheckedChunk};
+ghost use Rattle.checked_chunks.specs.Kept.{IsCheckedChunk};
 ghost use Rattle.program_text.specs.Texts.{program_of};
 ghost use Rattle.grow_run.specs.Pings as spec;
 
-use chunk_types::{CheckedChunk, chunk_of};
+use checked_chunks::{Checked, CheckedChunk};
+use chunk_types::chunk_of;
 use plan_base::{Host, Name, NoMemory, Value, Values};
 use plan_items::Items;
-use plan_types::Checked;
 use program_text::read_program;
 use std::alloc::Global;
 

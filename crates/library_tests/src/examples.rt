@@ -3,7 +3,7 @@
 ghost use Rattle.std.specs.Prelude.{◌≡◌, ◌≤◌, length, IfSome};
 ghost use Rattle.node_core.specs.Turns.{IsResting};
 
-use chunk_types::CheckedPacket;
+use checked_chunks::CheckedPacket;
 use example_services::{ExampleServices, packet_of, visit_once};
 use plan_base::{Bytes, Host, Name, Value};
 use plan_items::Items;

@@ -2,12 +2,12 @@
 // Where a walk were made twice at each level, none of these would ever end.
 
 use crate::texts::{add, program};
-use chunk_types::{CheckedChunk, chunk_of};
+use checked_chunks::{Checked, CheckedChunk};
+use chunk_types::chunk_of;
 use packet_frame::{Frame, get_frame, put_ask};
 use plan_base::{Bytes, Name};
 use plan_items::Items;
 use plan_printer::print_program;
-use plan_types::Checked;
 use std::alloc::Global;
 
 /// What stands before all and how often; before and behind each level; inside the last; behind all.

@@ -1,9 +1,9 @@
 // Texts of at most 65,536 bytes that are read, and texts that are made of parts.
 
+use checked_chunks::Checked;
 use plan_base::{Draft, Value};
 use plan_lexer::lex;
 use plan_parser::{parse, parse_value};
-use plan_types::Checked;
 use program_text::read_program;
 use std::alloc::Global;
 

@@ -5,8 +5,8 @@ use Rattle.std.proofs.lemmas.Bool.{leb-true}
 use Rattle.plan_base.specs.declared.tree.Chunk.{Chunk}
 use Rattle.plan_base.specs.declared.tree.Program.{Program}
 use Rattle.plan_base.specs.Sizes.{chunk_weight}
-use Rattle.plan_types.specs.Kept.{IsChecked}
-use Rattle.chunk_types.specs.Chunks.{refusal_of, IsCheckedChunk}
+use Rattle.checked_chunks.specs.Kept.{IsChecked, IsCheckedChunk}
+use Rattle.chunk_types.specs.Chunks.{refusal_of}
 use Rattle.program_text.specs.declared.fault.TextFault.{TextFault}
 use Rattle.program_text.specs.Texts.{program_of, args_of_text}
 use Rattle.line_files.specs.declared.fault.LineReason.TheVariants.{TooMany, BadArgument}

@@ -20,13 +20,13 @@ use Rattle.plan_parser.specs.Programs as parsed
 use Rattle.plan_parser.specs.Values.{args_of}
 use Rattle.plan_parser.proofs.FormedPrograms.{draft_formed}
 use Rattle.plan_parser.proofs.FormedValues as read
-use Rattle.plan_types.specs.Kept.{IsChecked}
+use Rattle.checked_chunks.specs.Kept.{IsChecked, is_small_chunk, IsCheckedChunk}
 use Rattle.plan_types.proofs.Answered.{checked_by}
 use Rattle.program_text.specs.Scanned.{tokens_of}
 use Rattle.program_text.specs.Texts.{placed_result, typed_of, parsed_of, program_of, args_by, args_in, args_of_text}
 use Rattle.program_text.proofs.Scanning.{has_tokens, is_refused}
 use Rattle.chunk_types.specs.declared.fault.Ill.{Ill}
-use Rattle.chunk_types.specs.Chunks.{right, ill_call, is_small_chunk, as_fault, or_large, refusal_of, IsCheckedChunk}
+use Rattle.chunk_types.specs.Chunks.{right, ill_call, as_fault, or_large, refusal_of}
 use Rattle.chunk_types.proofs.Values.{call_found, call_only}
 
 abbrev scanned_result : List Token → Result (List Token) LexFault

@@ -14,11 +14,11 @@ use crate::fault::{LineReason, LineStop};
 use crate::handlers::handler;
 use crate::numbers::number;
 use crate::words::{Words, allow, is};
-use chunk_types::{CheckedChunk, ChunkFault, chunk_of};
+use checked_chunks::{Checked, CheckedChunk};
+use chunk_types::{ChunkFault, chunk_of};
 use link_window::Version;
 use plan_base::{Bytes, Fun, Name, NameFault, Values};
 use plan_items::Boxed;
-use plan_types::Checked;
 use program_text::{TextFault, read_args, read_program};
 use std::alloc::{AllocError, Global};
 

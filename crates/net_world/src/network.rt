@@ -12,7 +12,7 @@ use crate::ends::{hand_off, was_handed, wire_place};
 use crate::lines::{forged_lines, hand_line, no_lines, one_line, sent_lines, with_acts};
 use crate::nodes::{arrive_at, hand_to, inject_at, node_place, take_at, tick_at, version_at};
 use crate::opening::open_nodes;
-use chunk_types::CheckedChunk;
+use checked_chunks::CheckedChunk;
 use network_plan::{Links, Topology, WorldEvent};
 use node_core::{Node, Version};
 use node_model::Acts;

@@ -9,7 +9,7 @@ ghost use Rattle.node_core.specs.Stands.{NodeStands, IsStep};
 ghost use Rattle.world_model.specs.World as spec;
 ghost use Rattle.net_world.specs.Stands.{AllStand, StepsAt, MayNameAt, IsMarkedAt};
 
-use chunk_types::CheckedChunk;
+use checked_chunks::CheckedChunk;
 use node_core::{Node, Version};
 use node_model::Acts;
 use plan_base::{Dev, Host, Name, NoMemory};

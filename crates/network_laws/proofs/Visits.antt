@@ -16,7 +16,7 @@ use Rattle.packet_frame.proofs.Versions.{found_by}
 use Rattle.link_window.specs.declared.window.Version.{Version}
 use Rattle.link_window.specs.declared.window.Took.{Took}
 use Rattle.link_window.specs.declared.window.Took.TheVariants.{Fresh, Repeated, TooOld}
-use Rattle.chunk_types.specs.Chunks.{IsCheckedChunk}
+use Rattle.checked_chunks.specs.Kept.{IsCheckedChunk}
 use Rattle.service_api.specs.Services.{IsGood, IsGoodChunk, IsGoodNote, begun_now}
 use Rattle.plan_meaning.specs.Safe.{IsGoodSent, IsGoodState}
 use Rattle.plan_meaning.specs.Visit.{begun_state}

@@ -1,4 +1,4 @@
-use chunk_types::CheckedChunk;
+use checked_chunks::CheckedChunk;
 use plan_base::{Bytes, Dev, Host, Name};
 use plan_items::Items;
 

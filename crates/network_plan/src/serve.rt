@@ -1,5 +1,5 @@
 use crate::node::NodeConfig;
-use chunk_types::CheckedChunk;
+use checked_chunks::CheckedChunk;
 use plan_base::{Dev, Name, Text};
 use plan_items::Items;
 use service_api::Packages;

@@ -3,7 +3,7 @@ ghost use Rattle.std.specs.Prelude.{◌≡◌, ◌≤◌, length};
 ghost use Rattle.node_model.specs.Node as spec;
 ghost use Rattle.node_core.specs.Stands.{around_at};
 
-use chunk_types::CheckedPacket;
+use checked_chunks::CheckedPacket;
 use plan_base::Host;
 use service_api::{Ctx, Neighbours, Router};
 

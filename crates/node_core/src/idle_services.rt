@@ -9,7 +9,7 @@ ghost use Rattle.settled_visit.specs.Settles as settles;
 ghost use Rattle.node_core.specs.Turns.{IsOpen, IsResting, closed_services, is_spent as spent};
 ghost use Rattle.node_parts.specs.Carried.{Carries};
 
-use chunk_types::CheckedPacket;
+use checked_chunks::CheckedPacket;
 use link_window::Stamp;
 use node_model::{Act, ActList, Lane};
 use node_parts::{Leavings, begin_acts, send_all, visit_sendings};

@@ -28,7 +28,7 @@ use crate::step_acts::{
     acts_room, arrived_bad, asked_bad, none_taken, one_act, only_acts, taken, ticked, two_room,
     with_act,
 };
-use chunk_types::{CheckedChunk, CheckedPacket};
+use checked_chunks::{Checked, CheckedChunk, CheckedPacket};
 use link_window::{Stamp, Took, Version, Window};
 use network_plan::{Event, NodeConfig};
 use node_model::{Act, ActList, Acts, Lane, Reason};
@@ -40,7 +40,6 @@ use packet_frame::{Frame, Stamped};
 use plan_base::{Dev, Host, Name, NoMemory};
 use plan_copies::copy_handler;
 use plan_items::Items;
-use plan_types::Checked;
 use service_api::{Advert, Ctx, Hop, Router, Services};
 use spelled_frame::SpelledFrame;
 use std::alloc::Global;

@@ -3,7 +3,7 @@ ghost use Rattle.std.specs.Prelude.{◌≡◌, ◌≤◌, IfOk};
 ghost use Rattle.node_core.specs.Stands.{own_family, own_packet};
 ghost use Rattle.typing_rules.specs.Handlers.{MayHandle};
 
-use chunk_types::{CheckedChunk, CheckedPacket};
+use checked_chunks::{CheckedChunk, CheckedPacket};
 use plan_base::{Family, Host, Name, NoMemory};
 use remote_calls::default_route;
 use spelled_frame::with_handler;

@@ -4,7 +4,7 @@ use Rattle.std.specs.Prelude.{IfOk}
 use Rattle.std.specs.Str.{bytes_eq}
 use lib.Chars.{codes}
 use Rattle.plan_base.specs.declared.tree.Program.{Program}
-use Rattle.plan_types.specs.Kept.{IsChecked}
+use Rattle.checked_chunks.specs.Kept.{IsChecked}
 use Rattle.network_plan.specs.declared.fleet.AskFile.{AskFile}
 use Rattle.network_plan.specs.NodeRules.{IsPort, KeepsAsk}
 use Rattle.line_files.specs.declared.fault.LineReason.TheVariants.{BadWord}

@@ -6,7 +6,8 @@ use Rattle.plan_base.specs.declared.tree.Chunk.{Chunk}
 use Rattle.plan_base.specs.Sizes.{chunk_weight}
 use Rattle.chunk_types.specs.declared.fault.Ill.{Ill}
 use Rattle.chunk_types.specs.declared.fault.ChunkFault.{ChunkFault}
-use Rattle.chunk_types.specs.Chunks.{illness, as_fault, IsCheckedChunk}
+use Rattle.checked_chunks.specs.Kept.{IsCheckedChunk}
+use Rattle.chunk_types.specs.Chunks.{illness, as_fault}
 use Rattle.chunk_types.proofs.Values.{chunk_found, chunk_only}
 use Rattle.wire_bytes.specs.Fields.{Front, IsBytes}
 use Rattle.chunk_spelling.specs.declared.fault.SpellFault.{SpellFault}

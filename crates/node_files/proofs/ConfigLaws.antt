@@ -11,7 +11,7 @@ use Rattle.plan_base.specs.declared.ids.Host.{Host}
 use Rattle.plan_base.specs.declared.ids.Dev.{Dev}
 use Rattle.plan_base.specs.declared.tree.Program.{Program}
 use Rattle.plan_base.specs.Sizes.{chunk_weight}
-use Rattle.plan_types.specs.Kept.{IsChecked}
+use Rattle.checked_chunks.specs.Kept.{IsChecked}
 use Rattle.service_api.specs.declared.package.PackageName.{PackageName}
 use Rattle.link_window.specs.declared.window.Version.{Version}
 use Rattle.link_window.specs.declared.window.Version.TheVariants.{One, Two}

@@ -32,7 +32,7 @@ use Rattle.line_files.specs.Headers.{version_in}
 use Rattle.line_files.specs.Handlers.{handler_at}
 use Rattle.line_files.proofs.KeptInjections.{handler_is}
 use Rattle.line_files.proofs.Placing.{fault_done, fault_here, version_placed, Places, refuses_read}
-use Rattle.chunk_types.specs.Chunks.{IsCheckedChunk}
+use Rattle.checked_chunks.specs.Kept.{IsCheckedChunk}
 use Rattle.node_files.specs.declared.log.NodeWord.{NodeWord}
 use Rattle.node_files.specs.declared.log.NodeWord.TheVariants as node
 use Rattle.node_files.specs.declared.log.EntryWord.{EntryWord}

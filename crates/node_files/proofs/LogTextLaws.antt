@@ -12,7 +12,7 @@ use Rattle.service_api.specs.declared.package.PackageName.{PackageName}
 use Rattle.plan_base.specs.declared.name.Name.{Name}
 use Rattle.plan_base.specs.Words.{is_name}
 use Rattle.plan_base.specs.declared.tree.Chunk.{Chunk}
-use Rattle.chunk_types.specs.Chunks.{IsCheckedChunk}
+use Rattle.checked_chunks.specs.Kept.{IsCheckedChunk}
 use Rattle.chunk_spelling.proofs.LengthLaws.{chunk_length}
 use Rattle.packet_frame.proofs.Sizes.{chunk_small}
 use Rattle.hex.specs.Hex.{encode_lower, IsBytes}

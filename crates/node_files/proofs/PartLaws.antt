@@ -2,7 +2,7 @@
 use Rattle.std.proofs.Common.{◌≡◌, ◌⊎◌, inl, inr, ℕ, ◌+◌, ◌≤◌, ◌<◌, ◌^◌, List, length, Option, Some, None, Result, Ok, Err, refl, arith}
 use Rattle.std.specs.Str.{bytes_eq}
 use Rattle.plan_base.specs.declared.tree.Program.{Program}
-use Rattle.plan_types.specs.Kept.{IsChecked}
+use Rattle.checked_chunks.specs.Kept.{IsChecked}
 use Rattle.link_window.specs.declared.window.Version.{Version}
 use Rattle.link_window.specs.declared.window.Version.TheVariants.{One, Two}
 use Rattle.network_plan.specs.NodeRules.{first_link}

@@ -7,13 +7,13 @@ ghost use Rattle.node_files.specs.Asks as spec;
 ghost use Rattle.node_files.specs.Asks.{to_line, from_line, bound_line, wanted_line, inside_line, ask_step_at, request_of, ask_end, ask_format, nothing_asked, ask_of};
 
 use crate::parts::{expect, last_number};
+use checked_chunks::Checked;
 use line_files::{
     LineFault, LineFile, LineReason, LineStop, OpenProgram, Words, call, is, program, read_file,
     says_nothing, stopped_at,
 };
 use network_plan::AskFile;
 use plan_base::Bytes;
-use plan_types::Checked;
 use std::alloc::Global;
 
 /// The first word of a line of a request.

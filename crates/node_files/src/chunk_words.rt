@@ -4,9 +4,10 @@ ghost use Rattle.line_files.specs.Reads.{Finds, GivesWith};
 ghost use Rattle.node_files.specs.ChunkWords as spec;
 ghost use Rattle.node_files.specs.ChunkWords.{spelled_chunk, if_typed, typed_chunk};
 
+use checked_chunks::CheckedChunk;
 use chunk_codec::get_chunk;
 use chunk_spelling::SpellFault;
-use chunk_types::{CheckedChunk, ChunkFault, check_chunk};
+use chunk_types::{ChunkFault, check_chunk};
 use line_files::{LineReason, LineStop, Words, hex_bytes};
 use plan_base::{Chunk, NoMemory};
 use std::alloc::Global;

@@ -7,6 +7,7 @@ ghost use Rattle.node_files.specs.Configs.{tail_word, may_come, with_device, tai
 
 use crate::nodes::{host_line, hosts_line, neighbour, put_neighbour, put_port};
 use crate::parts::{expect, last_number};
+use checked_chunks::Checked;
 use line_files::{
     LineFault, LineFile, LineReason, LineStop, OpenProgram, Words, add_weight, allow, file_name,
     injection, is, number, package, program, read_file, says_nothing, stopped_at, version_of,
@@ -15,7 +16,6 @@ use link_window::Version;
 use network_plan::{DevPorts, Hosts, Inject, Injects, NodeConfig, ServeConfig, first_link};
 use plan_base::{Dev, Host, NoMemory, Text};
 use plan_items::Items;
-use plan_types::Checked;
 use service_api::{Neighbours, Packages};
 use std::alloc::Global;
 

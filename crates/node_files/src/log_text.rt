@@ -13,8 +13,8 @@ ghost use Rattle.node_files.specs.Logs.{log_of};
 ghost use Rattle.node_files.specs.LogTexts as spec;
 ghost use Rattle.node_files.specs.LogTexts.{closing, line_text, event_words, entry_text, hosts_words, device_words, missing_words, CanSpell, IsSpellable, log_text};
 
+use checked_chunks::CheckedChunk;
 use chunk_ranges::may_be_spelled;
-use chunk_types::CheckedChunk;
 use chunk_writer::put_chunk;
 use hex::encode;
 use link_window::Version;

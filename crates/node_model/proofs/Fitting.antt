@@ -26,7 +26,7 @@ use Rattle.packet_frame.specs.declared.fault.FrameFault.{FrameFault}
 use Rattle.packet_frame.proofs.Carried.{chunk_is_formed}
 use Rattle.packet_frame.specs.Decoding.{read_by}
 use Rattle.packet_frame.proofs.Versions.{found_by}
-use Rattle.chunk_types.specs.Chunks.{IsCheckedChunk}
+use Rattle.checked_chunks.specs.Kept.{IsCheckedChunk}
 use Rattle.table_rows.specs.declared.row.Row.{Row}
 use Rattle.table_rows.specs.Rows.{row_size, rows_size, living, is_live}
 use Rattle.service_api.specs.declared.advert.Advert.{Advert}

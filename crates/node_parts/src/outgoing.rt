@@ -5,7 +5,7 @@ ghost use Rattle.node_model.specs.Node as spec;
 ghost use Rattle.node_parts.specs.Carried.{Carries};
 
 use crate::leaving::{Leaving, Leavings};
-use chunk_types::CheckedPacket;
+use checked_chunks::CheckedPacket;
 use link_window::Stamp;
 use plan_base::{Dev, Host, NoMemory};
 use plan_items::Items;

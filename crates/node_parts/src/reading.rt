@@ -9,10 +9,10 @@ ghost use Rattle.spelled_frame.specs.Spelled as spelled;
 ghost use Rattle.node_model.specs.Node.{mark_of};
 ghost use Rattle.node_parts.specs.Carried.{MayBear, MayGoOn, asks_within};
 
+use checked_chunks::Checked;
 use link_window::Version;
 use node_model::What;
 use packet_frame::{Frame, FrameFault, Stamped, get_frame, get_frame2};
-use plan_types::Checked;
 use std::alloc::Global;
 
 /// Shows that bytes are numbers below 256, and changes nothing. Takes no memory.

@@ -15,10 +15,10 @@ use crate::fault::FrameFault;
 use crate::frame::{PlainFrame, PlainStamped};
 use crate::get::get_plain_frame;
 use crate::get_stamped::get_plain_stamped;
-use chunk_types::{CheckedChunk, CheckedPacket, ChunkFault, check_chunk};
+use checked_chunks::{Checked, CheckedChunk, CheckedPacket, is_handler};
+use chunk_types::{ChunkFault, check_chunk};
 use link_window::Stamp;
 use plan_base::{Chunk, Name, Packet};
-use plan_types::{Checked, is_handler};
 use service_api::Advert;
 use std::alloc::Global;
 

@@ -13,7 +13,7 @@ mod put;
 mod put_stamped;
 
 pub use checked::{Frame, Stamped, get_frame, get_frame2};
-pub use chunk_types::CheckedPacket;
+pub use checked_chunks::CheckedPacket;
 pub use fault::FrameFault;
 pub use frame::{PlainFrame, PlainStamped};
 pub use laws::{frame_laws, reading_laws, stamped_laws, version_laws};

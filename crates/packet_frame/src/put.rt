@@ -8,8 +8,8 @@ ghost use Rattle.packet_frame.specs.Forms.{FrameFits};
 ghost use Rattle.packet_frame.specs.Frames.{SpellsFrame};
 ghost use Rattle.packet_frame.specs.declared.frame.PlainFrame.{PlainFrame as Plain};
 
+use checked_chunks::{CheckedChunk, CheckedPacket};
 use chunk_ranges::may_be_spelled;
-use chunk_types::{CheckedChunk, CheckedPacket};
 use chunk_writer::{put_chunk, put_name};
 use plan_base::{Bytes, Chunk, Family, Host, NoMemory};
 use service_api::{Advert, AdvertRow};

@@ -5,7 +5,7 @@ ghost use Rattle.packet_frame.specs.Stamped.{stamped_head, StampFits, SpellsStam
 ghost use Rattle.packet_frame.specs.declared.frame.PlainFrame.{PlainFrame as Plain};
 
 use crate::put::{put_carried, put_rows, put_way, size_of, spellable};
-use chunk_types::CheckedPacket;
+use checked_chunks::CheckedPacket;
 use chunk_writer::put_name;
 use link_window::Stamp;
 use plan_base::{Bytes, Name, NoMemory};

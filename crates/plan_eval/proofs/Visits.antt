@@ -11,7 +11,7 @@ use Rattle.typing_rules.specs.TypingNames.{place_of}
 use Rattle.typing_rules.specs.TypingOrder.{fun_of}
 use Rattle.plan_items.proofs.Options.{some-same}
 use Rattle.typing_rules.specs.Typing.{IsTypedChunk, within}
-use Rattle.chunk_types.specs.Chunks.{IsCheckedChunk}
+use Rattle.checked_chunks.specs.Kept.{IsCheckedChunk}
 use Rattle.service_api.specs.declared.ctx.Ctx.{Ctx}
 use Rattle.service_api.specs.Services.{ServiceState, IsGood, IsGoodValue, IsGoodChunk, IsGoodNote, AreGoodRows}
 use Rattle.service_api.specs.declared.answer.Note.{Note}

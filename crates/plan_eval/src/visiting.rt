@@ -13,7 +13,7 @@ ghost use Rattle.plan_meaning.specs.Laws.{VisitEnds, VisitsAlike, NoneSuffices};
 ghost use Rattle.visit_state.specs.Meets.{Meets};
 
 use crate::machine::run_from;
-use chunk_types::CheckedPacket;
+use checked_chunks::CheckedPacket;
 use eval_flow::{ProgramSize, enters};
 use eval_steps::Codes;
 use plan_base::{Chunk, Family, NoMemory, Value};

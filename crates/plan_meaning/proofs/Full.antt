@@ -9,7 +9,7 @@ use Rattle.plan_base.specs.WellFormed.{typed_value_level, program_has_types, val
 use Rattle.plan_base.proofs.FormLaws.{value_has_types_out, chunk_has_types_is}
 use Rattle.typing_rules.specs.Typing.{HasType, HaveTypes, AllHaveType, IsTypedChunk}
 use Rattle.typing_rules.specs.Typing as y
-use Rattle.plan_types.proofs.Whole.{program_whole}
+use Rattle.checked_chunks.proofs.Whole.{program_whole}
 use Rattle.plan_items.proofs.Bools.{and_both}
 
 holds_all : (v : Value) (l : ValueLayer) → out-Value v ≡ l → typed_value_level value_has_types chunk_has_types l ≡ true → value_has_types v ≡ true

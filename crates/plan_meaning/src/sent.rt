@@ -1,4 +1,4 @@
-use chunk_types::CheckedPacket;
+use checked_chunks::CheckedPacket;
 use plan_base::Dev;
 use plan_items::Items;
 

@@ -9,9 +9,9 @@ use Rattle.typing_rules.specs.Typing.{Typed}
 use Rattle.typing_rules.specs.TypingFills.{Fills}
 use Rattle.typing_rules.specs.TypingOrder.{annotated_program}
 use Rattle.plan_types.specs.Checks.{Gives}
-use Rattle.plan_types.specs.Kept.{IsChecked}
+use Rattle.checked_chunks.specs.Kept.{IsChecked}
 use Rattle.plan_types.proofs.Formed.{filled_formed}
-use Rattle.plan_types.proofs.Whole.{program_whole}
+use Rattle.checked_chunks.proofs.Whole.{program_whole}
 use Rattle.typing_rules.proofs.Programs.{annotated_sound, annotated_complete, fills_itself, fills_full, depths_kept}
 
 -- an answer fills the draft in, and keeps what a checked program keeps

@@ -1,4 +1,3 @@
 pub mod Answered
 pub mod Formed
 pub mod Loops
-pub mod Whole

@@ -8,9 +8,10 @@ ghost use Rattle.typing_rules.specs.TypingNames as names;
 ghost use Rattle.plan_types.specs.Checks.{Meets, Nests, below};
 
 use crate::checker::Checker;
-use crate::names::{earlier, fun_of};
+use crate::names::earlier;
 use crate::settle::{items_of, list_of, refuse_expr, settle_type};
 use crate::state::{Scope, State};
+use checked_chunks::fun_of;
 use plan_base::{Expr, Exprs, Name, NoMemory, Param, Place, Primitive, Program, Ty, Tys};
 use plan_copies::Copied;
 use plan_equality::Same;

@@ -72,13 +72,6 @@ pub fn any_unknown(code: &Program, clauses: &[Clause]) -> bool
     clauses.iter().any(|k| !may_catch(code, &k.name))
 }
 
-/// The function of that name, wherever it stands.
-pub fn fun_of<'a>(code: &'a Program, name: &Name) -> Option<&'a Fun>
-    ensures { option_copied result ≡ order.fun_of code.now name.now }
-{
-    code.funs.get(place_of(name, code.funs.as_slice())?)
-}
-
 /// The function of that name among the first `seen`.
 #[tactic(auto, using(std::proofs::lemmas::List::take_min))]
 pub fn earlier<'a>(code: &'a Program, seen: usize, name: &Name) -> Option<&'a Fun>

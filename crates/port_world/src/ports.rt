@@ -16,7 +16,7 @@ ghost use Rattle.port_world.specs.Stands.{PortStands, Goes, IsStanding, IsMade, 
 use crate::hosts::two_hosts;
 use crate::notes::{is_nothing, note_in, said_to};
 use crate::told::{PortLine, put_told};
-use chunk_types::CheckedChunk;
+use checked_chunks::CheckedChunk;
 use net_world::World;
 use network_plan::WorldEvent;
 use plan_base::{Bytes, Host, NoMemory};

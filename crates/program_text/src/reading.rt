@@ -10,12 +10,13 @@ ghost use Rattle.plan_parser.specs.Programs as parsed;
 ghost use Rattle.program_text.specs.Texts.{byte_at, byte_of, placed_result, typed_of, program_of, IsProgram, Says, args_of_text};
 
 use crate::fault::TextFault;
+use checked_chunks::Checked;
 use plan_base::{Draft, NoMemory, Place, Places, Values};
 use plan_grammar::ParseFault;
 use plan_items::Items;
 use plan_lexer::{LexFault, Tokens, lex};
 use plan_parser::{ValueFault, parse, parse_args};
-use plan_types::{Checked, annotate};
+use plan_types::annotate;
 use std::alloc::Global;
 use typing_rules::TypeFault;
 

@@ -19,8 +19,7 @@ use Rattle.plan_base.proofs.SizeLaws.{weight_out, nesting_out, value_depth_out, 
 use Rattle.plan_base.proofs.FormLaws.{formed_value_out, value_has_types_out, formed_chunk_is, chunk_has_types_is}
 use Rattle.typing_rules.specs.Typing.{Ctx, literal_type, HasTy, literal, variable, tuple, serving, choice, packing, remote, no_parts, and_part, param_names, HasOwnNames, Typed, no_values, and_value, int, blob, host, within}
 use Rattle.typing_rules.specs.TypingNames.{prim_of, are_new}
-use Rattle.plan_types.specs.Kept.{IsChecked}
-use Rattle.chunk_types.specs.Chunks.{IsCheckedChunk}
+use Rattle.checked_chunks.specs.Kept.{IsChecked, IsCheckedChunk}
 use Rattle.reliable_ports.specs.Programs as port
 use Rattle.reliable_ports.specs.Programs.{this_host_is, get_rb, deliver, delivered_type, port_services, port_program, data_fun, data_params, data_body, ack_fun, ack_params, ack_body, data_args, data_chunk, ack_args, ack_chunk}
 use Rattle.reliable_ports.proofs.TreeSizes.{TypeFits, host_fits, bool_fits, int_fits, blob_fits, unit_fits, delivered_fits, Fits, one_fits, two_fit, three_fit, no_parts_fit, wider, var_fits, number_fits, bytes_fit, tuple_fits, call_fits, packing_fits, choice_fits, remote_fits}

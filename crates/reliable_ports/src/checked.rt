@@ -1,7 +1,6 @@
 ghost use Rattle.std.specs.Prelude.{ℕ, ℤ, List, length, ◌≤◌};
 ghost use Rattle.plan_base.specs.declared.ids.Host.{Host};
-ghost use Rattle.plan_types.specs.Kept.{IsChecked};
-ghost use Rattle.chunk_types.specs.Chunks.{IsCheckedChunk};
+ghost use Rattle.checked_chunks.specs.Kept.{IsChecked, IsCheckedChunk};
 ghost use Rattle.reliable_ports.specs.Programs as spec;
 
 /// The program of a port is typed and well formed, and lacks no types.

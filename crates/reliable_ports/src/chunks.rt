@@ -4,10 +4,10 @@ ghost use Rattle.reliable_ports.specs.Programs as spec;
 ghost use Rattle.reliable_ports.specs.Texts.{port_text};
 
 use crate::shapes::is_port_program;
-use chunk_types::{CheckedChunk, chunk_of};
+use checked_chunks::{Checked, CheckedChunk};
+use chunk_types::chunk_of;
 use plan_base::{Bytes, Host, Name, NoMemory, Value, Values};
 use plan_items::Items;
-use plan_types::Checked;
 use program_text::read_program;
 use std::alloc::Global;
 

@@ -6,9 +6,8 @@ ghost use Rattle.reliable_ports.specs.declared.sender.TransmitFault.TheVariants 
 use crate::chunks::{data_chunk, port_code};
 use crate::ends::{body_in, drop_front, push_last};
 use crate::number::{PRICE, WINDOW, number_of};
-use chunk_types::CheckedChunk;
+use checked_chunks::{Checked, CheckedChunk};
 use plan_base::{Bytes, Host, NoMemory};
-use plan_types::Checked;
 use remote_calls::Purse;
 use std::alloc::Global;
 use std::collections::VecDeque;

@@ -9,7 +9,7 @@ ghost use Rattle.remote_calls.specs.Sends.{leads, packet_of, IsSent, IsKept};
 use crate::fault::SendFault;
 use crate::purse::Purse;
 use crate::way::{neighbour_way, remote_way};
-use chunk_types::{CheckedChunk, CheckedPacket};
+use checked_chunks::{CheckedChunk, CheckedPacket};
 use plan_base::{Dev, Family, Host, Name, NoMemory};
 use plan_meaning::{Outbox, Sent};
 use service_api::{Ctx, Hop};

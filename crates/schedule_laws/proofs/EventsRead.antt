@@ -20,7 +20,8 @@ use Rattle.plan_base.specs.declared.tree.Chunk.{Chunk}
 use Rattle.plan_base.specs.declared.tree.Fun.{Fun}
 use Rattle.plan_base.specs.Sizes.{chunk_weight}
 use Rattle.typing_rules.specs.Handlers.{is_handler}
-use Rattle.chunk_types.specs.Chunks.{refusal_of, IsCheckedChunk}
+use Rattle.checked_chunks.specs.Kept.{IsCheckedChunk}
+use Rattle.chunk_types.specs.Chunks.{refusal_of}
 use Rattle.program_text.specs.Texts.{args_of_text}
 use Rattle.link_window.specs.declared.window.Version.{Version}
 use Rattle.link_window.specs.declared.window.Version.TheVariants.{One, Two}

@@ -12,7 +12,7 @@ use Rattle.plan_base.specs.declared.ids.Host.{Host}
 use Rattle.plan_base.specs.declared.ids.Dev.{Dev}
 use Rattle.plan_base.specs.declared.name.Name.{Name}
 use Rattle.plan_base.specs.declared.tree.Chunk.{Chunk}
-use Rattle.plan_types.specs.Kept.{IsChecked}
+use Rattle.checked_chunks.specs.Kept.{IsChecked}
 use Rattle.service_api.specs.declared.package.PackageName.{PackageName}
 use Rattle.link_window.specs.declared.window.Version.{Version}
 use Rattle.link_window.specs.declared.window.Version.TheVariants.{One, Two}

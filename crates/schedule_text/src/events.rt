@@ -5,7 +5,7 @@ ghost use Rattle.schedule_text.specs.Schedules.{injected_at, inject_line, send_l
 use crate::keyword::EventWord;
 use crate::parts::{device, known_host, known_program};
 use crate::reading::Reading;
-use chunk_types::CheckedChunk;
+use checked_chunks::CheckedChunk;
 use line_files::{LineReason, LineStop, Words, add_weight, allow, hex_bytes, injection, number};
 use network_plan::WorldEvent;
 use plan_base::{Host, Name};

@@ -31,7 +31,7 @@ use Rattle.plan_base.proofs.SizeLaws.{weight_out, nesting_out, value_depth_out, 
 use Rattle.plan_base.proofs.FormLaws.{formed_value_out, value_has_types_out}
 use Rattle.plan_base.proofs.SameTypes.{out_same}
 use Rattle.plan_base.proofs.WordLaws.{is_name_within}
-use Rattle.chunk_types.specs.Chunks.{IsCheckedChunk}
+use Rattle.checked_chunks.specs.Kept.{IsCheckedChunk}
 use Rattle.typing_rules.specs.Handlers.{is_string, is_one_string, handles, is_handler}
 use Rattle.settled_visit.specs.Settles.{handler_chunk}
 

@@ -5,12 +5,11 @@ ghost use Rattle.plan_meaning.specs.Visit.{bounds};
 ghost use Rattle.settled_visit.specs.Settles as spec;
 
 use crate::telling::telling_of;
-use chunk_types::CheckedPacket;
+use checked_chunks::{CheckedPacket, is_handler};
 use plan_base::{Name, NoMemory};
 use plan_copies::copy_handler;
 use plan_items::Items;
 use plan_meaning::{Outbox, Sent, Visit};
-use plan_types::is_handler;
 use service_api::Ctx;
 use std::alloc::Global;
 

@@ -3,12 +3,12 @@ ghost use Rattle.std.specs.Prelude.{◌≡◌, ◌≤◌, ◌∷◌, [], length,
 ghost use Rattle.std.specs.Str.{is_utf8};
 ghost use Rattle.plan_base.specs.declared.tree.Value.TheVariants as value;
 ghost use Rattle.plan_base.specs.Words.{IsName};
-ghost use Rattle.chunk_types.specs.Chunks.{IsCheckedChunk};
+ghost use Rattle.checked_chunks.specs.Kept.{IsCheckedChunk};
 ghost use Rattle.service_api.specs.Routes.{hop, default_route};
 ghost use Rattle.typing_rules.specs.Handlers.{is_handler};
 ghost use Rattle.settled_visit.specs.Settles as spec;
 
-use chunk_types::{CheckedChunk, CheckedPacket};
+use checked_chunks::{CheckedChunk, CheckedPacket};
 use plan_base::{Chunk, Dev, Name, NoMemory, Text, Value, Values};
 use plan_items::Items;
 use plan_meaning::{Outcome, Sent};

@@ -8,7 +8,7 @@ ghost use Rattle.link_window.specs.declared.window.Version.TheVariants.{One, Two
 ghost use Rattle.spelled_frame.specs.Spelled as spec;
 ghost use Rattle.spelled_frame.specs.Spelled.{frame_in, IsSpelled, IsBeside, IsFrame, MayCarry};
 
-use chunk_types::{CheckedChunk, CheckedPacket};
+use checked_chunks::{CheckedChunk, CheckedPacket};
 use link_window::{Stamp, Version};
 use packet_frame::{Frame, put_advert, put_advert2, put_packet, put_packet2, with_link};
 use plan_base::{Bytes, Family, Name, NoMemory};

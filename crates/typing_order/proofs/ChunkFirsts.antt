@@ -23,7 +23,8 @@ use Rattle.chunk_types.specs.declared.fault.Ill.{Ill}
 use Rattle.chunk_types.specs.declared.fault.Ill.TheVariants.{Code, Count, Argument}
 use Rattle.chunk_types.specs.declared.fault.ChunkFault.{ChunkFault}
 use Rattle.chunk_types.specs.declared.fault.ChunkFault.TheVariants as fault
-use Rattle.chunk_types.specs.Chunks.{fits, sound, right, ill_from, ill_with, ill_call, ill_code, illness, is_small_chunk, as_fault, or_large, refusal_of}
+use Rattle.checked_chunks.specs.Kept.{is_small_chunk}
+use Rattle.chunk_types.specs.Chunks.{fits, sound, right, ill_from, ill_with, ill_call, ill_code, illness, as_fault, or_large, refusal_of}
 use Rattle.chunk_types.proofs.Values.{value_law}
 use Rattle.typing_order.proofs.Programs.{first_is as first_of_code, one_refusal}
 use Rattle.typing_order.specs.ChunkConditions.{Condition, of_code, of_entry, of_count, of_argument, of_size, Keeps, Blames, for_code, for_entry, for_count, for_argument, for_size, arguments_from, of_call, conditions, call_conditions, FirstFailing, here, later}

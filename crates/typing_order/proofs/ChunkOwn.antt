@@ -14,7 +14,8 @@ use Rattle.chunk_types.specs.declared.fault.Ill.{Ill}
 use Rattle.chunk_types.specs.declared.fault.Ill.TheVariants.{Count, Argument}
 use Rattle.chunk_types.specs.declared.fault.ChunkFault.{ChunkFault}
 use Rattle.chunk_types.specs.declared.fault.ChunkFault.TheVariants as faults
-use Rattle.chunk_types.specs.Chunks.{right, ill_from, ill_with, ill_call, ill_code, illness, is_small_chunk, as_fault, or_large, refusal_of}
+use Rattle.checked_chunks.specs.Kept.{is_small_chunk}
+use Rattle.chunk_types.specs.Chunks.{right, ill_from, ill_with, ill_call, ill_code, illness, as_fault, or_large, refusal_of}
 use Rattle.typing_order.specs.Memory.{IllHoldsNoMemory, HoldsNoMemory}
 
 abbrev Own : Option Ill → Type 0

@@ -4,7 +4,7 @@ use Rattle.plan_base.specs.declared.name.Name.{Name}
 use Rattle.plan_base.specs.declared.ids.Host.{Host}
 use Rattle.plan_base.specs.declared.ids.Dev.{Dev}
 use Rattle.plan_base.specs.declared.tree.Chunk.{Chunk}
-use Rattle.chunk_types.specs.Chunks.{IsCheckedChunk}
+use Rattle.checked_chunks.specs.Kept.{IsCheckedChunk}
 use Rattle.service_api.specs.declared.ctx.Ctx.{Ctx}
 use Rattle.service_api.specs.declared.router.Hop.{Hop}
 use Rattle.service_api.specs.declared.router.Hop.TheVariants.{To, NoService, NoRoute}

@@ -14,7 +14,7 @@ ghost use Rattle.visit_state.specs.Meets.{Meets, StopsBy, Weighs};
 
 use crate::raised::{no_bound, no_route, no_service, not_neighbour, too_large};
 use crate::weighing::{Weighing, plain_weight};
-use chunk_types::{CheckedChunk, CheckedPacket};
+use checked_chunks::{CheckedChunk, CheckedPacket};
 use plan_base::{Chunk, Dev, Family, Host, Name, NoMemory, Value};
 use plan_items::Items;
 use plan_meaning::{EvalStop, Outbox, Outcome, Visit};

@@ -14,7 +14,7 @@ use Rattle.link_window.specs.Seen.{is_fresh}
 use Rattle.network_plan.specs.declared.event.WorldEvent.{WorldEvent}
 use Rattle.network_plan.specs.declared.event.WorldEvent.TheVariants.{Inject, Send, Repeat, Raw}
 use Rattle.network_plan.specs.declared.schedule.Cable.{Cable}
-use Rattle.chunk_types.specs.Chunks.{IsCheckedChunk}
+use Rattle.checked_chunks.specs.Kept.{IsCheckedChunk}
 use Rattle.network_plan.specs.Rules.{IsLinkDevice, MayName, KeepsInjection}
 use Rattle.node_model.specs.State.{Links, NodeState, is_host}
 use Rattle.node_model.specs.Node.{takes_as}

@@ -1,4 +1,4 @@
-use Rattle.plan_types.proofs.Whole.{program_whole}
+use Rattle.checked_chunks.proofs.Whole.{program_whole}
 use Rattle.plan_meaning.proofs.Full.{full_value, full_chunk}
 use Rattle.plan_meaning.proofs.laws.types_are_there.Goals as goal
 

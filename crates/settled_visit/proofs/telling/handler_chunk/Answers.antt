@@ -2,7 +2,7 @@ use Rattle.std.proofs.Common.{◌≡◌, List, ap, sym, ◌∙◌, subst}
 use Rattle.plan_base.specs.declared.tree.Chunk.{Chunk}
 use Rattle.plan_base.specs.declared.tree.Value.{Value}
 use Rattle.plan_base.specs.declared.name.Name.{Name}
-use Rattle.chunk_types.specs.Chunks.{IsCheckedChunk}
+use Rattle.checked_chunks.specs.Kept.{IsCheckedChunk}
 use Rattle.settled_visit.specs.Settles.{handler_chunk}
 use Rattle.settled_visit.proofs.Handlers.{handler_checked}
 use Rattle.settled_visit.proofs.telling.handler_chunk.Goals as goal

@@ -1,11 +1,20 @@
-//! Functions that may handle.
+//! Functions of a name, and whether they may handle.
 
 ghost use Rattle.std.specs.Prelude.{◌≡◌, Some};
+ghost use Rattle.std.specs.Option.{option_copied};
 ghost use Rattle.plan_base.specs.declared.tree.Ty as ty;
 ghost use Rattle.typing_rules.specs.Handlers as spec;
+ghost use Rattle.typing_rules.specs.TypingOrder as order;
 
-use crate::names::fun_of;
 use plan_base::{Fun, Name, Param, Program, Ty};
+use typing_rules::place_of;
+
+/// The function of that name, wherever it stands.
+pub fn fun_of<'a>(code: &'a Program, name: &Name) -> Option<&'a Fun>
+    ensures { option_copied result ≡ order.fun_of code.now name.now }
+{
+    code.funs.get(place_of(name, code.funs.as_slice())?)
+}
 
 fn is_string(t: &Ty) -> bool
     ensures { result ≡ spec.is_string (ty.out-Ty t.now) }

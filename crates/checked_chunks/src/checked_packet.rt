@@ -2,9 +2,9 @@
 
 ghost use Rattle.std.specs.Prelude.{◌≡◌, ◌≤◌, true, None, Some};
 ghost use Rattle.typing_rules.specs.Handlers.{is_handler, MayHandle};
-ghost use Rattle.chunk_types.specs.Chunks.{IsCheckedChunk};
+ghost use Rattle.checked_chunks.specs.Kept.{IsCheckedChunk};
 
-use crate::typed_chunk::CheckedChunk;
+use crate::checked_chunk::CheckedChunk;
 use plan_base::{Family, Host, Name};
 use std::marker::Model;
 
@@ -37,7 +37,7 @@ impl Model for CheckedPacket {
     ghost use Rattle.plan_base.specs.declared.tree.Packet.{Packet};
     ghost use Rattle.plan_base.specs.contracts.tree.Packet as whole;
     ghost use Rattle.typing_rules.specs.Handlers.{MayHandle};
-    ghost use Rattle.chunk_types.specs.Chunks.{IsCheckedChunk};
+    ghost use Rattle.checked_chunks.specs.Kept.{IsCheckedChunk};
 
     ghost Value = { Packet };
 

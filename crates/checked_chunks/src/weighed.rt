@@ -2,7 +2,7 @@
 
 ghost use Rattle.std.specs.Prelude.{◌≡◌, min};
 ghost use Rattle.plan_base.specs.Sizes.{chunk_weight, code_size};
-ghost use Rattle.chunk_types.specs.Chunks as spec;
+ghost use Rattle.checked_chunks.specs.Kept as spec;
 
 use plan_base::Chunk;
 use plan_sizes::{chunk_nesting, values_weight};

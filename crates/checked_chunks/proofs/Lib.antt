@@ -1,0 +1,2 @@
+pub mod CodeKept
+pub mod Whole
