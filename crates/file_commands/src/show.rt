@@ -1,6 +1,6 @@
 ghost use Rattle.std.specs.Prelude.{◌≡◌, IfOk, MatchResult, Ok};
 ghost use Rattle.hex.specs.Hex.{decode_of, IsBytes};
-ghost use Rattle.link_window.specs.declared.window.Version.TheVariants.{One, Two};
+ghost use Rattle.plan_base.specs.declared.stamp.Version.TheVariants.{One, Two};
 ghost use Rattle.packet_frame.specs.Stamped.{stamped_plain};
 ghost use Rattle.packet_frame.specs.Decoding.{read_by};
 ghost use Rattle.file_commands.specs.Said.{says};
@@ -11,10 +11,9 @@ use crate::command::{FileCommand, print};
 use call_causes::{Cause, Refusal};
 use frame_text::print_frame;
 use hex::FromHexError;
-use link_window::Version;
+use plan_base::{Bytes, Version};
 use node_io::Sink;
 use packet_frame::{Stamped, get_frame, get_frame2};
-use plan_base::Bytes;
 use std::alloc::Global;
 
 /// The most bytes of a frame in hex: two digits for each byte of the longest frame, and a line feed.

@@ -16,7 +16,7 @@ use Rattle.line_files.specs.Programs.{accepted_program, program_in, named_word, 
 use Rattle.line_files.specs.Reads.{◌>>=◌, word_at, allowed_or_reason, rest_at, end_at}
 use Rattle.line_files.specs.declared.fault.LineReason.{LineReason}
 use Rattle.line_files.specs.declared.fault.LineReason.TheVariants.{BadNumber, BadArgument, BadWord, TwiceNamed, TooMany, ProgramRefused}
-use Rattle.link_window.specs.declared.window.Version.{Version}
+use Rattle.plan_base.specs.declared.stamp.Version.{Version}
 use Rattle.network_plan.specs.FileNames.{is_file_name}
 use Rattle.network_plan.specs.Hosts.{host_of, is_listed}
 use Rattle.plan_base.specs.Sizes.{chunk_weight}

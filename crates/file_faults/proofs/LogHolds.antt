@@ -13,7 +13,7 @@ use Rattle.line_files.specs.Packages.{package_at}
 use Rattle.line_files.specs.Reads.{word_at, end_at, allowed_or_reason}
 use Rattle.line_files.specs.declared.fault.LineFault.{LineFault}
 use Rattle.line_files.specs.declared.fault.LineReason.TheVariants.{BadHeader, BadWord, TooMany}
-use Rattle.link_window.specs.declared.window.Version.{Version}
+use Rattle.plan_base.specs.declared.stamp.Version.{Version}
 use Rattle.network_plan.specs.Hosts.{dev_of}
 use Rattle.node_files.specs.ChunkWords.{chunk_at}
 use Rattle.node_files.specs.Logs.{behind_host, own_line, boot_line, network_line, node_word, may_come, device_line, missing_line, events_line, node_rest, node_line, entry_word, inject_entry, frame_entry, control_entry, take_entry, entry_rest, entry_line, begun_by, log_step_at, log_said, log_end, log_format, nothing_logged, log_of}

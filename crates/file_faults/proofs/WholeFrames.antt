@@ -2,7 +2,7 @@
 use Rattle.std.proofs.Common.{◌≡◌, ℕ, List, Option, Some, None, Result, Ok, Err, refl, sym, ap, ◌∙◌, subst, ◌⊎◌, inl, inr}
 use Rattle.std.specs.Prelude.{◌↔◌}
 use Rattle.plan_base.specs.declared.tree.Chunk.{Chunk}
-use Rattle.link_window.specs.declared.window.Version.TheVariants.{Two}
+use Rattle.plan_base.specs.declared.stamp.Version.TheVariants.{Two}
 use Rattle.wire_bytes.specs.Fields.{IsBytes}
 use Rattle.chunk_spelling.specs.Spelling.{a_whole_chunk}
 use Rattle.chunk_types.specs.declared.fault.Ill.{Ill}

@@ -1,6 +1,6 @@
 -- The first thing that is wrong with bytes that are no typed frame, of either version, apart from their reader.
 use Rattle.std.specs.Prelude.{◌≡◌, ◌≢◌, ℕ, List, Some, ◌⊎◌}
-use Rattle.link_window.specs.declared.window.Version.TheVariants.{Two}
+use Rattle.plan_base.specs.declared.stamp.Version.TheVariants.{Two}
 use Rattle.plan_base.specs.declared.tree.Chunk.{Chunk}
 use Rattle.chunk_spelling.specs.declared.fault.SpellFault.TheVariants as spelling
 use Rattle.chunk_types.specs.declared.fault.Ill.{Ill}

@@ -15,7 +15,7 @@ ghost use Rattle.packet_frame.specs.Stamped.{AcceptsBy, StampedFirst};
 ghost use Rattle.packet_frame.specs.declared.fault.FrameFault.{FrameFault};
 ghost use Rattle.packet_frame.specs.declared.frame.PlainFrame.{PlainFrame};
 ghost use Rattle.packet_frame.specs.declared.frame.PlainStamped.{PlainStamped};
-ghost use Rattle.link_window.specs.declared.window.Version.TheVariants.{One, Two};
+ghost use Rattle.plan_base.specs.declared.stamp.Version.TheVariants.{One, Two};
 ghost use Rattle.file_faults.specs.FrameRefusals.{FirstRefusal, FirstStampedRefusal, IsFrameOrRefused, IsStampedOrRefused, HoldsNoMemory};
 
 /// Any bytes are refused exactly for the first thing that is wrong with them. They are a typed frame or have a first refusal,

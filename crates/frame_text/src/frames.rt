@@ -8,9 +8,8 @@ ghost use Rattle.packet_frame.specs.Stamped.{stamped_plain};
 ghost use Rattle.packet_frame.specs.declared.frame.PlainFrame.{PlainFrame as Plain};
 ghost use Rattle.frame_text.specs.Frames.{chunk_text, packet_head as head_text, stamp_text, handler_text, packet_line, row_line, text_with, frame_text};
 
-use link_window::Stamp;
+use plan_base::{Bytes, Chunk, Name, NoMemory, Stamp};
 use packet_frame::{Advert, AdvertRow, CheckedPacket, Frame, Stamped};
-use plan_base::{Bytes, Chunk, Name, NoMemory};
 use plan_printer::{print_program, put, put_values};
 use std::alloc::{AllocError, Global};
 

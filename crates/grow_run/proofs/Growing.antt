@@ -10,7 +10,7 @@ use Rattle.service_api.specs.Services.{ServiceState}
 use Rattle.network_plan.specs.declared.event.WorldEvent.{WorldEvent}
 use Rattle.world_model.specs.World.{WorldState, happens, entries, world_after, history_of, opening}
 use Rattle.world_model.specs.Sound.{event_fits, EventsFit}
-use Rattle.link_window.specs.declared.window.Version.TheVariants.{One}
+use Rattle.plan_base.specs.declared.stamp.Version.TheVariants.{One}
 use Rattle.network_laws.proofs.Fitting.{run_version}
 use Rattle.network_laws.proofs.Handings.{opening_leaves}
 use Rattle.network_laws.proofs.Opening.{opening_version, opening_sound}

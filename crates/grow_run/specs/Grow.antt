@@ -1,6 +1,6 @@
 -- A network that grows by itself: its hosts and links, and each of its events.
 use Rattle.std.specs.Prelude.{ℕ, zero, suc, ◌+◌, nat_lt, if◌then◌else◌, List, [], ◌∷◌, None}
-use Rattle.link_window.specs.declared.window.Version.TheVariants.{One}
+use Rattle.plan_base.specs.declared.stamp.Version.TheVariants.{One}
 use Rattle.rand_pcg.specs.Lcg.{Lcg}
 use Rattle.plan_base.specs.declared.ids.Host.{Host}
 use Rattle.plan_base.specs.declared.tree.Chunk.{Chunk}

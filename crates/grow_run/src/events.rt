@@ -1,7 +1,7 @@
 ghost use Rattle.std.specs.Prelude.{◌≡◌, ◌≤◌, IfOk};
 ghost use Rattle.world_model.specs.World.{WorldState};
 ghost use Rattle.world_model.specs.Sound.{event_fits};
-ghost use Rattle.link_window.specs.declared.window.Version.TheVariants.{One};
+ghost use Rattle.plan_base.specs.declared.stamp.Version.TheVariants.{One};
 ghost use Rattle.grow_run.specs.Grow as grow;
 ghost use Rattle.net_world.specs.Stands.{WorldStands};
 ghost use Rattle.grow_run.specs.Pings as spec;

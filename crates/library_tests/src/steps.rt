@@ -1,7 +1,7 @@
 // Steps of a node that no log has: with the last serial numbers, with the last numbers of frames, and over frames without a byte.
 
 ghost use Rattle.std.specs.Prelude.{◌≡◌, true};
-ghost use Rattle.link_window.specs.declared.window.Version.{Version};
+ghost use Rattle.plan_base.specs.declared.stamp.Version.{Version};
 ghost use Rattle.node_model.specs.Fits.{comes_within};
 
 use act_text::put_act;

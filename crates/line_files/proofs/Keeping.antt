@@ -9,7 +9,7 @@ use Rattle.plan_items.proofs.Bools.{both_true}
 use Rattle.plan_base.specs.declared.ids.Host.{Host}
 use Rattle.service_api.specs.declared.package.PackageName.{PackageName}
 use Rattle.service_api.specs.declared.package.PackageName.TheVariants as packages
-use Rattle.link_window.specs.declared.window.Version.{Version}
+use Rattle.plan_base.specs.declared.stamp.Version.{Version}
 use Rattle.network_plan.specs.Hosts.{host_of, is_listed}
 use Rattle.network_plan.specs.FileNames.{is_file_name}
 use Rattle.network_plan.specs.Rules.{PackagesDiffer}

@@ -8,8 +8,8 @@ use Rattle.plan_base.specs.declared.tree.Program.{Program}
 use Rattle.typing_rules.specs.Handlers.{is_handler}
 use Rattle.checked_chunks.specs.Kept.{IsChecked}
 use Rattle.chunk_types.specs.Chunks.{refusal_of}
-use Rattle.link_window.specs.declared.window.Version.{Version}
-use Rattle.link_window.specs.declared.window.Version.TheVariants.{One, Two}
+use Rattle.plan_base.specs.declared.stamp.Version.{Version}
+use Rattle.plan_base.specs.declared.stamp.Version.TheVariants.{One, Two}
 use Rattle.network_plan.specs.Rules.{MayName, KeepsInjection}
 use Rattle.line_files.specs.declared.fault.LineReason.{LineReason}
 use Rattle.line_files.specs.declared.fault.LineReason.TheVariants.{BadArgument}

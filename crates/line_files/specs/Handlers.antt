@@ -5,8 +5,8 @@ use lib.Chars.{codes}
 use Rattle.plan_base.specs.declared.name.Name.{Name}
 use Rattle.plan_base.specs.declared.tree.Program.{Program}
 use Rattle.typing_rules.specs.Handlers.{is_handler}
-use Rattle.link_window.specs.declared.window.Version.{Version}
-use Rattle.link_window.specs.declared.window.Version.TheVariants.{One, Two}
+use Rattle.plan_base.specs.declared.stamp.Version.{Version}
+use Rattle.plan_base.specs.declared.stamp.Version.TheVariants.{One, Two}
 use Rattle.line_files.specs.declared.fault.LineReason.TheVariants.{BadArgument}
 use Rattle.line_files.specs.Reads.{◌>>=◌, Part, word_at, allowed_or_reason}
 use Rattle.line_files.specs.Programs.{named_word}

@@ -7,8 +7,7 @@ use crate::fault::{LineReason, LineStop};
 use crate::programs::name_of;
 use crate::words::{Words, allow};
 use checked_chunks::is_handler;
-use link_window::Version;
-use plan_base::{Name, Program};
+use plan_base::{Name, Program, Version};
 use std::alloc::Global;
 
 /// Whether a handler comes next: under version 2, where the next word says so.

@@ -2,7 +2,7 @@ ghost use Rattle.std.specs.Prelude.{◌≡◌};
 ghost use Rattle.line_files.specs.Headers.{version_by};
 
 use crate::words::is;
-use link_window::Version;
+use plan_base::Version;
 
 /// The version whose first line this is, of one for each, or none.
 pub fn version_of(line: &[u8], one: &[u8], two: &[u8]) -> Option<Version>

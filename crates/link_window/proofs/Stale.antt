@@ -3,7 +3,7 @@ use Rattle.std.proofs.Common.{◌≡◌, ◌≢◌, ℕ, ◌+◌, ◌<◌, ◌�
 use Rattle.std.specs.Prelude.{◌==◌, nat_le, nat_lt, if◌then◌else◌, cond}
 use Rattle.std.specs.List.{list_any}
 use Rattle.std.proofs.lemmas.Bool.Decides.{nat_tests}
-use Rattle.link_window.specs.declared.window.Stamp.{Stamp}
+use Rattle.plan_base.specs.declared.stamp.Stamp.{Stamp}
 use Rattle.link_window.specs.declared.window.Took.{Took}
 use Rattle.link_window.specs.declared.window.Took.TheVariants.{Fresh, Repeated, TooOld}
 use Rattle.link_window.specs.Seen.{Seen, greatest, is_taken, took_number, took, seen_with, seen_by, seen_after, is_fresh}

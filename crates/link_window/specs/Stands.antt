@@ -1,6 +1,6 @@
 -- Which numbers a window stands for, and what it does on its own.
 use Rattle.std.specs.Prelude.{◌≡◌, ℕ, ◌+◌, ◌-◌, ◌<◌, ◌/◌, ◌%◌, max, ◌==◌, ◌&&◌, nat_lt, nat_le, if◌then◌else◌, List, [], ◌∷◌, length, get_or, set}
-use Rattle.link_window.specs.declared.window.Stamp.{Stamp}
+use Rattle.plan_base.specs.declared.stamp.Stamp.{Stamp}
 use Rattle.link_window.specs.declared.window.Took.{Took}
 use Rattle.link_window.specs.declared.window.Took.TheVariants.{Fresh, Repeated, TooOld}
 use Rattle.link_window.specs.declared.window.Window.{Window}

@@ -1,6 +1,6 @@
 ghost use Rattle.std.specs.Prelude.{◌≡◌, false};
 ghost use Rattle.link_window.specs.Seen.{Seen, took, seen_after, is_fresh};
-ghost use Rattle.link_window.specs.declared.window.Stamp.{Stamp};
+ghost use Rattle.plan_base.specs.declared.stamp.Stamp.{Stamp};
 
 /// A stamp that was taken, and one that wasn't fresh, is never fresh again, whatever is taken later.
 pub fn stamps_stay_taken()

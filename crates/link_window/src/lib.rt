@@ -5,4 +5,4 @@ mod laws;
 mod window;
 
 pub use laws::stamps_stay_taken;
-pub use window::{Stamp, Took, Version, Window};
+pub use window::{Took, Window};

@@ -4,26 +4,10 @@ ghost use Rattle.link_window.specs.Seen.{Seen};
 ghost use Rattle.link_window.specs.Stands.{WindowStands, number_took, window_took, window_with};
 ghost use Rattle.link_window.specs.declared.window.Took.TheVariants.{Fresh as FreshOne};
 
+use plan_base::Stamp;
+
 /// The number of places of a window.
 const WINDOW_PLACES: u64 = 1024;
-
-/// What a frame bears under version 2: the moment at which its sender began, and its number on its device.
-#[derive(Clone, Copy, PartialEq, Eq)]
-pub struct Stamp {
-    /// The moment at which the sender began.
-    pub boot: u64,
-    /// The number of the frame among those of its device.
-    pub link: u64,
-}
-
-/// The version of a node: that of the frames that it sends, and of those that it reads.
-#[derive(Clone, Copy, PartialEq, Eq)]
-pub enum Version {
-    /// Frames bear no stamp.
-    One,
-    /// Packets and adverts bear stamps.
-    Two,
-}
 
 /// What a window takes a stamp as.
 #[derive(Clone, Copy, PartialEq, Eq)]

@@ -1,7 +1,7 @@
 -- The command `node`: what it does with the configuration that its file says, and how it ends.
 use Rattle.std.specs.Prelude.{◌≡◌, ℕ, List, drop, get_or, Result, Ok, Err}
-use Rattle.link_window.specs.declared.window.Version.{Version}
-use Rattle.link_window.specs.declared.window.Version.TheVariants.{One, Two}
+use Rattle.plan_base.specs.declared.stamp.Version.{Version}
+use Rattle.plan_base.specs.declared.stamp.Version.TheVariants.{One, Two}
 use Rattle.network_plan.specs.declared.serve.ServeConfig.{ServeConfig}
 use Rattle.node_files.specs.Configs.{config_of}
 use Rattle.node_io.specs.Clocks.{ClockState}

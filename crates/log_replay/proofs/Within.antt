@@ -1,6 +1,6 @@
 -- What a log's rules say of an event is enough for a node of its version.
 use Rattle.std.proofs.Common.{◌≡◌, sym, subst}
-use Rattle.link_window.specs.declared.window.Version.{Version}
+use Rattle.plan_base.specs.declared.stamp.Version.{Version}
 use Rattle.network_plan.specs.declared.event.Event.{Event}
 use Rattle.network_plan.specs.declared.event.Event.TheVariants as event
 use Rattle.network_plan.specs.NodeRules.{KeepsNodeEvent}

@@ -1,6 +1,6 @@
 -- Which state of the definition a network stands for.
 use Rattle.std.specs.Prelude.{◌≡◌, List, [], ◌∷◌, slice_get, slice_set, Option, Some, ℕ}
-use Rattle.link_window.specs.declared.window.Stamp.{Stamp}
+use Rattle.plan_base.specs.declared.stamp.Stamp.{Stamp}
 use Rattle.plan_base.specs.declared.name.Name.{Name}
 use Rattle.plan_base.specs.declared.tree.Chunk.{Chunk}
 use Rattle.network_plan.specs.Rules.{MayName}

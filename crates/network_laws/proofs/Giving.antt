@@ -15,7 +15,7 @@ use Rattle.packet_frame.specs.declared.fault.FrameFault.{FrameFault}
 use Rattle.packet_frame.specs.declared.frame.PlainStamped.{PlainStamped}
 use Rattle.packet_frame.specs.Stamped.{stamped_bytes}
 use Rattle.packet_frame.specs.Decoding.{read_by}
-use Rattle.link_window.specs.declared.window.Version.{Version}
+use Rattle.plan_base.specs.declared.stamp.Version.{Version}
 use Rattle.network_plan.specs.Hosts.{has_host}
 use Rattle.network_plan.specs.Rules.{HostsDiffer, KeepsNetwork}
 use Rattle.network_plan.specs.declared.schedule.HostSpec.{HostSpec}

@@ -8,8 +8,8 @@ use Rattle.typing_rules.specs.Handlers.{MayHandle}
 use Rattle.plan_base.specs.Sizes.{chunk_weight}
 use Rattle.checked_chunks.specs.Kept.{IsCheckedChunk}
 use Rattle.service_api.specs.declared.package.PackageName.{PackageName}
-use Rattle.link_window.specs.declared.window.Version.{Version}
-use Rattle.link_window.specs.declared.window.Version.TheVariants.{One, Two}
+use Rattle.plan_base.specs.declared.stamp.Version.{Version}
+use Rattle.plan_base.specs.declared.stamp.Version.TheVariants.{One, Two}
 use Rattle.network_plan.specs.declared.schedule.HostSpec.{HostSpec}
 use Rattle.network_plan.specs.declared.schedule.Topology.{Topology}
 use Rattle.network_plan.specs.declared.schedule.Schedule.{Schedule}

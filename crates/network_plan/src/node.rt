@@ -2,8 +2,7 @@ ghost use Rattle.std.specs.Prelude.{◌≡◌};
 ghost use Rattle.network_plan.specs.NodeRules as spec;
 
 use crate::event::LogEvents;
-use link_window::Version;
-use plan_base::Host;
+use plan_base::{Host, Version};
 use plan_items::Items;
 use service_api::{Neighbours, Packages};
 

@@ -1,6 +1,5 @@
 use crate::event::WorldEvents;
-use link_window::Version;
-use plan_base::{Dev, Host};
+use plan_base::{Dev, Host, Version};
 use plan_items::Items;
 use service_api::Packages;
 

@@ -1,6 +1,6 @@
 -- A visit that was made, of which nothing stands yet.
 use Rattle.std.specs.Prelude.{◌≡◌, ℕ, ◌+◌, ◌≤◌, Bool, true, false, if◌then◌else◌, List, Option, None, ◌∷◌, ◌++◌, length, map, vec_len, vec_capacity}
-use Rattle.link_window.specs.declared.window.Stamp.{Stamp}
+use Rattle.plan_base.specs.declared.stamp.Stamp.{Stamp}
 use Rattle.plan_base.specs.declared.tree.Packet.{Packet}
 use Rattle.service_api.specs.Services.{ServiceState, kept_services, abandoned_services}
 use Rattle.plan_meaning.specs.declared.outcome.Outcome.{Outcome}

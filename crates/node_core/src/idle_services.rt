@@ -10,10 +10,9 @@ ghost use Rattle.node_core.specs.Turns.{IsOpen, IsResting, closed_services, is_s
 ghost use Rattle.node_parts.specs.Carried.{Carries};
 
 use checked_chunks::CheckedPacket;
-use link_window::Stamp;
+use plan_base::{Family, Name, NoMemory, Stamp};
 use node_model::{Act, ActList, Lane};
 use node_parts::{Leavings, begin_acts, send_all, visit_sendings};
-use plan_base::{Family, Name, NoMemory};
 use plan_eval::visit;
 use plan_items::Items;
 use plan_meaning::{Outbox, Outcome, Visit};

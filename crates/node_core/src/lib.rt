@@ -9,5 +9,6 @@ mod opening;
 mod own;
 mod step_acts;
 
-pub use link_window::{Stamp, Took, Version, Window};
+pub use link_window::{Took, Window};
+pub use plan_base::{Stamp, Version};
 pub use node::Node;

@@ -29,7 +29,8 @@ use crate::step_acts::{
     with_act,
 };
 use checked_chunks::{Checked, CheckedChunk, CheckedPacket};
-use link_window::{Stamp, Took, Version, Window};
+use link_window::{Took, Window};
+use plan_base::{Dev, Host, Name, NoMemory, Stamp, Version};
 use network_plan::{Event, NodeConfig};
 use node_model::{Act, ActList, Acts, Lane, Reason};
 use node_parts::{
@@ -37,7 +38,6 @@ use node_parts::{
     note, packet_sending, read_as, send_all, send_one, take_first, what_of,
 };
 use packet_frame::{Frame, Stamped};
-use plan_base::{Dev, Host, Name, NoMemory};
 use plan_copies::copy_handler;
 use plan_items::Items;
 use service_api::{Advert, Ctx, Hop, Router, Services};

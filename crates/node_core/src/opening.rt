@@ -7,11 +7,11 @@ ghost use Rattle.node_model.specs.Fits.{NetworkFits};
 ghost use Rattle.node_model.specs.State.{no_queues, none_seen};
 ghost use Rattle.node_parts.specs.Windows.{SeenUnder};
 
-use link_window::{Version, Window};
+use link_window::Window;
+use plan_base::{NoMemory, Version};
 use network_plan::NodeConfig;
 use node_model::Lane;
 use node_parts::{Routes, open_lanes, open_windows};
-use plan_base::NoMemory;
 use std::alloc::Global;
 
 /// The devices of a node at its beginning: the queue and the window of each.

@@ -3,8 +3,8 @@ use Rattle.std.proofs.Common.{◌≡◌, ◌⊎◌, inl, inr, ℕ, ◌+◌, ◌�
 use Rattle.std.specs.Str.{bytes_eq}
 use Rattle.plan_base.specs.declared.tree.Program.{Program}
 use Rattle.checked_chunks.specs.Kept.{IsChecked}
-use Rattle.link_window.specs.declared.window.Version.{Version}
-use Rattle.link_window.specs.declared.window.Version.TheVariants.{One, Two}
+use Rattle.plan_base.specs.declared.stamp.Version.{Version}
+use Rattle.plan_base.specs.declared.stamp.Version.TheVariants.{One, Two}
 use Rattle.network_plan.specs.NodeRules.{first_link}
 use Rattle.line_files.specs.declared.fault.LineReason.{LineReason}
 use Rattle.line_files.specs.declared.fault.LineReason.TheVariants.{BadHeader}

@@ -10,8 +10,8 @@ use Rattle.wire_bytes.specs.Fields.{IsBytes}
 use Rattle.service_api.specs.declared.package.PackageName.{PackageName}
 use Rattle.chunk_spelling.specs.Values.{chunk_bytes}
 use Rattle.chunk_spelling.specs.Spelling.{a_whole_chunk}
-use Rattle.link_window.specs.declared.window.Version.{Version}
-use Rattle.link_window.specs.declared.window.Version.TheVariants.{One, Two}
+use Rattle.plan_base.specs.declared.stamp.Version.{Version}
+use Rattle.plan_base.specs.declared.stamp.Version.TheVariants.{One, Two}
 use Rattle.network_plan.specs.declared.event.Event.{Event}
 use Rattle.network_plan.specs.declared.event.Event.TheVariants as events
 use Rattle.network_plan.specs.declared.event.LogEvent.{LogEvent}

@@ -12,9 +12,8 @@ use line_files::{
     LineFault, LineFile, LineReason, LineStop, OpenProgram, Words, add_weight, allow, file_name,
     injection, is, number, package, program, read_file, says_nothing, stopped_at, version_of,
 };
-use link_window::Version;
+use plan_base::{Dev, Host, NoMemory, Text, Version};
 use network_plan::{DevPorts, Hosts, Inject, Injects, NodeConfig, ServeConfig, first_link};
-use plan_base::{Dev, Host, NoMemory, Text};
 use plan_items::Items;
 use service_api::{Neighbours, Packages};
 use std::alloc::Global;

@@ -12,9 +12,8 @@ use line_files::{
     LineFault, LineFile, LineReason, LineStop, Words, allow, handler, hex_bytes, is, number,
     package, read_file, says_nothing, stopped_at, version_of,
 };
-use link_window::Version;
+use plan_base::{Dev, Host, Version};
 use network_plan::{Event, Hosts, Log, LogEvent, LogEvents, NodeConfig, first_link};
-use plan_base::{Dev, Host};
 use plan_items::Items;
 use service_api::{Neighbours, Packages};
 use std::alloc::Global;

@@ -15,9 +15,9 @@ use Rattle.packet_frame.specs.declared.frame.PlainStamped.{PlainStamped}
 use Rattle.packet_frame.specs.Forms.{FrameFits}
 use Rattle.packet_frame.specs.Typed.{CarriesTyped, CarriesHandler}
 use Rattle.packet_frame.specs.Stamped.{AcceptsBy}
-use Rattle.link_window.specs.declared.window.Version.{Version}
-use Rattle.link_window.specs.declared.window.Version.TheVariants.{One, Two}
-use Rattle.link_window.specs.declared.window.Stamp.{Stamp}
+use Rattle.plan_base.specs.declared.stamp.Version.{Version}
+use Rattle.plan_base.specs.declared.stamp.Version.TheVariants.{One, Two}
+use Rattle.plan_base.specs.declared.stamp.Stamp.{Stamp}
 use Rattle.link_window.specs.declared.window.Took.{Took}
 use Rattle.link_window.specs.declared.window.Took.TheVariants.{Fresh, Repeated, TooOld}
 use Rattle.link_window.specs.Seen.{Seen}

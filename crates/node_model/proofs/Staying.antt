@@ -23,7 +23,7 @@ use Rattle.node_model.specs.declared.acts.Act.TheVariants.{Injected, SerialsSpen
 use Rattle.node_model.specs.declared.acts.Sending.{Sending}
 use Rattle.node_model.specs.State.{Links, Queues, NodeState, routing_of, is_host, leads_to}
 use Rattle.node_model.specs.Visits.{settled_at}
-use Rattle.link_window.specs.declared.window.Stamp.{Stamp}
+use Rattle.plan_base.specs.declared.stamp.Stamp.{Stamp}
 use Rattle.link_window.specs.Seen.{Seen, seen_with}
 use Rattle.node_model.specs.Node.{NodeStep, stepped_node, queue_room, has_room, lane_with, queue_push, mark, takes_as, seen_at, seen_then, noting, stamped_as, stamped_step, take_first, packet_sending, advert_sending, visit_sends, tick_sends, send_queues, sends_queues, visit_step, next_serial, injected_packet, inject_step, only_acts, onward, forward_by, forward_step, packet_step, hearing, advert_step, frame_step, arrived_read, arrive_step, tick_step, take_from, take_step}
 

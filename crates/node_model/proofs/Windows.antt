@@ -7,8 +7,8 @@ use Rattle.plan_base.specs.declared.tree.Chunk.{Chunk}
 use Rattle.packet_frame.specs.declared.frame.PlainStamped.{PlainStamped}
 use Rattle.packet_frame.specs.declared.fault.FrameFault.{FrameFault}
 use Rattle.packet_frame.specs.Decoding.{read_by}
-use Rattle.link_window.specs.declared.window.Stamp.{Stamp}
-use Rattle.link_window.specs.declared.window.Version.TheVariants.{Two}
+use Rattle.plan_base.specs.declared.stamp.Stamp.{Stamp}
+use Rattle.plan_base.specs.declared.stamp.Version.TheVariants.{Two}
 use Rattle.link_window.specs.declared.window.Took.{Took}
 use Rattle.link_window.specs.declared.window.Took.TheVariants.{Fresh, Repeated, TooOld}
 use Rattle.link_window.specs.Seen.{Seen, took, seen_with, seen_by, is_fresh}

@@ -5,9 +5,9 @@ use Rattle.plan_base.specs.declared.tree.Packet.{Packet}
 use Rattle.typing_rules.specs.Handlers.{MayHandle}
 use Rattle.packet_frame.specs.declared.frame.PlainFrame.{PlainFrame}
 use Rattle.packet_frame.specs.declared.frame.PlainStamped.{PlainStamped}
-use Rattle.link_window.specs.declared.window.Stamp.{Stamp}
-use Rattle.link_window.specs.declared.window.Version.{Version}
-use Rattle.link_window.specs.declared.window.Version.TheVariants.{One, Two}
+use Rattle.plan_base.specs.declared.stamp.Stamp.{Stamp}
+use Rattle.plan_base.specs.declared.stamp.Version.{Version}
+use Rattle.plan_base.specs.declared.stamp.Version.TheVariants.{One, Two}
 use Rattle.service_api.specs.Adverts.{AdvertFits}
 use Rattle.service_api.specs.Services.{ServiceState, IsGood, IsGoodChunk}
 use Rattle.wire_bytes.specs.Fields.{IsBytes}

@@ -7,9 +7,9 @@ use Rattle.plan_base.specs.declared.tree.Chunk.{Chunk}
 use Rattle.plan_base.specs.declared.tree.Packet.{Packet}
 use Rattle.packet_frame.specs.declared.frame.PlainFrame.{PlainFrame}
 use Rattle.packet_frame.specs.declared.frame.PlainStamped.{PlainStamped}
-use Rattle.link_window.specs.declared.window.Stamp.{Stamp}
-use Rattle.link_window.specs.declared.window.Version.{Version}
-use Rattle.link_window.specs.declared.window.Version.TheVariants.{One, Two}
+use Rattle.plan_base.specs.declared.stamp.Stamp.{Stamp}
+use Rattle.plan_base.specs.declared.stamp.Version.{Version}
+use Rattle.plan_base.specs.declared.stamp.Version.TheVariants.{One, Two}
 use Rattle.link_window.specs.declared.window.Took.{Took}
 use Rattle.link_window.specs.declared.window.Took.TheVariants.{Fresh}
 use Rattle.link_window.specs.Seen.{Seen, took, seen_with}

@@ -2,7 +2,7 @@
 use Rattle.std.specs.Prelude.{ℕ, Bool, ◌==◌, ◌&&◌, not, false, List, [], Option, Some, None, ◌∷◌, replicate, if◌then◌else◌}
 use Rattle.plan_base.specs.declared.ids.Host.{Host}
 use Rattle.plan_base.specs.declared.ids.Dev.{Dev}
-use Rattle.link_window.specs.declared.window.Version.{Version}
+use Rattle.plan_base.specs.declared.stamp.Version.{Version}
 use Rattle.link_window.specs.Seen.{Seen, nothing_seen}
 use Rattle.service_api.specs.declared.advert.Advert.{Advert}
 use Rattle.service_api.specs.Services.{ServiceState}

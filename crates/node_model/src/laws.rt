@@ -1,8 +1,8 @@
 ghost use Rattle.std.specs.Prelude.{◌≡◌, ℕ, ◌≤◌, ◌<◌, false, Option, length};
 ghost use Rattle.plan_base.specs.declared.ids.Dev.{Dev};
 ghost use Rattle.packet_frame.specs.declared.frame.PlainStamped.{PlainStamped};
-ghost use Rattle.link_window.specs.declared.window.Stamp.{Stamp};
-ghost use Rattle.link_window.specs.declared.window.Version.TheVariants.{Two};
+ghost use Rattle.plan_base.specs.declared.stamp.Stamp.{Stamp};
+ghost use Rattle.plan_base.specs.declared.stamp.Version.TheVariants.{Two};
 ghost use Rattle.link_window.specs.Seen.{is_fresh};
 ghost use Rattle.plan_base.specs.declared.ids.Family.{Family};
 ghost use Rattle.plan_base.specs.declared.tree.Packet.{Packet};

@@ -1,7 +1,7 @@
 -- A frame on its way to a queue is that of the definition.
 use Rattle.std.proofs.Common.{◌≡◌, ℕ, ◌-◌, Bool, true, false, Option, ap, sym, ◌∙◌, subst}
 use Rattle.std.specs.Prelude.{IsTrue, Result, IfOk, if◌then◌else◌, slice_get}
-use Rattle.link_window.specs.declared.window.Stamp.{Stamp}
+use Rattle.plan_base.specs.declared.stamp.Stamp.{Stamp}
 use Rattle.plan_base.specs.declared.ids.Dev.{Dev}
 use Rattle.plan_base.specs.declared.ids.Host.{Host}
 use Rattle.plan_base.specs.declared.memory.NoMemory.{NoMemory}

@@ -1,6 +1,6 @@
 -- One frame more to be queued, and what any frame may carry.
 use Rattle.std.proofs.Common.{◌≡◌, List, [], ◌∷◌, ◌++◌, Option, Some, None, refl, ap}
-use Rattle.link_window.specs.declared.window.Stamp.{Stamp}
+use Rattle.plan_base.specs.declared.stamp.Stamp.{Stamp}
 use Rattle.plan_base.specs.declared.name.Name.{Name}
 use Rattle.spelled_frame.specs.Spelled.{MayCarry}
 use Rattle.node_model.specs.declared.acts.Sending.{Sending}

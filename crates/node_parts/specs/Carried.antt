@@ -1,8 +1,8 @@
 -- What the frames of a node may carry.
 use Rattle.std.specs.Prelude.{◌≡◌, ◌≤◌, Option, None}
-use Rattle.link_window.specs.declared.window.Stamp.{Stamp}
-use Rattle.link_window.specs.declared.window.Version.{Version}
-use Rattle.link_window.specs.declared.window.Version.TheVariants.{One, Two}
+use Rattle.plan_base.specs.declared.stamp.Stamp.{Stamp}
+use Rattle.plan_base.specs.declared.stamp.Version.{Version}
+use Rattle.plan_base.specs.declared.stamp.Version.TheVariants.{One, Two}
 use Rattle.packet_frame.specs.declared.frame.PlainFrame.{PlainFrame}
 use Rattle.plan_meaning.specs.declared.sent.Sent.{Sent}
 use Rattle.spelled_frame.specs.Spelled.{MayCarry}

@@ -1,7 +1,7 @@
 -- Windows that stand for what was taken on each device.
 use Rattle.std.specs.Prelude.{◌≡◌, List, [], ◌∷◌}
-use Rattle.link_window.specs.declared.window.Version.{Version}
-use Rattle.link_window.specs.declared.window.Version.TheVariants.{One, Two}
+use Rattle.plan_base.specs.declared.stamp.Version.{Version}
+use Rattle.plan_base.specs.declared.stamp.Version.TheVariants.{One, Two}
 use Rattle.link_window.specs.Seen.{Seen}
 use Rattle.link_window.specs.Stands.{WindowStands}
 use Rattle.link_window.specs.declared.window.Window.{Window}

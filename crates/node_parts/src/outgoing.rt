@@ -6,8 +6,7 @@ ghost use Rattle.node_parts.specs.Carried.{Carries};
 
 use crate::leaving::{Leaving, Leavings};
 use checked_chunks::CheckedPacket;
-use link_window::Stamp;
-use plan_base::{Dev, Host, NoMemory};
+use plan_base::{Dev, Host, NoMemory, Stamp};
 use plan_items::Items;
 use plan_meaning::Outbox;
 use service_api::Advert;

@@ -1,6 +1,6 @@
 ghost use Rattle.std.specs.Prelude.{◌≡◌, ◌⊎◌, ℕ, IfOk, IfErr, Ok, Err};
 ghost use Rattle.wire_bytes.specs.Fields.{IsBytes};
-ghost use Rattle.link_window.specs.declared.window.Version.TheVariants.{One, Two};
+ghost use Rattle.plan_base.specs.declared.stamp.Version.TheVariants.{One, Two};
 ghost use Rattle.packet_frame.specs.declared.fault.FrameFault.{FrameFault};
 ghost use Rattle.packet_frame.specs.Typed.{plain_of};
 ghost use Rattle.packet_frame.specs.Stamped.{AcceptsBy, stamped_plain};
@@ -10,7 +10,7 @@ ghost use Rattle.node_model.specs.Node.{mark_of};
 ghost use Rattle.node_parts.specs.Carried.{MayBear, MayGoOn, asks_within};
 
 use checked_chunks::Checked;
-use link_window::Version;
+use plan_base::Version;
 use node_model::What;
 use packet_frame::{Frame, FrameFault, Stamped, get_frame, get_frame2};
 use std::alloc::Global;

@@ -6,8 +6,8 @@ ghost use Rattle.node_model.specs.Node.{took_by, seen_at};
 ghost use Rattle.node_parts.specs.Windows.{AllSeen, SeenUnder};
 
 use crate::lanes::DEVICES;
-use link_window::{Stamp, Took, Version, Window};
-use plan_base::Dev;
+use link_window::{Took, Window};
+use plan_base::{Dev, Stamp, Version};
 use std::alloc::{AllocError, Global};
 
 /// A window for each device, which has taken nothing.

@@ -1,6 +1,6 @@
 -- Which events may come to a node.
 use Rattle.std.proofs.Common.{Option, Some, None, IfSome}
-use Rattle.link_window.specs.declared.window.Version.{Version}
+use Rattle.plan_base.specs.declared.stamp.Version.{Version}
 use Rattle.network_plan.specs.declared.event.Event.{Event}
 use Rattle.network_plan.specs.NodeRules.{KeepsNodeEvent}
 use Rattle.log_replay.proofs.Within.{comes_as}

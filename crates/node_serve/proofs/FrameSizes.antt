@@ -3,8 +3,8 @@ use Rattle.std.proofs.Common.{ℕ, ◌≤◌, List, [], ◌∷◌, ◌++◌, len
 use Rattle.std.specs.Int.{w32, w64, to_be_bytes}
 use Rattle.wire_bytes.specs.Fields.{IsBytes}
 use Rattle.plan_base.specs.declared.name.Name.{Name}
-use Rattle.link_window.specs.declared.window.Stamp.{Stamp}
-use Rattle.link_window.specs.declared.window.Version.{Version}
+use Rattle.plan_base.specs.declared.stamp.Stamp.{Stamp}
+use Rattle.plan_base.specs.declared.stamp.Version.{Version}
 use Rattle.network_plan.specs.Rules.{MayArrive}
 use Rattle.chunk_spelling.specs.Values.{chunk_bytes}
 use Rattle.packet_frame.specs.declared.frame.PlainFrame.{PlainFrame}

@@ -3,8 +3,8 @@ use Rattle.std.proofs.Common.{◌≡◌, true, Option, Some, None, refl, sym, su
 use Rattle.plan_base.specs.declared.name.Name.{Name}
 use Rattle.plan_base.specs.declared.tree.Chunk.{Chunk}
 use Rattle.typing_rules.specs.Handlers.{MayHandle}
-use Rattle.link_window.specs.declared.window.Version.{Version}
-use Rattle.link_window.specs.declared.window.Version.TheVariants.{One, Two}
+use Rattle.plan_base.specs.declared.stamp.Version.{Version}
+use Rattle.plan_base.specs.declared.stamp.Version.TheVariants.{One, Two}
 use Rattle.network_plan.specs.declared.serve.Inject.{Inject as Injection}
 use Rattle.network_plan.specs.declared.event.Event.TheVariants.{Inject}
 use Rattle.network_plan.specs.Rules.{MayName}

@@ -1,7 +1,7 @@
 -- What stands outside while a run goes on.
 use Rattle.std.specs.Prelude.{◌≡◌, ℕ, ◌≤◌, ◌+◌, ◌⊎◌, List, ◌++◌, length, take, drop, Some, Result, MatchResult}
 use Rattle.std.specs.List.{All}
-use Rattle.link_window.specs.declared.window.Version.{Version}
+use Rattle.plan_base.specs.declared.stamp.Version.{Version}
 use Rattle.network_plan.specs.declared.serve.ServeConfig.{ServeConfig}
 use Rattle.network_plan.specs.declared.event.LogEvent.{LogEvent}
 use Rattle.network_plan.specs.NodeRules.{KeepsEntry}

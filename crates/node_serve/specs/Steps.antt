@@ -1,6 +1,6 @@
 -- What a step of a serving node gives.
 use Rattle.std.specs.Prelude.{◌≡◌, ℕ, ◌≤◌, ◌<◌, ◌⊎◌, Bool, true, false, IsTrue, List, ◌++◌, length, Option, None, IfSome, Result, Ok, Err}
-use Rattle.link_window.specs.declared.window.Version.{Version}
+use Rattle.plan_base.specs.declared.stamp.Version.{Version}
 use Rattle.plan_base.specs.declared.ids.Dev.{Dev}
 use Rattle.node_io.specs.FileMaps.{FileMap, WritesMore}
 use Rattle.node_serve.specs.Fronts.{AppendsFront, WritesFront}

@@ -1,4 +1,4 @@
-ghost use Rattle.link_window.specs.declared.window.Version.{Version};
+ghost use Rattle.plan_base.specs.declared.stamp.Version.{Version};
 ghost use Rattle.std.specs.Prelude.{◌≡◌, IsTrue};
 ghost use Rattle.network_plan.specs.NodeRules.{KeepsNodeEvent};
 ghost use Rattle.network_plan.specs.Hosts.{dev_of};

@@ -1,4 +1,4 @@
-ghost use Rattle.link_window.specs.declared.window.Version.{Version};
+ghost use Rattle.plan_base.specs.declared.stamp.Version.{Version};
 ghost use Rattle.std.specs.Prelude.{◌≡◌, ◌∷◌, [], IfOk, IfSome, OnOk};
 ghost use Rattle.network_plan.specs.declared.event.Event.{Event as EventOf};
 ghost use Rattle.network_plan.specs.NodeRules.{KeepsNodeEvent};

@@ -1,4 +1,4 @@
-ghost use Rattle.link_window.specs.declared.window.Version.{Version as VersionOf};
+ghost use Rattle.plan_base.specs.declared.stamp.Version.{Version as VersionOf};
 ghost use Rattle.std.specs.Prelude.{◌≡◌, ◌+◌, Some, IsTrue, IfSome, length, nat_le};
 ghost use Rattle.network_plan.specs.NodeRules.{KeepsNodeEvent, KeepsServe, KeepsInject};
 ghost use Rattle.network_plan.specs.declared.event.Event.TheVariants as event;
@@ -11,10 +11,9 @@ ghost use Rattle.node_serve.specs.Moments.{takes_handler};
 
 use crate::fault::ServeFault;
 use crate::server::Server;
-use link_window::Version;
+use plan_base::{Name, Version};
 use network_plan::{Event, Inject, ServeConfig};
 use node_io::{Files, Sink};
-use plan_base::Name;
 use plan_copies::copy_handler;
 use service_api::Services;
 use std::alloc::Global;

@@ -18,7 +18,7 @@ use Rattle.packet_frame.specs.declared.frame.PlainStamped.{PlainStamped}
 use Rattle.packet_frame.specs.declared.checked.Stamped.{Stamped}
 use Rattle.packet_frame.specs.Stamped.{SpellsStamped, StampedFault, AcceptsBy, StampedFirst, spells_none, stamped_plain}
 use Rattle.packet_frame.specs.Stamped as stamped
-use Rattle.link_window.specs.declared.window.Version.TheVariants.{Two}
+use Rattle.plan_base.specs.declared.stamp.Version.TheVariants.{Two}
 use Rattle.packet_frame.proofs.Sizes.{chunk_small}
 
 pub chunk_is_formed : (c : Chunk) → a_whole_chunk.Fits c → IsWellFormedChunk c

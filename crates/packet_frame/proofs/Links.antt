@@ -1,7 +1,7 @@
 -- A frame of version 2 with another number.
 use Rattle.std.proofs.Common.{◌≡◌, ℕ, ◌<◌, ◌^◌, List, ◌++◌, length, take, drop, Option, Some, None, refl, ap, ◌∙◌, arith}
 use Rattle.std.specs.Int.{w64, to_be_bytes}
-use Rattle.link_window.specs.declared.window.Stamp.{Stamp}
+use Rattle.plan_base.specs.declared.stamp.Stamp.{Stamp}
 use Rattle.packet_frame.specs.declared.frame.PlainFrame.{PlainFrame}
 use Rattle.plan_base.specs.declared.name.Name.{Name}
 use Rattle.packet_frame.specs.Stamped.{packet_with, bytes_with, stamped_bytes, BearsStamp, SpellsStamped}

@@ -11,7 +11,7 @@ use Rattle.plan_items.proofs.Agendas.{Goes, chain, one_step}
 use Rattle.chunk_spelling.specs.Scan.{Scan, number_field}
 use Rattle.chunk_spelling.proofs.Took.{Took, Took-bytes, Took-then, Took-first, Took-second, Took-as, between}
 use Rattle.chunk_spelling.proofs.FieldLaws.{byte_takes, byte_again}
-use Rattle.link_window.specs.declared.window.Stamp.{Stamp}
+use Rattle.plan_base.specs.declared.stamp.Stamp.{Stamp}
 use Rattle.packet_frame.specs.declared.fault.FrameFault.{FrameFault}
 use Rattle.packet_frame.specs.declared.frame.PlainFrame.{PlainFrame}
 use Rattle.packet_frame.specs.declared.frame.PlainStamped.{PlainStamped}

@@ -19,7 +19,7 @@ use Rattle.packet_frame.specs.Forms.{FrameFits}
 use Rattle.packet_frame.specs.Frames.{SpellsFrame}
 use Rattle.std.proofs.Common.{Some, ◌∙◌, append_assoc}
 use Rattle.plan_base.specs.declared.name.Name.{Name}
-use Rattle.link_window.specs.declared.window.Stamp.{Stamp}
+use Rattle.plan_base.specs.declared.stamp.Stamp.{Stamp}
 use Rattle.packet_frame.specs.Stamped.{stamped_head, packet_with, bytes_with, stamped_bytes, StampFits, SpellsStamped}
 use Rattle.packet_frame.proofs.Sizes.{rows_size, route_short, chunk_bytes_small}
 

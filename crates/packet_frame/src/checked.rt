@@ -9,7 +9,7 @@ ghost use Rattle.packet_frame.specs.Typed.{plain_of, CarriesTyped, CarriesHandle
 ghost use Rattle.packet_frame.specs.declared.frame.PlainFrame.{PlainFrame as Plain};
 ghost use Rattle.packet_frame.specs.declared.frame.PlainStamped.{PlainStamped as PlainOne};
 ghost use Rattle.packet_frame.specs.Stamped.{stamped_plain, AcceptsBy, StampedFirst};
-ghost use Rattle.link_window.specs.declared.window.Version.TheVariants.{Two};
+ghost use Rattle.plan_base.specs.declared.stamp.Version.TheVariants.{Two};
 
 use crate::fault::FrameFault;
 use crate::frame::{PlainFrame, PlainStamped};
@@ -17,8 +17,7 @@ use crate::get::get_plain_frame;
 use crate::get_stamped::get_plain_stamped;
 use checked_chunks::{Checked, CheckedChunk, CheckedPacket, is_handler};
 use chunk_types::{ChunkFault, check_chunk};
-use link_window::Stamp;
-use plan_base::{Chunk, Name, Packet};
+use plan_base::{Chunk, Name, Packet, Stamp};
 use service_api::Advert;
 use std::alloc::Global;
 

@@ -1,5 +1,4 @@
-use link_window::Stamp;
-use plan_base::{Chunk, Packet};
+use plan_base::{Chunk, Packet, Stamp};
 use service_api::Advert;
 
 /// What a frame spells, its chunk not yet checked.

@@ -13,8 +13,7 @@ use crate::get::{
     bound_of, chunk_of, count_of, first_of, magic_of, route_of, rows_of, serial_of, word_of,
 };
 use crate::kind::Form;
-use link_window::Stamp;
-use plan_base::{Family, Host, Packet};
+use plan_base::{Family, Host, Packet, Stamp};
 use service_api::Advert;
 use std::alloc::Global;
 use wire_bytes::Cursor;

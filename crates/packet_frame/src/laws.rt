@@ -7,8 +7,8 @@ ghost use Rattle.packet_frame.specs.declared.fault.FrameFault.{FrameFault};
 ghost use Rattle.packet_frame.specs.declared.frame.PlainFrame.{PlainFrame};
 ghost use Rattle.packet_frame.specs.Typed.{Accepts, FrameFirst};
 ghost use Rattle.packet_frame.specs.Decoding.{frame_of, read_by};
-ghost use Rattle.link_window.specs.declared.window.Version.{Version};
-ghost use Rattle.link_window.specs.declared.window.Version.TheVariants.{Two};
+ghost use Rattle.plan_base.specs.declared.stamp.Version.{Version};
+ghost use Rattle.plan_base.specs.declared.stamp.Version.TheVariants.{Two};
 
 /// Laws of the spelling of a frame: no frame has two spellings and no spelling begins another's; at most one fault is
 /// the first; bytes spell a frame or have a first fault, and never both.

@@ -18,7 +18,7 @@ pub use fault::FrameFault;
 pub use frame::{PlainFrame, PlainStamped};
 pub use laws::{frame_laws, reading_laws, stamped_laws, version_laws};
 pub use link::with_link;
-pub use link_window::{Stamp, Version};
+pub use plan_base::{Stamp, Version};
 pub use put::{put_advert, put_ask, put_packet};
 pub use put_stamped::{put_advert2, put_packet2};
 pub use service_api::{Advert, AdvertRow, AdvertRows};

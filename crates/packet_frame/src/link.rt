@@ -1,6 +1,6 @@
 ghost use Rattle.std.specs.Prelude.{◌≡◌, ◌≤◌, ◌++◌, length, take, drop, Some};
 ghost use Rattle.std.specs.Int.{w64, to_be_bytes};
-ghost use Rattle.link_window.specs.declared.window.Stamp.{Stamp};
+ghost use Rattle.plan_base.specs.declared.stamp.Stamp.{Stamp};
 ghost use Rattle.packet_frame.specs.declared.frame.PlainFrame.{PlainFrame};
 ghost use Rattle.packet_frame.specs.Stamped.{SpellsStamped};
 

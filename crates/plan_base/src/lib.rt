@@ -8,6 +8,7 @@ mod limit;
 mod memory;
 mod name;
 mod prim;
+mod stamp;
 mod text;
 mod tree;
 
@@ -17,6 +18,7 @@ pub use limit::Limit;
 pub use memory::NoMemory;
 pub use name::{Name, NameFault, Names, is_name, is_reserved, same_bytes};
 pub use prim::Primitive;
+pub use stamp::{Stamp, Version};
 pub use text::{Text, Texts};
 pub use tree::{
     Chunk, Clause, Clauses, Draft, Exn, Expr, Exprs, Fun, Funs, Op, Packet, Param, Params, Place,

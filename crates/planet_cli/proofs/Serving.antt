@@ -9,8 +9,8 @@ use Rattle.node_io.specs.Outsides.{Outside}
 use Rattle.node_io.specs.Sinks.{SinkState}
 use Rattle.node_model.specs.State.{NodeState}
 use Rattle.fleet_run.specs.Asks.{ask_line}
-use Rattle.link_window.specs.declared.window.Version.{Version}
-use Rattle.link_window.specs.declared.window.Version.TheVariants.{One, Two}
+use Rattle.plan_base.specs.declared.stamp.Version.{Version}
+use Rattle.plan_base.specs.declared.stamp.Version.TheVariants.{One, Two}
 use Rattle.node_io.specs.Clocks.{ClockState, Tells}
 use Rattle.node_serve.specs.Desks.{Serving, IsSeen, desk_of, seen_at, start_at}
 use Rattle.node_serve.specs.Shown.{run_log, Agrees}

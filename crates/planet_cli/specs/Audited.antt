@@ -2,7 +2,7 @@
 use Rattle.std.specs.Prelude.{ℕ, ◌≡◌, ◌≤◌, IsTrue, List, [], map, Some}
 use Rattle.std.specs.List.{AllByRecursion}
 use Rattle.plan_base.specs.declared.ids.Family.{Family}
-use Rattle.link_window.specs.declared.window.Version.TheVariants.{Two}
+use Rattle.plan_base.specs.declared.stamp.Version.TheVariants.{Two}
 use Rattle.network_plan.specs.declared.node.Log.{Log}
 use Rattle.world_model.specs.World.{Cables}
 use Rattle.ledger_audit.specs.Crossings.{Crossing, times, crossings}

@@ -13,7 +13,7 @@ use Rattle.world_model.specs.declared.lines.Entry.{Entry}
 use Rattle.world_model.specs.Counts.{hops, evals}
 use Rattle.world_model.specs.World.{WorldState, history_of, world_after}
 use Rattle.world_model.specs.Sound.{event_fits}
-use Rattle.link_window.specs.declared.window.Version.{Version}
+use Rattle.plan_base.specs.declared.stamp.Version.{Version}
 use Rattle.reliable_ports.specs.Ends.{IsShort}
 use Rattle.port_run.specs.Ports.{PortState, PortEvent, Offer, Transmit, Wire}
 

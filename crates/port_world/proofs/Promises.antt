@@ -1,7 +1,7 @@
 -- What every run of two ends keeps.
 use Rattle.std.proofs.Common.{◌+◌, List, [], ◌∷◌, map, take, refl, arith}
 use Rattle.std.specs.List.{AllByRecursion}
-use Rattle.link_window.specs.declared.window.Version.TheVariants.{Two}
+use Rattle.plan_base.specs.declared.stamp.Version.TheVariants.{Two}
 use Rattle.world_model.specs.World.{opening}
 use Rattle.port_files.specs.declared.file.PortEvent.{PortEvent as Said}
 use Rattle.port_files.specs.declared.file.PortEvent.TheVariants as says

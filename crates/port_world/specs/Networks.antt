@@ -1,6 +1,6 @@
 -- The network of two ends.
 use Rattle.std.specs.Prelude.{ℕ, [], ◌∷◌}
-use Rattle.link_window.specs.declared.window.Version.TheVariants.{Two}
+use Rattle.plan_base.specs.declared.stamp.Version.TheVariants.{Two}
 use Rattle.network_plan.specs.Hosts.{host_of, dev_of}
 use Rattle.network_plan.specs.declared.schedule.HostSpec.{HostSpec}
 use Rattle.network_plan.specs.declared.schedule.Topology.{Topology}

@@ -1,6 +1,6 @@
 -- Which state of the definition two ends and their network stand for.
 use Rattle.std.specs.Prelude.{◌≡◌, ℕ, ◌+◌, ◌*◌, List, ◌++◌}
-use Rattle.link_window.specs.declared.window.Version.TheVariants.{Two}
+use Rattle.plan_base.specs.declared.stamp.Version.TheVariants.{Two}
 use Rattle.service_api.specs.Services.{ServiceState}
 use Rattle.network_plan.specs.declared.event.WorldEvent.{WorldEvent}
 use Rattle.world_model.specs.declared.lines.Line.{Line}

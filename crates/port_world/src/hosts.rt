@@ -1,9 +1,8 @@
 ghost use Rattle.std.specs.Prelude.{◌≡◌, ◌++◌, ◌∷◌, [], IfOk, OnOk};
 ghost use Rattle.port_world.specs.Networks as spec;
 
-use link_window::Version;
+use plan_base::{Dev, Host, NoMemory, Version};
 use network_plan::{Cable, HostSpec, HostSpecs, Links, Topology};
-use plan_base::{Dev, Host, NoMemory};
 use plan_items::Items;
 use std::alloc::Global;
 

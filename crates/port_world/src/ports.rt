@@ -1,5 +1,5 @@
 ghost use Rattle.std.specs.Prelude.{◌≡◌, ◌≤◌, ◌<◌, ◌+◌, ◌*◌, ◌^◌, [], length, map, None, IfOk, OnOk};
-ghost use Rattle.link_window.specs.declared.window.Version.TheVariants.{Two};
+ghost use Rattle.plan_base.specs.declared.stamp.Version.TheVariants.{Two};
 ghost use Rattle.network_plan.specs.declared.event.WorldEvent.TheVariants as happens;
 ghost use Rattle.world_model.specs.World.{opening, opening_services};
 ghost use Rattle.world_model.specs.Sound.{event_fits};

@@ -23,8 +23,8 @@ use Rattle.typing_rules.specs.Handlers.{is_handler}
 use Rattle.checked_chunks.specs.Kept.{IsCheckedChunk}
 use Rattle.chunk_types.specs.Chunks.{refusal_of}
 use Rattle.program_text.specs.Texts.{args_of_text}
-use Rattle.link_window.specs.declared.window.Version.{Version}
-use Rattle.link_window.specs.declared.window.Version.TheVariants.{One, Two}
+use Rattle.plan_base.specs.declared.stamp.Version.{Version}
+use Rattle.plan_base.specs.declared.stamp.Version.TheVariants.{One, Two}
 use Rattle.network_plan.specs.declared.event.WorldEvent.{WorldEvent}
 use Rattle.network_plan.specs.declared.event.WorldEvent.TheVariants as happens
 use Rattle.network_plan.specs.declared.schedule.HostSpec.{HostSpec}

@@ -5,7 +5,7 @@ use Rattle.std.specs.Option.{ok_or}
 use Rattle.std.specs.Str.{bytes_eq}
 use lib.Chars.{codes}
 use Rattle.plan_base.specs.declared.name.Name.{Name}
-use Rattle.link_window.specs.declared.window.Version.{Version}
+use Rattle.plan_base.specs.declared.stamp.Version.{Version}
 use Rattle.line_files.specs.declared.fault.LineReason.{LineReason}
 use Rattle.line_files.specs.declared.fault.LineReason.TheVariants.{BadHeader, BadWord, TwiceNamed, TooMany}
 use Rattle.line_files.specs.declared.fault.LineFault.{LineFault}

@@ -3,7 +3,7 @@ ghost use Rattle.schedule_text.specs.Schedules as spec;
 ghost use Rattle.schedule_text.specs.Schedules.{network_word, event_word};
 
 use line_files::is;
-use link_window::Version;
+use plan_base::Version;
 
 /// The first word of a line of the network.
 #[derive(Clone, Copy, PartialEq, Eq)]

@@ -12,7 +12,7 @@ use crate::reading::{BegunProgram, Reading, ScheduleFile, Stage};
 use line_files::{
     LineFault, LineFile, LineReason, Words, is, read_file, says_nothing, stopped_at, version_of,
 };
-use link_window::Version;
+use plan_base::Version;
 use network_plan::Schedule;
 use plan_items::Items;
 use std::alloc::Global;

@@ -3,9 +3,8 @@ ghost use Rattle.schedule_text.specs.Schedules.{schedule_of_reading};
 
 use checked_chunks::Checked;
 use line_files::OpenProgram;
-use link_window::Version;
+use plan_base::{Name, Version};
 use network_plan::{HostSpecs, Links, Schedule, Topology, WorldEvents};
-use plan_base::Name;
 use plan_items::Items;
 
 /// A typed program of a file, with the name that the file gives it.

@@ -1,9 +1,9 @@
 -- The bytes of a frame are read as that frame.
 use Rattle.std.proofs.Common.{◌≡◌, ℕ, ◌≤◌, true, false, List, length, Option, None, Some, refl, sym, ◌∙◌, ap, subst, arith}
-use Rattle.link_window.specs.declared.window.Version.{Version}
+use Rattle.plan_base.specs.declared.stamp.Version.{Version}
 use Rattle.packet_frame.specs.declared.frame.PlainStamped.{PlainStamped}
-use Rattle.link_window.specs.declared.window.Version.TheVariants.{One, Two}
-use Rattle.link_window.specs.declared.window.Stamp.{Stamp}
+use Rattle.plan_base.specs.declared.stamp.Version.TheVariants.{One, Two}
+use Rattle.plan_base.specs.declared.stamp.Stamp.{Stamp}
 use Rattle.packet_frame.specs.declared.frame.PlainFrame.{PlainFrame}
 use Rattle.packet_frame.specs.declared.checked.Frame.{Frame}
 use Rattle.std.specs.Prelude.{Result, Ok, Err, IfOk}

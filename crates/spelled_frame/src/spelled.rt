@@ -4,14 +4,13 @@ ghost use Rattle.service_api.specs.Adverts.{AdvertFits};
 ghost use Rattle.packet_frame.specs.declared.frame.PlainFrame.{PlainFrame};
 ghost use Rattle.packet_frame.specs.Stamped.{AcceptsBy};
 ghost use Rattle.packet_frame.specs.Typed.{plain_of};
-ghost use Rattle.link_window.specs.declared.window.Version.TheVariants.{One, Two};
+ghost use Rattle.plan_base.specs.declared.stamp.Version.TheVariants.{One, Two};
 ghost use Rattle.spelled_frame.specs.Spelled as spec;
 ghost use Rattle.spelled_frame.specs.Spelled.{frame_in, IsSpelled, IsBeside, IsFrame, MayCarry};
 
 use checked_chunks::{CheckedChunk, CheckedPacket};
-use link_window::{Stamp, Version};
+use plan_base::{Bytes, Family, Name, NoMemory, Stamp, Version};
 use packet_frame::{Frame, put_advert, put_advert2, put_packet, put_packet2, with_link};
-use plan_base::{Bytes, Family, Name, NoMemory};
 use plan_copies::copy_handler;
 use service_api::Advert;
 use std::alloc::Global;

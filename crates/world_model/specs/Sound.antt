@@ -5,9 +5,9 @@ use Rattle.plan_base.specs.declared.ids.Host.{Host}
 use Rattle.wire_bytes.specs.Fields.{IsBytes}
 use Rattle.packet_frame.specs.declared.frame.PlainStamped.{PlainStamped}
 use Rattle.plan_base.specs.declared.ids.Dev.{Dev}
-use Rattle.link_window.specs.declared.window.Stamp.{Stamp}
-use Rattle.link_window.specs.declared.window.Version.{Version}
-use Rattle.link_window.specs.declared.window.Version.TheVariants.{Two}
+use Rattle.plan_base.specs.declared.stamp.Stamp.{Stamp}
+use Rattle.plan_base.specs.declared.stamp.Version.{Version}
+use Rattle.plan_base.specs.declared.stamp.Version.TheVariants.{Two}
 use Rattle.link_window.specs.declared.window.Took.{Took}
 use Rattle.link_window.specs.declared.window.Took.TheVariants.{TooOld}
 use Rattle.link_window.specs.Seen.{is_fresh}

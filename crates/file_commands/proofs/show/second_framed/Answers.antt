@@ -1,4 +1,4 @@
-use Rattle.link_window.specs.declared.window.Version.TheVariants.{Two}
+use Rattle.plan_base.specs.declared.stamp.Version.TheVariants.{Two}
 use Rattle.packet_frame.proofs.Versions.{accepted_by}
 use Rattle.file_commands.proofs.ShowLemmas.{second_refused}
 use Rattle.file_commands.proofs.show.second_framed.Goals as goal

@@ -1,7 +1,7 @@
 use Rattle.std.proofs.Common.{◌≡◌, ◌∙◌, ap, subst}
 use Rattle.world_model.specs.World.{opening, world_after, history_of}
 use Rattle.network_laws.proofs.Handings.{opening_balances}
-use Rattle.link_window.specs.declared.window.Version.TheVariants.{One}
+use Rattle.plan_base.specs.declared.stamp.Version.TheVariants.{One}
 use Rattle.world_model.specs.Sound.{EventsFit}
 use Rattle.grow_run.proofs.RingRules.{ring_keeps}
 use Rattle.run_ledger.specs.Stands.{Stands}

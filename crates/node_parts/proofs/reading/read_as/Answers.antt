@@ -1,4 +1,4 @@
-use Rattle.link_window.specs.declared.window.Version.TheVariants.{One, Two}
+use Rattle.plan_base.specs.declared.stamp.Version.TheVariants.{One, Two}
 use Rattle.node_parts.proofs.ReadingLaws.{read_within}
 use Rattle.node_parts.proofs.reading.read_as.Goals as goal
 

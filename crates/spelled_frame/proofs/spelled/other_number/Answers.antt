@@ -1,5 +1,5 @@
 use Rattle.std.proofs.Common.{ap, sym, subst, ◌∙◌}
-use Rattle.link_window.specs.declared.window.Version.TheVariants.{Two}
+use Rattle.plan_base.specs.declared.stamp.Version.TheVariants.{Two}
 use Rattle.spelled_frame.specs.declared.spelled.Beside.{Beside}
 use Rattle.spelled_frame.specs.Spelled.{frame_in, stamp_with, numbered_frame, IsSpelled, IsBeside}
 use Rattle.spelled_frame.proofs.Reading.{two_numbered, two_spelled, is_beside}
