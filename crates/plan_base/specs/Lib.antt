@@ -5,3 +5,4 @@ pub mod Trees
 pub mod WellFormed
 pub mod Words
 pub mod SameTypes
+pub mod Groups

@@ -1,5 +1,6 @@
-ghost use Rattle.std.specs.Prelude.{◌≡◌, [], ◌∷◌, ◌++◌, IfOk, OnOk};
-ghost use Rattle.plan_base.specs.declared.tree.Expr.{Expr};
+ghost use Rattle.std.specs.Prelude.{◌≡◌, true, [], ◌∷◌, ◌++◌, IfOk, OnOk};
+ghost use Rattle.plan_base.specs.declared.tree.Expr.{Expr, out-Expr};
+ghost use Rattle.plan_base.specs.Groups.{is_leaf, is_pair, is_row};
 
 use crate::copied::{Copied, copy_items, copy_option};
 use plan_base::{
@@ -109,21 +110,23 @@ fn copy_expr(alloc: Global, e: &Expr) -> Result<Expr, NoMemory>
 {
     match e {
         Expr::Tuple(_) | Expr::Call(_, _) | Expr::ChunkOf(_, _) => copy_row(alloc, e),
-        Expr::Not(_) | Expr::Part(_, _) | Expr::Eval(_) => copy_row(alloc, e),
+        Expr::Not(_) | Expr::Part(_, _) | Expr::Eval(_) | Expr::Try(_, _) => copy_row(alloc, e),
         Expr::Then(_, _) | Expr::And(_, _) | Expr::Or(_, _) => copy_pair(alloc, e),
         Expr::Binary(_, _, _) | Expr::Foldl(_, _, _) | Expr::Foldr(_, _, _) => copy_pair(alloc, e),
         Expr::If(c, a, b) => copy_if(alloc, c, a, b),
         Expr::Let(x, t, a, b) => copy_let(alloc, x, t, a, b),
-        Expr::Try(a, clauses) => copy_try(alloc, a, clauses),
         Expr::OnRemote(c, h, n, r) => copy_on_remote(alloc, c, h, n, r),
         Expr::OnNeighbor(c, h, n, d) => copy_on_neighbor(alloc, c, h, n, d),
-        _ => copy_leaf(alloc, e),
+        Expr::Unit | Expr::Bool(_) | Expr::Int(_) | Expr::Char(_) => copy_leaf(alloc, e),
+        Expr::Str(_) | Expr::Blob(_) | Expr::Host(_) | Expr::Dev(_) => copy_leaf(alloc, e),
+        Expr::Nil(_) | Expr::Var(_) | Expr::Raise(_, _) => copy_leaf(alloc, e),
     }
 }
 
-/// An expression without parts; the others have functions of their own.
+/// An expression without parts.
 #[tactic(auto, using(plan_base::specs::Trees::trees))]
 fn copy_leaf(alloc: Global, e: &Expr) -> Result<Expr, NoMemory>
+    requires leaf { is_leaf (out-Expr e.now) ≡ true }
     ensures { IfOk result (λ f. f ≡ e.now) }
 {
     match e {
@@ -141,7 +144,7 @@ fn copy_leaf(alloc: Global, e: &Expr) -> Result<Expr, NoMemory>
         },
         Expr::Var(x) => Ok(Expr::Var(x.copy(alloc)?)),
         Expr::Raise(x, t) => copy_raise(alloc, x, t),
-        _ => Err(NoMemory),
+        _ => unreachable!(),
     }
 }
 
@@ -156,10 +159,11 @@ fn copy_raise(alloc: Global, x: &Name, t: &Option<Ty>) -> Result<Expr, NoMemory>
     }
 }
 
-/// An expression with one part or a list of parts; the others have functions of their own.
+/// An expression with one part or a list of parts.
 #[cycle(copy_expr)]
 #[tactic(auto, using(plan_base::specs::Trees::trees, plan_base::proofs::SizeLaws::expr_nodes_out))]
 fn copy_row(alloc: Global, e: &Expr) -> Result<Expr, NoMemory>
+    requires row { is_row (out-Expr e.now) ≡ true }
     ensures { IfOk result (λ f. f ≡ e.now) }
 {
     match e {
@@ -187,14 +191,16 @@ fn copy_row(alloc: Global, e: &Expr) -> Result<Expr, NoMemory>
             Ok(c) => Ok(Expr::Eval(c)),
             Err(fault) => Err(fault),
         },
-        _ => Err(NoMemory),
+        Expr::Try(a, clauses) => copy_try(alloc, a, clauses),
+        _ => unreachable!(),
     }
 }
 
-/// An expression with two parts; the others have functions of their own.
+/// An expression with two parts.
 #[cycle(copy_expr)]
 #[tactic(auto, using(plan_base::specs::Trees::trees, plan_base::proofs::SizeLaws::expr_nodes_out))]
 fn copy_pair(alloc: Global, e: &Expr) -> Result<Expr, NoMemory>
+    requires pair { is_pair (out-Expr e.now) ≡ true }
     ensures { IfOk result (λ f. f ≡ e.now) }
 {
     match e {
@@ -222,7 +228,7 @@ fn copy_pair(alloc: Global, e: &Expr) -> Result<Expr, NoMemory>
             Ok((f, a, l)) => Ok(Expr::Foldr(f, a, l)),
             Err(fault) => Err(fault),
         },
-        _ => Err(NoMemory),
+        _ => unreachable!(),
     }
 }
 

@@ -1,7 +1,7 @@
 ghost use Rattle.std.specs.Prelude.{◌≡◌, ◌↔◌, IsTrue, true};
 ghost use Rattle.plan_base.specs.SameTypes as spec;
 ghost use Rattle.plan_base.specs.declared.tree.Expr.{out-Expr};
-ghost use Rattle.plan_equality.specs.Groups.{is_leaf, is_pair, is_row, is_more};
+ghost use Rattle.plan_base.specs.Groups.{is_leaf, is_pair, is_row, is_more};
 
 use crate::equal::Same;
 use plan_base::{Chunk, Clause, Exn, Expr, Fun, Name, Param, Program, Svc, Ty, Value};

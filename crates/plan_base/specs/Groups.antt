@@ -1,4 +1,4 @@
--- Which expressions are compared by one function.
+-- Which expressions a function walks that takes apart those of one kind.
 use Rattle.std.specs.Prelude.{Bool, true, false}
 use Rattle.plan_base.specs.declared.tree.Expr.{Expr-F}
 use Rattle.plan_base.specs.Trees.{ExprLayer}
