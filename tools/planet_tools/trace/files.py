@@ -9,6 +9,11 @@ from planet_tools.trace.forms import LOG, TRACE, Line, Lines, Refused
 
 # what may be read: as much as the largest run that the program replays writes, and more
 BYTES_MAX = 1 << 30
+# of a trace: what may stand behind a line
+FOLLOWS: Dict[str, Tuple[str, ...]] = {
+    "trace": ("event", "ledger", "end"), "event": ("event", "ledger", "end"),
+    "ledger": ("row", "end"), "row": ("row", "end"), "end": (),
+}
 # of a log: the lines of its head in their order, and those that may stand more than once or be missing
 HEAD = ("log", "host", "boot", "hosts", "dev", "without", "events")
 MANY, MAY_MISS = ("dev", "without"), ("boot", "dev", "without")
@@ -75,16 +80,12 @@ def objects_of(lines: List[str], forms: Lines, what: str, name: str) -> List[Lin
 
 
 def check_trace(lines: List[Line], name: str) -> None:
-    """Sees that a trace has its parts in order: its head, events whose numbers don't fall, perhaps a ledger, its end."""
+    """Sees that a trace has its parts in order: events whose numbers don't fall, perhaps a ledger, and the end."""
     part, event = "trace", 0
-    follows: Dict[str, Tuple[str, ...]] = {
-        "trace": ("event", "ledger", "end"), "event": ("event", "ledger", "end"), "ledger": ("row", "end"),
-        "row": ("row", "end"), "end": (),
-    }
     for number, line in enumerate(lines[1:], 2):
         now = line.get("event")
-        kind = "event" if now is not None else str(line["kind"])
-        if kind not in follows[part]:
+        kind = str(line["kind"]) if now is None else "event"
+        if kind not in FOLLOWS[part]:
             raise Refused(f"the line '{line['kind']}' doesn't belong there, {name} line {number}")
         if isinstance(now, int):
             if now < max(event, 1):

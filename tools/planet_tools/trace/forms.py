@@ -46,7 +46,7 @@ class FieldType:
 
 @dataclass(frozen=True)
 class Form:
-    """A form of lines: its kind, the words in front of, between and behind its fields, and the fields' names and types."""
+    """A form of lines: its kind, and its words, of which a field is a name and a type."""
 
     part: str
     kind: str
@@ -117,6 +117,7 @@ class Lines:
     def __init__(self, forms: List[Form]) -> None:
         self.forms = forms
         self.by_word: Dict[str, List[Reading]] = {}
+        self.others: List[Reading] = []
         self.by_fields: Dict[Tuple[str, frozenset[str]], List[Form]] = {}
         for form in forms:
             self.add(form)
@@ -126,14 +127,14 @@ class Lines:
         fields = tuple((name, MADE[kind.made]) for name, kind in form.fields.items())
         reading = re.compile(form.pattern), form.kind, fields
         first = form.words[1] if not isinstance(form.words[0], str) and len(form.words) > 1 else form.words[0]
-        self.by_word.setdefault(first if isinstance(first, str) else "", []).append(reading)
+        (self.by_word.setdefault(first, []) if isinstance(first, str) and first else self.others).append(reading)
         self.by_fields.setdefault((form.kind, frozenset(form.fields)), []).append(form)
 
     def read(self, text: str) -> Optional[Line]:
         """The object of a line, or nothing where it has none of the forms."""
         words = text.split(" ", 2)
         first = words[1] if len(words) > 1 and words[0][:1].isdigit() else words[0]
-        for pattern, kind, fields in self.by_word.get(first) or self.by_word.get("", ()):
+        for pattern, kind, fields in self.by_word.get(first, self.others):
             found = pattern.fullmatch(text)
             if found:
                 line: Line = {"kind": kind}
