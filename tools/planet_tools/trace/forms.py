@@ -107,8 +107,8 @@ def forms_of(path: Path = TABLE) -> Dict[str, List[Form]]:
     return {file: [form_of(row, types) for row in rows] for file, rows in table["files"].items()}
 
 
-# how a form's lines are read: what they match, the kind, and each field with what makes it of its text
-Reading = Tuple[Pattern[str], str, Tuple[Tuple[str, Callable[[str], Value]], ...]]
+# how a form's lines are read: what they match, what stands in front of the fields, and what makes each of its text
+Reading = Tuple[Pattern[str], Line, Tuple[Tuple[str, Callable[[str], Value]], ...]]
 
 
 class Lines:
@@ -125,7 +125,9 @@ class Lines:
     def add(self, form: Form) -> None:
         """Puts a form where its lines are looked for: by its first word, or the second one where a number is first."""
         fields = tuple((name, MADE[kind.made]) for name, kind in form.fields.items())
-        reading = re.compile(form.pattern), form.kind, fields
+        # an event's number stands before the kind
+        front: Line = {"event": 0, "kind": form.kind} if "event" in form.fields else {"kind": form.kind}
+        reading = re.compile(form.pattern), front, fields
         first = form.words[1] if not isinstance(form.words[0], str) and len(form.words) > 1 else form.words[0]
         (self.by_word.setdefault(first, []) if isinstance(first, str) and first else self.others).append(reading)
         self.by_fields.setdefault((form.kind, frozenset(form.fields)), []).append(form)
@@ -134,10 +136,10 @@ class Lines:
         """The object of a line, or nothing where it has none of the forms."""
         words = text.split(" ", 2)
         first = words[1] if len(words) > 1 and words[0][:1].isdigit() else words[0]
-        for pattern, kind, fields in self.by_word.get(first, self.others):
+        for pattern, front, fields in self.by_word.get(first, self.others):
             found = pattern.fullmatch(text)
             if found:
-                line: Line = {"kind": kind}
+                line = front.copy()
                 for (name, made), said in zip(fields, found.groups()):
                     line[name] = made(said)
                 return line
