@@ -1,6 +1,6 @@
--- A dissector of planet's frames for Wireshark and tshark: docs/wireshark.md says how to install it and which filters it has.
+-- A dissector of planet's frames for Wireshark and tshark: docs/use/wireshark.md says how to install it and which filters it has.
 --
--- The formats are those of docs/bytes-and-frames.md. A frame is read as `planet show` reads it: fields from the left, the
+-- The formats are those of docs/language/bytes-and-frames.md. A frame is read as `planet show` reads it: fields from the left, the
 -- first that is wrong decides. What was read up to there is shown, and then the fault.
 
 local planet = Proto("planet", "PLAN frame")

@@ -227,7 +227,7 @@ impl LineFile for AuditReading {
 
 /// The logs and links that a file names. Condition: at most 4,194,304 bytes.
 ///
-/// The fault is the first line outside the format with its reason, or `NoMemory`; see `docs/audit.md`.
+/// The fault is the first line outside the format with its reason, or `NoMemory`; see `docs/use/audit.md`.
 #[tactic(auto, using(line_files::proofs::FileLaws::is_found, line_files::proofs::FileLaws::is_only, line_files::proofs::FileLaws::is_fault))]
 pub fn read_audit(alloc: Global, bytes: &[u8]) -> Result<AuditFile, LineFault>
     requires { length bytes.now ≤ 4194304 }

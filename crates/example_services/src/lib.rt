@@ -1,7 +1,7 @@
 //! An example of services of one's own over the libraries: a counter and a greeting, and a node that has no links.
 //!
 //! [`ExampleServices`] offers `count` and `greet` over the trait `Services`, [`packet_of`] makes a packet of a program's text,
-//! and [`visit_once`] visits it. `docs/embedding.md` goes through them clause by clause.
+//! and [`visit_once`] visits it. `docs/develop/embedding.md` goes through them clause by clause.
 #![tactic(auto)]
 
 mod answers;

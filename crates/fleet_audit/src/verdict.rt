@@ -189,7 +189,7 @@ fn reckon_all(alloc: Global, a: &AuditFile, logs: &Logs) -> Result<Reckoning, No
 
 /// Whether the logs of a fleet fit together: whether each frame that a node accepted was sent so often by the other end of
 /// its link. Where they do, the answer has the counts of each family over all of them. Conditions: at most 16 logs, each of
-/// which keeps its rules. See `docs/audit.md`.
+/// which keeps its rules. See `docs/use/audit.md`.
 pub fn audit(alloc: Global, a: &AuditFile, logs: &Logs) -> Result<Verdict, NoMemory>
     requires few { length logs.now ≤ 16 }
     requires rules { All KeepsLog logs.now }

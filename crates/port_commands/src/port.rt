@@ -102,8 +102,8 @@ fn run_port<K: Sink>(alloc: Global, file: &PortFile, out: &mut K) -> Cause
 }
 
 /// `port FILE`: what is met at each event of the two ends that the file says, and how they stand in the end; see
-/// `docs/ports.md`. After every number of events, the hops and evals of any families together are at most what both purses
-/// paid.
+/// `docs/use/ports.md`. After every number of events, the hops and evals of any families together are at most what both
+/// purses paid.
 pub fn on_port<F: Files, K: Sink>(alloc: Global, files: &mut F, name: &str, out: &mut K) -> Cause
     ensures { TakesAndActs (port_said name.now) (PrintsBy port_output) name.now
         (F.state files.old) (F.state files.new) result (K.state out.old) (K.state out.new) }

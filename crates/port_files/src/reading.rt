@@ -153,7 +153,7 @@ impl LineFile for PortReading {
 
 /// What two ends do, as a file says it. Condition: at most 4,194,304 bytes.
 ///
-/// The fault is the first line outside the format with its reason, or `NoMemory`; see `docs/ports.md`.
+/// The fault is the first line outside the format with its reason, or `NoMemory`; see `docs/use/ports.md`.
 #[tactic(auto, using(line_files::proofs::FileLaws::is_found, line_files::proofs::FileLaws::is_only, line_files::proofs::FileLaws::is_fault))]
 pub fn read_port(alloc: Global, bytes: &[u8]) -> Result<PortFile, LineFault>
     requires { length bytes.now ≤ 4194304 }

@@ -59,8 +59,8 @@ fn text_of<S: Services>(
 
 /// What is written of two ends: a line for each event that met something, and how the ends stand in the end. After every
 /// number of events, what was delivered is a prefix of what was offered, no more is acknowledged than was delivered, and the
-/// hops and evals of any families together are at most what both purses paid; see `docs/ports.md`. `services`: one for each
-/// host. Condition: the file keeps its rules.
+/// hops and evals of any families together are at most what both purses paid; see `docs/use/ports.md`. `services`: one for
+/// each host. Condition: the file keeps its rules.
 #[tactic(auto, using(crate::proofs::Promises::keeps_order, crate::proofs::Promises::keeps_purses))]
 pub fn port_text<S: Services + Drop>(
     alloc: Global,

@@ -1,7 +1,7 @@
 //! What is made of a visit's end: the packet's handler goes on with what the visit sends, and the source is told of a visit
 //! that gave no value.
 //!
-//! `specs/Settles.antt` says it; docs/meaning.md tells it in words.
+//! `specs/Settles.antt` says it; docs/language/meaning.md tells it in words.
 #![tactic(auto)]
 
 mod settling;

@@ -233,7 +233,7 @@ fn settle_by(alloc: Global, p: &CheckedPacket, v: Visit, ctx: &Ctx) -> Result<Se
 /// source is this host or has a route; `handled` then names it.
 ///
 /// Conditions: nothing that the visit sends has a handler, at most 65,535 is left, and the source of the surroundings is the
-/// family's host. What was paid, is left and is sent is the same in sum (docs/meaning.md).
+/// family's host. What was paid, is left and is sent is the same in sum (docs/language/meaning.md).
 pub fn settle(alloc: Global, p: &CheckedPacket, v: Visit, ctx: &Ctx) -> Result<Settled, NoMemory>
     requires plain { All spec.IsPlain v.outbox }
     requires left { v.left ≤ 65535 }

@@ -1,0 +1,33 @@
+"""Which python3 a tool runs on: the one that was found first, or the system's, which sees Debian's packages."""
+from __future__ import annotations
+
+import importlib.util
+import os
+import sys
+from typing import NoReturn
+
+SYSTEM = "/usr/bin/python3"
+# the process that went on already, so that it doesn't go on with itself for ever; its children may
+GONE_ON = "PLANET_TOOLS_PYTHON"
+
+
+def is_there(package: str) -> bool:
+    """Whether this python3 can import the package."""
+    return importlib.util.find_spec(package) is not None
+
+
+def need(tool: str, package: str, debian: str) -> None:
+    """Sees that the package can be imported: else goes on with the system's python3, or names it and ends."""
+    if is_there(package):
+        return
+    if os.environ.get(GONE_ON) != str(os.getpid()) and os.access(SYSTEM, os.X_OK):
+        os.environ[GONE_ON] = str(os.getpid())
+        sys.stdout.flush()
+        os.execv(SYSTEM, [SYSTEM, *sys.argv])
+    fail(tool, f"{package} is missing, install it with: apt-get install {debian}", sys.executable)
+
+
+def fail(tool: str, what: str, where: str) -> NoReturn:
+    """Ends a tool with its one line: what is wrong, and where."""
+    print(f"{tool}: {what}, {where}", file=sys.stderr)
+    sys.exit(2)

@@ -1,0 +1,1 @@
+"""Scenarios: from the intent of a network to a schedule, or to a fleet."""

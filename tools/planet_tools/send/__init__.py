@@ -1,0 +1,1 @@
+"""What sends datagrams of hex lines over loopback."""

@@ -1,0 +1,1 @@
+"""What reads traces, ledgers and logs, and makes data and captures of them."""
