@@ -1,5 +1,6 @@
 -- What is behind the tags of forms that are read alike.
 use Rattle.std.specs.Prelude.{List, ℕ, Ok}
+use Rattle.containers.specs.Reading.{◌>>=◌}
 use Rattle.plan_base.specs.declared.limit.Limit.{Limit}
 use Rattle.plan_base.specs.declared.tree.Expr.{Expr}
 use Rattle.plan_base.specs.declared.tree.Expr.TheVariants as expr

@@ -2,6 +2,7 @@
 use Rattle.std.specs.Prelude.{ℕ, zero, suc, ◌+◌, ◌<◌, ◌≤◌, List, [], ◌∷◌, ◌++◌, length, Bool, true, false, Option, Some, None, Ok, Err, nat_lt, sum_by, ◌||◌, IsTrue}
 use Rattle.std.specs.List.{flat_map}
 use Rattle.std.specs.Int.{w32, w64, to_be_bytes, cast_unsigned}
+use Rattle.containers.specs.Reading.{◌>>=◌}
 use Rattle.plan_base.specs.Sizes.{expr_nodes, clause_nodes}
 use Rattle.plan_base.specs.declared.limit.Limit.{Limit}
 use Rattle.plan_base.specs.declared.tree.Expr.{Expr, Expr-F, fold-Expr, out-Expr}

@@ -1,6 +1,7 @@
 -- How a program is spelled: services, exceptions and functions, each list with its count.
 use Rattle.std.specs.Prelude.{ℕ, ◌-◌, ◌≤◌, List, ◌∷◌, ◌++◌, length, Result, nat_le, sum_by}
 use Rattle.std.specs.List.{flat_map}
+use Rattle.containers.specs.Reading.{◌>>=◌}
 use Rattle.plan_base.specs.Sizes.{expr_nodes}
 use Rattle.plan_base.specs.declared.limit.Limit.{Limit}
 use Rattle.plan_base.specs.declared.tree.Svc.{Svc}

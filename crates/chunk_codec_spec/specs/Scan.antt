@@ -5,6 +5,7 @@ use Rattle.std.specs.Str.{is_utf8}
 use lib.Utf8.{scalar}
 use Rattle.plan_base.specs.Words.{is_name}
 use Rattle.wire_bytes.specs.Fields.{Front, bytes_at, number_at, int_at}
+use Rattle.containers.specs.Reading.{◌>>=◌}
 use Rattle.plan_base.specs.declared.limit.Limit.{Limit}
 use Rattle.plan_base.specs.declared.tree.Op.{Op}
 use Rattle.chunk_codec_spec.specs.declared.fault.SpellFault.{SpellFault}

@@ -1,6 +1,7 @@
 -- How a type is spelled: its tag, and a list's element type or a tuple's count and parts.
 use Rattle.std.specs.Prelude.{ℕ, zero, suc, ◌<◌, List, [], ◌∷◌, length, Bool, Option, Some, Err, nat_lt}
 use Rattle.std.specs.List.{flat_map}
+use Rattle.containers.specs.Reading.{◌>>=◌}
 use Rattle.plan_base.specs.declared.limit.Limit.{Limit}
 use Rattle.plan_base.specs.declared.tree.Ty.{Ty, Ty-F, fold-Ty, out-Ty}
 use Rattle.plan_base.specs.declared.tree.Ty.TheVariants as ty

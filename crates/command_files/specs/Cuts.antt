@@ -6,7 +6,7 @@ use Rattle.line_reader.specs.declared.fault.LineReason.TheVariants.{BadHeader, B
 use Rattle.line_reader.specs.declared.fault.LineFault.{LineFault}
 use Rattle.line_reader.specs.declared.fault.LineFault.TheVariants as faults
 use Rattle.line_reader.specs.Files.{Format, file_of}
-use Rattle.line_reader.specs.Reads.{end_at}
+use Rattle.line_reader.specs.Reads.{◌>>=◌, end_at}
 use Rattle.line_reader.specs.Numbers.{number_at}
 use Rattle.line_reader.specs.HexWords.{hex_at}
 use Rattle.node_files.specs.Parts.{behind_word, header_line, usual_line}

@@ -8,7 +8,7 @@ use Rattle.plan_types_spec.specs.Handlers.{is_handler}
 use Rattle.plan_base.specs.declared.stamp.Version.{Version}
 use Rattle.plan_base.specs.declared.stamp.Version.TheVariants.{One, Two}
 use Rattle.line_reader.specs.declared.fault.LineReason.TheVariants.{BadArgument}
-use Rattle.line_reader.specs.Reads.{Part, word_at, allowed_or_reason}
+use Rattle.line_reader.specs.Reads.{◌>>=◌, Part, word_at, allowed_or_reason}
 use Rattle.line_reader.specs.Programs.{named_word}
 
 -- whether what was read is this word

@@ -4,7 +4,7 @@ use Rattle.std.specs.Option.{ok_or}
 use Rattle.hex.specs.Hex.{decode_of}
 use Rattle.hex.specs.declared.error.FromHexError.{FromHexError}
 use Rattle.line_reader.specs.declared.fault.LineReason.TheVariants.{BadArgument}
-use Rattle.line_reader.specs.Reads.{Part, word_at}
+use Rattle.line_reader.specs.Reads.{◌>>=◌, Part, word_at}
 
 -- the bytes that were decoded, if any were
 abbrev pub hex_of : Result (List ℕ) FromHexError → Option (List ℕ)

@@ -5,7 +5,7 @@ use Rattle.plan_base.specs.declared.ids.Host.{Host}
 use Rattle.network_config.specs.Hosts.{host_of, is_listed}
 use Rattle.line_reader.specs.declared.fault.LineReason.{LineReason}
 use Rattle.line_reader.specs.declared.fault.LineReason.TheVariants.{TooMany, BadArgument}
-use Rattle.line_reader.specs.Reads.{Part, allowed_or_reason}
+use Rattle.line_reader.specs.Reads.{◌>>=◌, Part, allowed_or_reason}
 use Rattle.line_reader.specs.Numbers.{number_at}
 
 -- whether a host is above each of these

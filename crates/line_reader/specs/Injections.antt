@@ -5,6 +5,7 @@ use Rattle.plan_base.specs.declared.tree.Chunk.{Chunk}
 use Rattle.plan_base.specs.declared.tree.Program.{Program}
 use Rattle.plan_base.specs.declared.stamp.Version.{Version}
 use Rattle.line_reader.specs.declared.fault.LineReason.{LineReason}
+use Rattle.line_reader.specs.Reads.{◌>>=◌}
 use Rattle.line_reader.specs.Numbers.{number_at}
 use Rattle.line_reader.specs.Programs.{entry_at, args_at, chunk_with, typed_chunk}
 use Rattle.line_reader.specs.Handlers.{handler_at}

@@ -3,7 +3,7 @@ use Rattle.std.specs.Prelude.{ℕ, ◌+◌, ◌*◌, ◌-◌, Bool, true, false,
 use Rattle.std.specs.List.{list_all}
 use Rattle.std.specs.Option.{ok_or}
 use Rattle.line_reader.specs.declared.fault.LineReason.TheVariants.{BadNumber}
-use Rattle.line_reader.specs.Reads.{Part, word_at}
+use Rattle.line_reader.specs.Reads.{◌>>=◌, Part, word_at}
 
 -- a decimal digit
 abbrev pub is_digit : ℕ → Bool

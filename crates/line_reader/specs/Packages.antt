@@ -8,7 +8,7 @@ use Rattle.service_api.specs.declared.package.PackageName.{PackageName}
 use Rattle.service_api.specs.declared.package.PackageName.TheVariants as packages
 use Rattle.line_reader.specs.declared.fault.LineReason.{LineReason}
 use Rattle.line_reader.specs.declared.fault.LineReason.TheVariants.{BadWord, TwiceNamed}
-use Rattle.line_reader.specs.Reads.{Part, word_at, allowed_or_reason}
+use Rattle.line_reader.specs.Reads.{◌>>=◌, Part, word_at, allowed_or_reason}
 
 -- the package that a word names
 abbrev pub package_of : List ℕ → Option PackageName

@@ -16,7 +16,7 @@ use Rattle.program_text.specs.Texts.{program_of, args_of_text}
 use Rattle.line_reader.specs.declared.fault.LineReason.{LineReason}
 use Rattle.line_reader.specs.declared.fault.LineReason.TheVariants.{TooMany, ProgramRefused, BadArgument}
 use Rattle.line_reader.specs.declared.programs.OpenProgram.{OpenProgram}
-use Rattle.line_reader.specs.Reads.{Part, word_at, allowed_or_reason, rest_at}
+use Rattle.line_reader.specs.Reads.{◌>>=◌, Part, word_at, allowed_or_reason, rest_at}
 
 -- a program without text, begun at a line
 abbrev pub opened_program : ℕ → OpenProgram

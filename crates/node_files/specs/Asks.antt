@@ -10,7 +10,7 @@ use Rattle.line_reader.specs.declared.fault.LineFault.{LineFault}
 use Rattle.line_reader.specs.declared.fault.LineFault.TheVariants as faults
 use Rattle.line_reader.specs.Lines.{words}
 use Rattle.line_reader.specs.Files.{Format, at_line, file_of}
-use Rattle.line_reader.specs.Reads.{word_at, end_at, rest_at}
+use Rattle.line_reader.specs.Reads.{◌>>=◌, word_at, end_at, rest_at}
 use Rattle.line_reader.specs.Programs.{opened_program, with_line, program_in, call_at}
 use Rattle.node_files.specs.declared.ask.AskWord.{AskWord}
 use Rattle.node_files.specs.declared.ask.AskWord.TheVariants as word

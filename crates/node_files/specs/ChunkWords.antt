@@ -7,7 +7,7 @@ use Rattle.chunk_codec_spec.specs.declared.fault.SpellFault.{SpellFault}
 use Rattle.chunk_codec_spec.specs.Scan.{Scan}
 use Rattle.chunk_codec_spec.specs.Spelling.{a_whole_chunk, from_front}
 use Rattle.line_reader.specs.declared.fault.LineReason.TheVariants.{BadArgument}
-use Rattle.line_reader.specs.Reads.{Part}
+use Rattle.line_reader.specs.Reads.{◌>>=◌, Part}
 use Rattle.line_reader.specs.HexWords.{hex_at}
 
 -- the chunk that was read, where it took all bytes

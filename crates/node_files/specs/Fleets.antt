@@ -12,7 +12,7 @@ use Rattle.line_reader.specs.declared.fault.LineReason.TheVariants.{BadHeader, B
 use Rattle.line_reader.specs.declared.fault.LineFault.{LineFault}
 use Rattle.line_reader.specs.declared.fault.LineFault.TheVariants as faults
 use Rattle.line_reader.specs.Files.{Format, file_of}
-use Rattle.line_reader.specs.Reads.{word_at, end_at, allowed_or_reason}
+use Rattle.line_reader.specs.Reads.{◌>>=◌, word_at, end_at, allowed_or_reason}
 use Rattle.line_reader.specs.Numbers.{number_at}
 use Rattle.line_reader.specs.FileNames.{file_name_at}
 use Rattle.node_files.specs.declared.fleet.KidWord.{KidWord}

@@ -7,7 +7,7 @@ use Rattle.plan_base.specs.declared.ids.Dev.{Dev}
 use Rattle.network_config.specs.Hosts.{host_of, dev_of, is_listed}
 use Rattle.line_reader.specs.declared.fault.LineReason.{LineReason}
 use Rattle.line_reader.specs.declared.fault.LineReason.TheVariants.{UnknownHost, TwiceNamed, BadArgument}
-use Rattle.line_reader.specs.Reads.{Part, allowed_or_reason}
+use Rattle.line_reader.specs.Reads.{◌>>=◌, Part, allowed_or_reason}
 use Rattle.line_reader.specs.Numbers.{number_at}
 use Rattle.line_reader.specs.HostLists.{hosts_with}
 use Rattle.node_files.specs.Parts.{behind_word, last_number}

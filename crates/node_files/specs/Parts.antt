@@ -7,7 +7,7 @@ use Rattle.line_reader.specs.declared.fault.LineFault.{LineFault}
 use Rattle.line_reader.specs.declared.fault.LineFault.TheVariants as faults
 use Rattle.line_reader.specs.Lines.{words}
 use Rattle.line_reader.specs.Files.{is_skipped, at_line}
-use Rattle.line_reader.specs.Reads.{word_at, end_at, allowed_or_reason}
+use Rattle.line_reader.specs.Reads.{◌>>=◌, word_at, end_at, allowed_or_reason}
 use Rattle.line_reader.specs.Numbers.{number_at}
 
 -- the words behind this one, which must stand next

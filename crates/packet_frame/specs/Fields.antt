@@ -1,6 +1,7 @@
 -- The fields of a frame, read one after another, each with the fault of its own rule.
 use Rattle.std.specs.Prelude.{ℕ, zero, suc, ◌==◌, List, [], ◌∷◌, Bool, true, false, Option, Some, None, Result, Ok, Err, nat_le, if◌then◌else◌}
 use Rattle.std.specs.Int.{Width, w8, w16, w32}
+use Rattle.containers.specs.Reading.{◌>>=◌}
 use Rattle.plan_base.specs.declared.limit.Limit.{Limit}
 use Rattle.plan_base.specs.declared.tree.Chunk.{Chunk}
 use Rattle.chunk_codec_spec.specs.declared.fault.SpellFault.{SpellFault}

@@ -1,6 +1,7 @@
 -- What a node of version 2 reads, field by field.
 use Rattle.std.specs.Prelude.{ℕ, ◌==◌, ◌||◌, Option, Some, None, Result, Ok, Err, if◌then◌else◌}
 use Rattle.std.specs.Int.{w8}
+use Rattle.containers.specs.Reading.{◌>>=◌}
 use Rattle.chunk_codec_spec.specs.Scan.{Scan}
 use Rattle.packet_frame.specs.declared.fault.FrameFault.{FrameFault}
 use Rattle.packet_frame.specs.declared.frame.PlainFrame.{PlainFrame}

@@ -9,7 +9,7 @@ use Rattle.network_config.specs.declared.schedule.HostSpec.{HostSpec}
 use Rattle.network_config.specs.declared.schedule.Link.{Link}
 use Rattle.network_config.specs.Hosts.{host_of, dev_of, has_host, has_link}
 use Rattle.line_reader.specs.declared.fault.LineReason.TheVariants.{UnknownHost, UnknownProgram, TwiceNamed}
-use Rattle.line_reader.specs.Reads.{Part, word_at, allowed_or_reason}
+use Rattle.line_reader.specs.Reads.{◌>>=◌, Part, word_at, allowed_or_reason}
 use Rattle.line_reader.specs.Numbers.{number_at}
 use Rattle.schedule_text.specs.declared.reading.NamedProgram.{NamedProgram}
 
