@@ -9,7 +9,6 @@ copy_expr-copy_if-requires t c = grind (arith, trees, expr_nodes_out)
 pub copy_expr-copy_let-requires : goal.copy_expr-copy_let-requires
 copy_expr-copy_let-requires t c = grind (arith, trees, expr_nodes_out)
 
-
 pub copy_expr-copy_on_remote-requires : goal.copy_expr-copy_on_remote-requires
 copy_expr-copy_on_remote-requires t c = grind (arith, trees, expr_nodes_out)
 
