@@ -13,14 +13,12 @@ use Rattle.command_files.specs.declared.cut.CutFile.{CutFile}
 use Rattle.command_files.specs.Texts.{cut_output}
 use Rattle.planet_commands_fleet.specs.Messages.{messages_text}
 use Rattle.planet_cli.specs.Requests.{request_of}
-use Rattle.exit_status.specs.Causes.{Explains}
 use Rattle.exit_status.specs.Notes.{Notes}
 use Rattle.planet_cli.specs.Does.{Does}
 use Rattle.planet_cli.specs.Calls.{Calls}
 use Rattle.planet_cli.specs.Replays.{Replays, ReplaysLog}
 use Rattle.planet_cli.specs.Gathers.{Cuts, Gathers}
 use Rattle.planet_cli.proofs.Writing.{schedule_written, log_written, cut_written, messages_written}
-use Rattle.planet_cli.proofs.Explaining.{call_explains}
 
 -- by what the words ask for
 module _ (words : List (List ℕ)) (cause : Cause) (old new : Outside) (n m : SinkState) (call : Calls (request_of words) cause old new n m) where
@@ -51,6 +49,3 @@ module _ (words : List (List ℕ)) (found cause : Cause) (old new : Outside) (n 
 
   pub found_writes : (s : Schedule) → Replays words old.files s → cause ≡ Done → Writes old.out new.out (run_text s.frames s.events (opening s.topology))
   found_writes s r done = replay_writes words cause old new n m request_is_called s r done
-
-  pub found_explains : Explains cause old new n m
-  found_explains = call_explains old new n m (request_of words) cause request_is_called

@@ -1,14 +1,13 @@
 -- The run of a schedule that a file says keeps what every run keeps.
-use Rattle.std.proofs.Common.{ℕ, List, take}
+use Rattle.std.proofs.Common.{ℕ, ◌≡◌, List, Ok, take}
 use Rattle.network_config.specs.declared.schedule.Schedule.{Schedule}
 use Rattle.network_config.specs.Rules.{KeepsRules}
+use Rattle.schedule_text.specs.Schedules.{schedule_of}
 use Rattle.schedule_text.proofs.RuleLaws.{schedule_keeps}
-use Rattle.node_io.specs.FileStates.{FilesState}
 use Rattle.net_world_spec.proofs.Wires.{opening_leads, opening_once}
 use Rattle.net_world_spec.proofs.Reaching.{run_keeps_routes}
 use Rattle.net_world.specs.Keeping.{KeepsRun}
 use Rattle.net_world.proofs.RunLaws.{prefix_balances, prefix_bounded, prefix_granted, prefix_sound, prefix_ends}
-use Rattle.planet_cli.specs.Replays.{Replays}
 
 -- the run of a schedule that keeps the rules
 run_keeps : (s : Schedule) → KeepsRules s → KeepsRun s
@@ -23,5 +22,5 @@ run_keeps s keeps = record {
   routes = λ k none. run_keeps_routes s.topology (take k s.events) keeps.network none;
 }
 
-pub replay_keeps : (words : List (List ℕ)) (files : FilesState) (s : Schedule) → Replays words files s → KeepsRun s
-replay_keeps words files s r = run_keeps s (schedule_keeps r.bytes s r.says)
+pub schedule_run_keeps : (bytes : List ℕ) (s : Schedule) → schedule_of bytes ≡ Ok s → KeepsRun s
+schedule_run_keeps bytes s says = run_keeps s (schedule_keeps bytes s says)

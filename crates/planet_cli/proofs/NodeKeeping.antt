@@ -25,7 +25,6 @@ use Rattle.network_config.specs.declared.event.LogEvent.TheVariants.{Step, Lost}
 use Rattle.network_config.specs.Hosts.{is_listed}
 use Rattle.network_config.specs.NodeRules.{KeepsNode, KeepsNodeEvent, KeepsEntry}
 use Rattle.node_files.proofs.LogLaws.{log_rules}
-use Rattle.node_io.specs.FileStates.{FilesState}
 use Rattle.node_core_spec.specs.State.{NodeState, new_node}
 use Rattle.node_core_spec.specs.Fits.{NodeFits, comes_fit}
 use Rattle.node_core_spec.specs.declared.acts.Act.{Act}
@@ -43,7 +42,7 @@ use Rattle.node_log.proofs.Beginning.{may_begin}
 use Rattle.node_log.specs.Nodes.{log_node}
 use Rattle.net_world_spec.specs.Visits.{one_visit, EndsWell}
 use Rattle.planet_commands_run.specs.Keeping.{node_at, asked_visits, control_visits, step_visits, KeepsNodeRun}
-use Rattle.planet_cli.specs.Replays.{ReplaysLog}
+use Rattle.node_files.specs.Logs.{log_of}
 
 pub event_fits : (v : Version) (e : Event) → KeepsNodeEvent v e → comes_fit v e
 event_fits v (event.Inject chunk bound handler) k = k
@@ -152,7 +151,7 @@ entries_keep c n es fits keeps = record {
     at : (k : ℕ) → FitsAs c.version (node_at (new_node c n) es k)
     at = run_fits c.version es (new_node c n) keeps (record { version = refl; fits = fits })
 
-pub log_keeps : (words : List (List ℕ)) (files : FilesState) (l : Log) → ReplaysLog words files l → KeepsNodeRun (log_node l) l.events
-log_keeps words files l r =
-    let keeps = log_rules r.bytes (Ok l) r.says in
+pub log_run_keeps : (bytes : List ℕ) (l : Log) → log_of bytes ≡ Ok l → KeepsNodeRun (log_node l) l.events
+log_run_keeps bytes l says =
+    let keeps = log_rules bytes (Ok l) says in
     entries_keep l.node (opening_standing (present_without l.missing)) l.events (begins l.node l.missing keeps.node) keeps.events

@@ -45,7 +45,7 @@ use Rattle.planet_cli.specs.Calls.{Calls}
 use Rattle.planet_cli.specs.Replays.{ReplaysLog}
 use Rattle.planet_cli.specs.Outcomes.{whole, outcome_by, outcome_of, IsWhole, WritesOut}
 use Rattle.planet_cli.proofs.Giving.{is_written, is_complete}
-use Rattle.planet_cli.proofs.NodeKeeping.{begins, entries_keep, log_keeps}
+use Rattle.planet_cli.proofs.NodeKeeping.{begins, entries_keep, log_run_keeps}
 use Rattle.planet_cli.specs.Laws.{ServesAtMost}
 use Rattle.planet_cli.proofs.Serving.{node_serves, node_fronts}
 use Rattle.planet_cli.specs.Runs.{first_node, made_run, KeepsOrder, KeepsServing, KeepsUpTo, AgreesServing, ReplaysSo}
@@ -138,7 +138,7 @@ module _ (file : List ℕ) (turns : ℕ) (cause : Cause) (old new : Outside) (n 
   node_agrees = agree_so cfg turns (serving_in old) (serving_in new) fronts
 
 pub log_ordered : (words : List (List ℕ)) (files : FilesState) (l : Log) → ReplaysLog words files l → KeepsOrder (log_node l) l.events
-log_ordered words files l r n p = node_ordered (node_at (log_node l) l.events n) p ((log_keeps words files l r).fits n)
+log_ordered words files l r n p = node_ordered (node_at (log_node l) l.events n) p ((log_run_keeps r.bytes l r.says).fits n)
 
 -- ---- its log, replayed
 

@@ -3,7 +3,7 @@ ghost use Rattle.std.specs.Prelude.{◌≡◌, ◌⊎◌, IsTrue, Option, None, 
 ghost use Rattle.node_io.specs.Causes.{HasRisen};
 ghost use Rattle.node_io.specs.Outsides.{Outside};
 ghost use Rattle.node_io.specs.Sinks.{SinkState, Writes, FailsIn};
-ghost use Rattle.exit_status.specs.Causes.{IfRefused, Gives, WriteRose};
+ghost use Rattle.exit_status.specs.Causes.{IfRefused, Gives, WriteRose, Explains};
 ghost use Rattle.planet_commands.specs.Own.{IsOwn};
 ghost use Rattle.exit_status.specs.Notes.{note_text};
 ghost use Rattle.exit_status.specs.declared.status.Cause.{Cause as Why};
@@ -18,6 +18,13 @@ ghost use Rattle.planet_commands_fleet.specs.Fleets.{fleet_said};
 ghost use Rattle.planet_cli.specs.Fleets.{Unstarted, Unwaited, WritesLines};
 
 use exit_status::Cause;
+
+/// A fault comes only where its count rose in this call.
+pub fn explained()
+    ensures { (q : Option Request) (cause : Why) (old new : Outside) (n m : SinkState)
+        → Calls q cause old new n m
+        → Explains cause old new n m }
+{}
 
 /// Usage comes only where the words are none of the commands.
 pub fn usage()

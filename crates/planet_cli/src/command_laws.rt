@@ -13,12 +13,12 @@ ghost use Rattle.node_io.specs.Outsides.{Outside};
 ghost use Rattle.node_io.specs.Sinks.{SinkState, Writes};
 ghost use Rattle.net_world_spec.specs.World.{opening};
 ghost use Rattle.net_world_spec.specs.Texts.{run_text};
-ghost use Rattle.net_world.specs.Keeping.{KeepsRun};
 ghost use Rattle.grow_run.specs.Pings.{OfGrown};
 ghost use Rattle.exit_status.specs.declared.status.Cause.{Cause as Why};
 ghost use Rattle.planet_commands.specs.Said.{says, IsSaid};
 ghost use Rattle.planet_commands.specs.Checks.{sizes_text};
 ghost use Rattle.planet_commands.specs.Shows.{show_said, HoldsFrame};
+ghost use Rattle.planet_commands_run.specs.Keeping.{KeepsNodeRun};
 ghost use Rattle.planet_commands_run.specs.Schedules.{log_trace};
 ghost use Rattle.planet_cli.specs.Requests.{request_of, check, show, grow, audit, inject, fleet, node, replay};
 ghost use Rattle.planet_cli.specs.Calls.{Calls};
@@ -53,6 +53,7 @@ ghost use Rattle.planet_commands_fleet.specs.Fleets.{fleet_said};
 ghost use Rattle.planet_commands_fleet.specs.Nodes.{config_said, own_node, begun_config, begun_with, moment};
 ghost use Rattle.planet_cli.specs.Does.{serving_in};
 ghost use Rattle.planet_cli.specs.Laws.{IfEnded, IsEnded, AsksAtMost, RunsAtMost, ServesAtMost};
+ghost use Rattle.node_files.specs.Logs.{log_of};
 ghost use Rattle.node_log.specs.Nodes.{log_node};
 ghost use Rattle.planet_cli.specs.Runs.{first_node, made_run, KeepsOrder, KeepsServing, AgreesServing, KeepsUpTo, ReplaysSo};
 
@@ -69,11 +70,9 @@ pub fn replayed()
         → Writes old.out new.out (run_text s.frames s.events (opening s.topology)) }
 {}
 
-/// And that run keeps what every run keeps.
-pub fn ledger()
-    ensures { (words : List (List ℕ)) (files : FilesState) (s : Schedule)
-        → Replays words files s
-        → KeepsRun s }
+/// Of whatever bytes say a log: the node whose steps it has keeps its limits, and each step is in balance.
+pub fn log_keeps()
+    ensures { (bytes : List ℕ) (l : Log) → log_of bytes ≡ Ok l → KeepsNodeRun (log_node l) l.events }
 {}
 
 /// A replay of the log of a node that is done wrote the trace of its steps.

@@ -1,17 +1,15 @@
-ghost use Rattle.std.specs.Prelude.{◌≡◌};
+ghost use Rattle.std.specs.Prelude.{◌≡◌, ℕ, List, Ok};
 ghost use Rattle.network_config.specs.declared.schedule.Schedule.{Schedule};
-ghost use Rattle.network_config.specs.declared.node.Log.{Log};
 ghost use Rattle.node_io.specs.Outsides.{outside};
 ghost use Rattle.node_io.specs.Sinks.{Writes};
 ghost use Rattle.net_world_spec.specs.World.{opening};
 ghost use Rattle.net_world_spec.specs.Texts.{run_text};
 ghost use Rattle.net_world.specs.Keeping.{KeepsRun};
-ghost use Rattle.exit_status.specs.Causes.{code_of, Explains};
+ghost use Rattle.exit_status.specs.Causes.{code_of};
 ghost use Rattle.planet_cli.specs.Requests.{request_of};
 ghost use Rattle.planet_cli.specs.Calls.{Calls};
-ghost use Rattle.node_log.specs.Nodes.{log_node};
-ghost use Rattle.planet_commands_run.specs.Keeping.{KeepsNodeRun};
-ghost use Rattle.planet_cli.specs.Replays.{Replays, ReplaysLog};
+ghost use Rattle.planet_cli.specs.Replays.{Replays};
+ghost use Rattle.schedule_text.specs.Schedules.{schedule_of};
 
 use crate::by_words::run;
 use exit_status::{Cause, Status, settle};
@@ -55,20 +53,11 @@ pub fn planet<F: Files, K: Sink, N: Sink, L: Link, C: Clock, P: Spawner>(
         → result.cause ≡ Cause.Done
         → Writes (K.state out.old) (K.state out.new)
         (run_text s.frames s.events (opening s.topology)) }
-    // .. whose counts are in balance after every event, and whose visits are never without a case.
-    ensures keeps { (s : Schedule) → Replays words.now (F.state files.old) s → KeepsRun s }
-    // The same of a log: the node whose steps it has keeps its limits, and each step is in balance.
-    ensures log_keeps { (l : Log) → ReplaysLog words.now (F.state files.old) l
-        → KeepsNodeRun (log_node l) l.events }
+    // .. and whatever bytes say a schedule: after every event of it the counts are in balance, and no
+    // visit is without a case.
+    ensures keeps { (bytes : List ℕ) (s : Schedule) → schedule_of bytes ≡ Ok s → KeepsRun s }
     // What the words ask for was done, and the notes tell how it ended.
     ensures does { Calls (request_of words.now) result.cause
-        (outside (F.state files.old) (K.state out.old) (L.state link.old) (C.state clock.old)
-        (P.state spawn.old))
-        (outside (F.state files.new) (K.state out.new) (L.state link.new) (C.state clock.new)
-        (P.state spawn.new))
-        (N.state notes.old) (N.state notes.new) }
-    // A fault comes only where its count rose in this call.
-    ensures causes { Explains result.cause
         (outside (F.state files.old) (K.state out.old) (L.state link.old) (C.state clock.old)
         (P.state spawn.old))
         (outside (F.state files.new) (K.state out.new) (L.state link.new) (C.state clock.new)
