@@ -25,6 +25,7 @@ pub record OnlyReads (old new : FilesState) : Type 0 where
   pub held : new.held ≡ old.held
   pub made : new.made ≡ old.made
   pub writing : new.writing ≡ old.writing
+  pub target : new.target ≡ old.target
   pub write_faults : new.write_faults ≡ old.write_faults
   pub later : old.read_faults ≤ new.read_faults
 
@@ -57,10 +58,12 @@ Found name limit old new (Err TooLong) = IsTrue old.observable → IsSomeAnd (fi
 Found name limit old new (Err Fault) = HasRisen old.read_faults new.read_faults
 Found name limit old new (Err NoMemory) = Unit {0}
 
--- one file was read, at most, and that is what was found
+-- one file was read, at most, and that is what was found. Where a reading was begun, at most one byte more than the limit
+-- was taken off the file
 pub record ReadsFile (name : List ℕ) (limit : ℕ) (old new : FilesState) (result : Result (List ℕ) ReadError) : Type 0 where
   pub only : OnlyReads old new
   pub asked : MayName old.asked new.asked name
+  pub few : IsTrue new.reading → IsTrue old.observable → IsSomeAnd (file_at old.held name) (λ bytes. length bytes ≤ length new.left + (limit + 1))
   pub found : Found name limit old new result
 
 -- ---- writings
@@ -136,7 +139,7 @@ pub record Filled (most : ℕ) (bytes more : List ℕ) (old new : FilesState) (r
   pub few : IsTrue old.observable → length old.left ≤ length new.left + most
   pub did : FillResult most bytes more old new result
 
--- the rest of the file was read, or it is longer
+-- the rest of the file was read, or it is longer; at most one byte more than the limit was taken off it
 abbrev pub RestResult : {T : Type 0} → ℕ → List ℕ → FilesState → FilesState → Result T ReadError → Type 0
 RestResult limit bytes old new (Ok x) = (length bytes ≤ limit) × (IsTrue old.observable → bytes ≡ old.left)
 RestResult limit bytes old new (Err TooLong) = IsTrue old.observable → limit < length old.left
@@ -146,4 +149,5 @@ RestResult limit bytes old new (Err NoMemory) = Unit {0}
 pub record Rest {T : Type 0} (limit : ℕ) (bytes : List ℕ) (old new : FilesState) (result : Result T ReadError) : Type 0 where
   pub only : OnlyReads old new
   pub asked : new.asked ≡ old.asked
+  pub few : IsTrue old.observable → length old.left ≤ length new.left + (limit + 1)
   pub did : RestResult limit bytes old new result

@@ -29,7 +29,7 @@ use Rattle.planet_commands_fleet.proofs.LogTaking.{untaken_then}
 -- ---- readings, one after the other
 
 reads_none : (s : FilesState) → OnlyReads s s
-reads_none s = record { observable = refl; held = refl; made = refl; writing = refl; write_faults = refl; later = omega arith }
+reads_none s = record { observable = refl; held = refl; made = refl; writing = refl; target = refl; write_faults = refl; later = omega arith }
 
 reads_both : (a b c : FilesState) → OnlyReads a b → OnlyReads b c → OnlyReads a c
 reads_both a b c x y = record {
@@ -37,6 +37,7 @@ reads_both a b c x y = record {
   held = y.held ∙ x.held;
   made = y.made ∙ x.made;
   writing = y.writing ∙ x.writing;
+  target = y.target ∙ x.target;
   write_faults = y.write_faults ∙ x.write_faults;
   later = omega (arith, x.later, y.later);
 }
