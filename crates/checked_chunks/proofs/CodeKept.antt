@@ -2,13 +2,13 @@
 use Rattle.std.proofs.Common.{◌≡◌, ◌∙◌, sym, subst, ◌&&◌}
 use Rattle.std.specs.Prelude.{length, nat_le}
 use Rattle.std.specs.List.{list_all}
-use Rattle.plan_items.proofs.Bools.{and_left}
+use Rattle.containers.proofs.Bools.{and_left}
 use Rattle.plan_base.specs.declared.tree.Program.{Program}
 use Rattle.plan_base.specs.declared.tree.Chunk.{Chunk}
 use Rattle.plan_base.specs.Sizes.{nesting, value_depth}
 use Rattle.plan_base.specs.WellFormed.{well_formed_program, formed_value, formed_chunk, well_formed_chunk, value_has_types, program_has_types}
 use Rattle.plan_base.proofs.FormLaws.{formed_chunk_is, chunk_has_types_is}
-use Rattle.typing_rules.specs.Typing.{Typed, IsTypedChunk, within}
+use Rattle.plan_types_spec.specs.Typing.{Typed, IsTypedChunk, within}
 use Rattle.checked_chunks.specs.Kept.{IsChecked, IsCheckedChunk}
 
 -- the same program was checked too

@@ -2,7 +2,7 @@
 use Rattle.std.proofs.Common.{◌≡◌, ℕ, suc, ◌∙◌, ap, refl, Bool, true, ◌&&◌, List, [], ◌∷◌, Some}
 use Rattle.std.specs.Prelude.{slice_get}
 use Rattle.std.specs.List.{list_all}
-use Rattle.plan_items.proofs.Bools.{and_both}
+use Rattle.containers.proofs.Bools.{and_both}
 use Rattle.plan_base.specs.declared.tree.Ty.{Ty}
 use Rattle.plan_base.specs.declared.tree.Expr.{Expr, Expr-F, out-Expr}
 use Rattle.plan_base.specs.declared.tree.Clause.{Clause}
@@ -11,8 +11,8 @@ use Rattle.plan_base.specs.declared.tree.Program.{Program}
 use Rattle.plan_base.specs.Trees.{ExprLayer}
 use Rattle.plan_base.specs.WellFormed.{typed_expr_level, has_types, program_has_types, ProgramHasTypes}
 use Rattle.plan_base.proofs.FormLaws.{has_types_out}
-use Rattle.typing_rules.specs.Typing.{Ctx, literal_type, HasTy, HaveTys, ClausesHaveTy, Typed}
-use Rattle.typing_rules.specs.Typing.{HasTy as H, HaveTys as P, ClausesHaveTy as C}
+use Rattle.plan_types_spec.specs.Typing.{Ctx, literal_type, HasTy, HaveTys, ClausesHaveTy, Typed}
+use Rattle.plan_types_spec.specs.Typing.{HasTy as H, HaveTys as P, ClausesHaveTy as C}
 
 abbrev Whole : ExprLayer → Type 0
 Whole l = typed_expr_level has_types (λ c. has_types c.body) l ≡ true

@@ -4,7 +4,7 @@ use Rattle.plan_base.specs.declared.tree.Program.{Program}
 use Rattle.plan_base.specs.declared.tree.Chunk.{Chunk}
 use Rattle.plan_base.specs.Sizes.{chunk_weight, chunk_nesting}
 use Rattle.plan_base.specs.WellFormed.{IsWellFormedProgram, ProgramHasTypes, IsWellFormedChunk, ChunkHasTypes}
-use Rattle.typing_rules.specs.Typing.{Typed, IsTypedChunk}
+use Rattle.plan_types_spec.specs.Typing.{Typed, IsTypedChunk}
 
 -- a program is typed and well formed, and no type is missing in it
 pub record IsChecked (code : Program) : Type 0 where

@@ -4,9 +4,9 @@ ghost use Rattle.std.specs.Prelude.{◌≡◌, min, IfOk};
 ghost use Rattle.plan_base.specs.Sizes.{code_size};
 ghost use Rattle.checked_chunks.specs.Kept.{IsChecked};
 
+use containers::Shared;
 use plan_base::{NoMemory, Program};
-use plan_items::Shared;
-use plan_sizes::code_size;
+use plan_base_size::code_size;
 use std::marker::Model;
 
 /// A program that is typed, which contracts see as that program. Its size stands beside it, so that it is measured once.

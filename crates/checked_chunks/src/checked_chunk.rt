@@ -7,8 +7,8 @@ ghost use Rattle.checked_chunks.specs.Kept.{IsCheckedChunk};
 use crate::checked::Checked;
 use crate::weighed::weight_with;
 use plan_base::{Chunk, NoMemory};
-use plan_copies::Copied;
-use plan_sizes::code_size;
+use plan_base_copy::TryClone;
+use plan_base_size::code_size;
 use std::alloc::Global;
 use std::marker::Model;
 

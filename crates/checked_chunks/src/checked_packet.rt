@@ -1,7 +1,7 @@
 //! Packets whose chunk is typed.
 
 ghost use Rattle.std.specs.Prelude.{◌≡◌, ◌≤◌, true, None, Some};
-ghost use Rattle.typing_rules.specs.Handlers.{is_handler, MayHandle};
+ghost use Rattle.plan_types_spec.specs.Handlers.{is_handler, MayHandle};
 ghost use Rattle.checked_chunks.specs.Kept.{IsCheckedChunk};
 
 use crate::checked_chunk::CheckedChunk;
@@ -36,7 +36,7 @@ impl Model for CheckedPacket {
     ghost use Rattle.std.specs.Prelude.{◌≤◌};
     ghost use Rattle.plan_base.specs.declared.tree.Packet.{Packet};
     ghost use Rattle.plan_base.specs.contracts.tree.Packet as whole;
-    ghost use Rattle.typing_rules.specs.Handlers.{MayHandle};
+    ghost use Rattle.plan_types_spec.specs.Handlers.{MayHandle};
     ghost use Rattle.checked_chunks.specs.Kept.{IsCheckedChunk};
 
     ghost Value = { Packet };

@@ -3,11 +3,11 @@
 ghost use Rattle.std.specs.Prelude.{◌≡◌, Some};
 ghost use Rattle.std.specs.Option.{option_copied};
 ghost use Rattle.plan_base.specs.declared.tree.Ty as ty;
-ghost use Rattle.typing_rules.specs.Handlers as spec;
-ghost use Rattle.typing_rules.specs.TypingOrder as order;
+ghost use Rattle.plan_types_spec.specs.Handlers as spec;
+ghost use Rattle.plan_types_spec.specs.TypingOrder as order;
 
 use plan_base::{Fun, Name, Param, Program, Ty};
-use typing_rules::place_of;
+use plan_types_spec::place_of;
 
 /// The function of that name, wherever it stands.
 pub fn fun_of<'a>(code: &'a Program, name: &Name) -> Option<&'a Fun>
@@ -44,7 +44,7 @@ fn handles(d: &Fun) -> bool
 }
 
 /// Whether a name is that of a function which may handle: it takes one string and gives unit.
-#[tactic(auto, unfolding(typing_rules::specs::Handlers::is_handler))]
+#[tactic(auto, unfolding(plan_types_spec::specs::Handlers::is_handler))]
 pub fn is_handler(code: &Program, name: &Name) -> bool
     ensures { result ≡ spec.is_handler code.now name.now }
 {

@@ -5,7 +5,7 @@ ghost use Rattle.plan_base.specs.Sizes.{chunk_weight, code_size};
 ghost use Rattle.checked_chunks.specs.Kept as spec;
 
 use plan_base::Chunk;
-use plan_sizes::{chunk_nesting, values_weight};
+use plan_base_size::{chunk_nesting, values_weight};
 
 /// The bytes of a chunk's marshalled form, or 2^64 - 1 where there are more. Condition: its program has this size. Takes no
 /// memory.

@@ -1,15 +1,15 @@
 use Rattle.std.proofs.Common.{◌≡◌, ℕ, zero, suc, ◌+◌, ◌-◌, ◌<◌, ◌≤◌, ◌==◌, append_assoc, append-nil, List, [], ◌∷◌, ◌++◌, Bool, true, false, Result, Ok, Err, refl, sym, ◌∙◌, ap, arith}
 use Rattle.std.proofs.lemmas.Bool.Decides.{nat_tests}
-use Rattle.plan_items.specs.Reading.{◌>>=◌}
-use Rattle.plan_items.proofs.Binds.{bind_is, bind_err}
-use Rattle.plan_items.proofs.ReadingLists.{with_front}
+use Rattle.containers.specs.Reading.{◌>>=◌}
+use Rattle.containers.proofs.Binds.{bind_is, bind_err}
+use Rattle.containers.proofs.ReadingLists.{with_front}
 use Rattle.plan_base.specs.declared.tree.Expr.{Expr}
 use Rattle.plan_base.specs.declared.tree.Clause.{Clause}
-use Rattle.chunk_spelling.specs.declared.fault.SpellFault.{SpellFault}
-use Rattle.chunk_spelling.specs.declared.tags.ExprTag.{ExprTag}
-use Rattle.chunk_spelling.specs.Scan.{Scan, Reader}
-use Rattle.chunk_spelling.specs.Parts.{Part, reads, tagged_at}
-use Rattle.chunk_spelling.specs.Exprs.{expr_forms, expr_of_parts, expr_tag_at, expr_core, expr_part, clause_forms, clause_of_parts, clause_tag_at, clause_part, clauses_part, clauses_at, clauses_from, is_none_left}
+use Rattle.chunk_codec_spec.specs.declared.fault.SpellFault.{SpellFault}
+use Rattle.chunk_codec_spec.specs.declared.tags.ExprTag.{ExprTag}
+use Rattle.chunk_codec_spec.specs.Scan.{Scan, Reader}
+use Rattle.chunk_codec_spec.specs.Parts.{Part, reads, tagged_at}
+use Rattle.chunk_codec_spec.specs.Exprs.{expr_forms, expr_of_parts, expr_tag_at, expr_core, expr_part, clause_forms, clause_of_parts, clause_tag_at, clause_part, clauses_part, clauses_at, clauses_from, is_none_left}
 use Rattle.chunk_codec.specs.Reading.{Fails, expr_at, expr_behind, clause_at, clause_behind}
 use Rattle.chunk_codec.proofs.Loops.{fails_on}
 

@@ -5,3 +5,7 @@ pub mod Texts
 pub mod TypeSteps
 pub mod ValueSteps
 pub mod Wholes
+pub mod RangeLaws
+pub mod TestLaws
+pub mod Spelled
+pub mod Puts

@@ -1,9 +1,9 @@
 use Rattle.std.proofs.Common.{◌≡◌, ℕ, suc, ◌+◌, ◌-◌, ◌<◌, ◌≤◌, List, [], ◌∷◌, ◌++◌, Result, Ok, Err, sym, ◌∙◌, ap, arith}
-use Rattle.plan_items.specs.Reading.{many}
-use Rattle.plan_items.proofs.ReadingLists.{with_front, many_stops, many_goes_on, many_done}
-use Rattle.chunk_spelling.specs.declared.fault.SpellFault.{SpellFault}
-use Rattle.chunk_spelling.specs.declared.fault.SpellFault.TheVariants.{Truncated, BadTag, BadName, BadUtf8, OverLimit, NoMemory}
-use Rattle.chunk_spelling.specs.Scan.{Scan, Reader}
+use Rattle.containers.specs.Reading.{many}
+use Rattle.containers.proofs.ReadingLists.{with_front, many_stops, many_goes_on, many_done}
+use Rattle.chunk_codec_spec.specs.declared.fault.SpellFault.{SpellFault}
+use Rattle.chunk_codec_spec.specs.declared.fault.SpellFault.TheVariants.{Truncated, BadTag, BadName, BadUtf8, OverLimit, NoMemory}
+use Rattle.chunk_codec_spec.specs.Scan.{Scan, Reader}
 use Rattle.chunk_codec.specs.Reading.{Fails}
 
 -- what the reader of a list refuses is what the list refuses

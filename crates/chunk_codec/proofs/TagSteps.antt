@@ -2,15 +2,15 @@ use Rattle.std.proofs.Common.{◌≡◌, ℕ, ◌+◌, ◌<◌, ◌≤◌, Bool,
 use Rattle.std.specs.Int.{w8}
 use Rattle.std.proofs.lemmas.Bool.{le-ltb, lt-ltb}
 use Rattle.wire_bytes.specs.Fields.{Front, number_at}
-use Rattle.plan_items.proofs.Binds.{ok_inj, bind_is, bind_err}
+use Rattle.containers.proofs.Binds.{ok_inj, bind_is, bind_err}
 use Rattle.plan_base.specs.declared.limit.Limit.{Limit}
-use Rattle.chunk_spelling.specs.declared.fault.SpellFault.{SpellFault}
-use Rattle.chunk_spelling.specs.declared.fault.SpellFault.TheVariants.{OverLimit}
-use Rattle.chunk_spelling.specs.declared.tags.ExprTag.{ExprTag}
-use Rattle.chunk_spelling.specs.declared.tags.TheConstants.{EXPR_TAGS}
-use Rattle.chunk_spelling.specs.Scan.{Scan, whole, number_field, table_field, tag_of, allowed_or_fault}
-use Rattle.chunk_spelling.specs.Exprs.{expr_tag_at}
-use Rattle.chunk_spelling.proofs.FieldLaws.{known_is, allowed_is}
+use Rattle.chunk_codec_spec.specs.declared.fault.SpellFault.{SpellFault}
+use Rattle.chunk_codec_spec.specs.declared.fault.SpellFault.TheVariants.{OverLimit}
+use Rattle.chunk_codec_spec.specs.declared.tags.ExprTag.{ExprTag}
+use Rattle.chunk_codec_spec.specs.declared.tags.TheConstants.{EXPR_TAGS}
+use Rattle.chunk_codec_spec.specs.Scan.{Scan, whole, number_field, table_field, tag_of, allowed_or_fault}
+use Rattle.chunk_codec_spec.specs.Exprs.{expr_tag_at}
+use Rattle.chunk_codec_spec.proofs.FieldLaws.{known_is, allowed_is}
 
 whole_nodes : (r : Result (ℕ × Front) ℕ) (s t : Scan) (b : ℕ) → whole r s ≡ Ok (b, t) → t.nodes ≡ s.nodes
 whole_nodes (Ok x) s t b h = let same = ok_inj h in sym (ap (λ (q : ℕ × Scan). q.1.nodes) same)

@@ -1,11 +1,11 @@
 use Rattle.std.proofs.Common.{◌≡◌, ℕ, zero, suc, ◌-◌, ◌<◌, Ok, Err, refl, ◌∙◌, ap, arith}
-use Rattle.plan_items.proofs.Binds.{bind_is, bind_err}
+use Rattle.containers.proofs.Binds.{bind_is, bind_err}
 use Rattle.plan_base.specs.declared.tree.Ty.{Ty}
-use Rattle.chunk_spelling.specs.declared.fault.SpellFault.{SpellFault}
-use Rattle.chunk_spelling.specs.declared.tags.TypeTag.{TypeTag}
-use Rattle.chunk_spelling.specs.Scan.{Scan}
-use Rattle.chunk_spelling.specs.Parts.{Part, reads, tagged_at}
-use Rattle.chunk_spelling.specs.Types.{type_part, type_core, type_tag_at, type_forms, type_of_parts}
+use Rattle.chunk_codec_spec.specs.declared.fault.SpellFault.{SpellFault}
+use Rattle.chunk_codec_spec.specs.declared.tags.TypeTag.{TypeTag}
+use Rattle.chunk_codec_spec.specs.Scan.{Scan}
+use Rattle.chunk_codec_spec.specs.Parts.{Part, reads, tagged_at}
+use Rattle.chunk_codec_spec.specs.Types.{type_part, type_core, type_tag_at, type_forms, type_of_parts}
 use Rattle.chunk_codec.specs.Reading.{type_at, type_behind}
 
 behind_is : (inner : Part Ty) (tag : TypeTag) (s : Scan) → reads (type_forms inner tag) (type_of_parts inner tag) s ≡ type_behind inner.read tag s

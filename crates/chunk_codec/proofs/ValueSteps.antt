@@ -1,16 +1,16 @@
 use Rattle.std.proofs.Common.{◌≡◌, ℕ, zero, suc, ◌-◌, ◌<◌, Ok, Err, refl, ◌∙◌, ap, arith}
 use Rattle.std.specs.Prelude.{IsTrue}
 use Rattle.std.proofs.lemmas.Bool.{ltb-true}
-use Rattle.plan_items.specs.Reading.{◌>>=◌}
-use Rattle.plan_items.proofs.Binds.{bind_is, bind_err}
+use Rattle.containers.specs.Reading.{◌>>=◌}
+use Rattle.containers.proofs.Binds.{bind_is, bind_err}
 use Rattle.plan_base.specs.declared.tree.Value.{Value}
 use Rattle.plan_base.specs.declared.tree.Chunk.{Chunk}
-use Rattle.chunk_spelling.specs.declared.fault.SpellFault.{SpellFault}
-use Rattle.chunk_spelling.specs.declared.tags.ValueTag.{ValueTag}
-use Rattle.chunk_spelling.specs.Scan.{Scan, Reader}
-use Rattle.chunk_spelling.specs.Parts.{Part, reads, tagged_at}
-use Rattle.chunk_spelling.specs.Programs.{program_at, counting, counting_on, judged_code}
-use Rattle.chunk_spelling.specs.Values.{may_open, value_tag_at, value_forms, value_of_parts, value_from, chunk_from, no_value, no_chunk, values_within, value_core, value_part, chunk_part, chunk_at, judged_weight}
+use Rattle.chunk_codec_spec.specs.declared.fault.SpellFault.{SpellFault}
+use Rattle.chunk_codec_spec.specs.declared.tags.ValueTag.{ValueTag}
+use Rattle.chunk_codec_spec.specs.Scan.{Scan, Reader}
+use Rattle.chunk_codec_spec.specs.Parts.{Part, reads, tagged_at}
+use Rattle.chunk_codec_spec.specs.Programs.{program_at, counting, counting_on, judged_code}
+use Rattle.chunk_codec_spec.specs.Values.{may_open, value_tag_at, value_forms, value_of_parts, value_from, chunk_from, no_value, no_chunk, values_within, value_core, value_part, chunk_part, chunk_at, judged_weight}
 use Rattle.chunk_codec.specs.Reading.{value_at, value_behind, chunk_fields, chunk_read, program_fields, param_at, service_at, function_at}
 
 behind_by : (inner : Part Value) (chunk : Part Chunk) (tag : ValueTag) (s : Scan)

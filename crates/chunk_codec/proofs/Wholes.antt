@@ -1,13 +1,13 @@
 use Rattle.std.proofs.Common.{◌≡◌, ◌⊎◌, inl, inr, ℕ, ◌+◌, List, ◌++◌, length, Result, Ok, Err, refl, sym, ◌∙◌, ap, subst}
 use Rattle.wire_bytes.specs.Fields.{Front, IsBytes}
-use Rattle.plan_items.proofs.Binds.{ok_inj}
-use Rattle.chunk_spelling.specs.declared.fault.SpellFault.{SpellFault}
-use Rattle.chunk_spelling.specs.declared.fault.SpellFault.TheVariants.{Truncated, BadTag, BadName, BadUtf8, OverLimit, NoMemory}
-use Rattle.chunk_spelling.specs.Scan.{Scan}
-use Rattle.chunk_spelling.specs.Parts.{Part}
-use Rattle.chunk_spelling.specs.Spelling.{Spells, SpelledAt, from_front, FirstFaultAt}
-use Rattle.chunk_spelling.proofs.PartLaws.{Lawful}
-use Rattle.chunk_spelling.proofs.WholeLaws.{found_by, only_by, fault_by}
+use Rattle.containers.proofs.Binds.{ok_inj}
+use Rattle.chunk_codec_spec.specs.declared.fault.SpellFault.{SpellFault}
+use Rattle.chunk_codec_spec.specs.declared.fault.SpellFault.TheVariants.{Truncated, BadTag, BadName, BadUtf8, OverLimit, NoMemory}
+use Rattle.chunk_codec_spec.specs.Scan.{Scan}
+use Rattle.chunk_codec_spec.specs.Parts.{Part}
+use Rattle.chunk_codec_spec.specs.Spelling.{Spells, SpelledAt, from_front, FirstFaultAt}
+use Rattle.chunk_codec_spec.proofs.PartLaws.{Lawful}
+use Rattle.chunk_codec_spec.proofs.WholeLaws.{found_by, only_by, fault_by}
 use Rattle.chunk_codec.specs.Reading.{Fails}
 
 -- what a call refuses is not `NoMemory` only where the reading refuses it

@@ -1,12 +1,12 @@
 use Rattle.std.specs.Prelude.{◌≡◌, ℕ, List, Bool, true, false, Some, None, Result, Ok, Err}
 use Rattle.std.specs.Int.{w32}
-use Rattle.plan_items.specs.Reading.{◌>>=◌}
+use Rattle.containers.specs.Reading.{◌>>=◌}
 use Rattle.plan_base.specs.declared.limit.Limit.{Limit}
 use Rattle.plan_base.specs.declared.tree.Ty.{Ty}
 use Rattle.plan_base.specs.declared.tree.Ty.TheVariants as ty
-use Rattle.chunk_spelling.specs.declared.fault.SpellFault.{SpellFault}
-use Rattle.chunk_spelling.specs.declared.fault.SpellFault.TheVariants.{NoMemory}
-use Rattle.chunk_spelling.specs.declared.tags.TypeTag.{TypeTag}
+use Rattle.chunk_codec_spec.specs.declared.fault.SpellFault.{SpellFault}
+use Rattle.chunk_codec_spec.specs.declared.fault.SpellFault.TheVariants.{NoMemory}
+use Rattle.chunk_codec_spec.specs.declared.tags.TypeTag.{TypeTag}
 use Rattle.plan_base.specs.declared.tree.Expr.{Expr}
 use Rattle.plan_base.specs.declared.tree.Expr.TheVariants as expr
 use Rattle.plan_base.specs.declared.tree.Clause.{Clause}
@@ -17,14 +17,14 @@ use Rattle.plan_base.specs.declared.tree.Program.{Program}
 use Rattle.plan_base.specs.declared.tree.Value.{Value}
 use Rattle.plan_base.specs.declared.tree.Value.TheVariants as value
 use Rattle.plan_base.specs.declared.tree.Chunk.{Chunk}
-use Rattle.chunk_spelling.specs.declared.tags.ExprTag.{ExprTag}
-use Rattle.chunk_spelling.specs.declared.tags.ValueTag.{ValueTag}
-use Rattle.chunk_spelling.specs.Scan.{Scan, Reader, number_field, int_field, flag_field, char_field, text_field, blob_field, name_field, operator_field, count_field}
-use Rattle.chunk_spelling.specs.Parts.{counted_at, listed_at}
-use Rattle.chunk_spelling.specs.Types.{type_part}
-use Rattle.chunk_spelling.specs.Exprs.{expr_core, clause_tag_at}
-use Rattle.chunk_spelling.specs.Programs.{program_at}
-use Rattle.chunk_spelling.specs.Values.{value_core, chunk_at, value_part}
+use Rattle.chunk_codec_spec.specs.declared.tags.ExprTag.{ExprTag}
+use Rattle.chunk_codec_spec.specs.declared.tags.ValueTag.{ValueTag}
+use Rattle.chunk_codec_spec.specs.Scan.{Scan, Reader, number_field, int_field, flag_field, char_field, text_field, blob_field, name_field, operator_field, count_field}
+use Rattle.chunk_codec_spec.specs.Parts.{counted_at, listed_at}
+use Rattle.chunk_codec_spec.specs.Types.{type_part}
+use Rattle.chunk_codec_spec.specs.Exprs.{expr_core, clause_tag_at}
+use Rattle.chunk_codec_spec.specs.Programs.{program_at}
+use Rattle.chunk_codec_spec.specs.Values.{value_core, chunk_at, value_part}
 
 -- memory may be wanting at any time; every other fault is the one that the reading has
 abbrev pub Fails : {A : Type 0} → SpellFault → Result A SpellFault → Type 0

@@ -1,11 +1,11 @@
 -- What is behind the tags of forms that are read alike.
 use Rattle.std.specs.Prelude.{List, ℕ, Ok}
-use Rattle.plan_items.specs.Reading.{◌>>=◌}
+use Rattle.containers.specs.Reading.{◌>>=◌}
 use Rattle.plan_base.specs.declared.limit.Limit.{Limit}
 use Rattle.plan_base.specs.declared.tree.Expr.{Expr}
 use Rattle.plan_base.specs.declared.tree.Expr.TheVariants as expr
-use Rattle.chunk_spelling.specs.Scan.{Reader, name_field}
-use Rattle.chunk_spelling.specs.Parts.{counted_at}
+use Rattle.chunk_codec_spec.specs.Scan.{Reader, name_field}
+use Rattle.chunk_codec_spec.specs.Parts.{counted_at}
 use Rattle.chunk_codec.specs.declared.shapes.Pair.{Pair}
 use Rattle.chunk_codec.specs.declared.shapes.Fold.{Fold}
 use Rattle.chunk_codec.specs.declared.shapes.Applied.{Applied}

@@ -1,18 +1,18 @@
 ghost use Rattle.std.specs.Prelude.{◌≡◌, ◌-◌, ◌<◌, List};
-ghost use Rattle.plan_items.specs.Reading.{many};
+ghost use Rattle.containers.specs.Reading.{many};
 ghost use Rattle.plan_base.specs.declared.tree.Expr.{Expr};
 ghost use Rattle.plan_base.specs.declared.tree.Clause.{Clause};
-ghost use Rattle.chunk_spelling.specs.Scan.{Reader};
-ghost use Rattle.chunk_spelling.specs.Exprs.{clauses_at, clauses_from};
+ghost use Rattle.chunk_codec_spec.specs.Scan.{Reader};
+ghost use Rattle.chunk_codec_spec.specs.Exprs.{clauses_at, clauses_from};
 ghost use Rattle.chunk_codec.specs.Shapes as shape;
 ghost use Rattle.chunk_codec.specs.Reading.{Gives, expr_at, expr_behind, clause_at};
 
 use crate::shapes::{Applied, Fold, Pair, applied_to, folded, paired};
 use crate::source::Source;
 use crate::types::type_of;
-use chunk_spelling::{ExprTag, SpellFault};
+use chunk_codec_spec::{ExprTag, SpellFault};
+use containers::{Boxed, Items};
 use plan_base::{Clause, Clauses, Dev, Expr, Exprs, Host, Limit};
-use plan_items::{Boxed, Items};
 use std::alloc::Global;
 
 /// An expression whose parts may open `room` levels, its own counted.
@@ -106,7 +106,7 @@ fn expr_with_tag(
 
 /// What is behind the tag of a tuple.
 #[cycle(exprs)]
-#[tactic(auto, unfolding(crate::specs::Reading::expr_behind, chunk_spelling::specs::Parts::counted_at, chunk_spelling::specs::Exprs::clauses_at))]
+#[tactic(auto, unfolding(crate::specs::Reading::expr_behind, chunk_codec_spec::specs::Parts::counted_at, chunk_codec_spec::specs::Exprs::clauses_at))]
 fn tuple_behind(alloc: Global, s: &mut Source<'_>, room: u32) -> Result<Expr, SpellFault>
     requires { 0 < room }
     ensures { Gives result s.new (expr_behind (expr_at (room - 1))
@@ -144,7 +144,7 @@ fn fold_behind(alloc: Global, s: &mut Source<'_>, room: u32, fold: Fold) -> Resu
 
 /// What is behind the tag of a function with arguments.
 #[cycle(exprs)]
-#[tactic(auto, unfolding(crate::specs::Shapes::applied_behind, chunk_spelling::specs::Parts::counted_at))]
+#[tactic(auto, unfolding(crate::specs::Shapes::applied_behind, chunk_codec_spec::specs::Parts::counted_at))]
 fn applied_behind(
     alloc: Global,
     s: &mut Source<'_>,
@@ -162,7 +162,7 @@ fn applied_behind(
 
 /// What is behind the tag of an `if`.
 #[cycle(exprs)]
-#[tactic(auto, unfolding(crate::specs::Reading::expr_behind, chunk_spelling::specs::Parts::counted_at, chunk_spelling::specs::Exprs::clauses_at))]
+#[tactic(auto, unfolding(crate::specs::Reading::expr_behind, chunk_codec_spec::specs::Parts::counted_at, chunk_codec_spec::specs::Exprs::clauses_at))]
 fn choice_behind(alloc: Global, s: &mut Source<'_>, room: u32) -> Result<Expr, SpellFault>
     requires { 0 < room }
     ensures { Gives result s.new (expr_behind (expr_at (room - 1))
@@ -176,7 +176,7 @@ fn choice_behind(alloc: Global, s: &mut Source<'_>, room: u32) -> Result<Expr, S
 
 /// What is behind the tag of a `let`.
 #[cycle(exprs)]
-#[tactic(auto, unfolding(crate::specs::Reading::expr_behind, chunk_spelling::specs::Parts::counted_at, chunk_spelling::specs::Exprs::clauses_at))]
+#[tactic(auto, unfolding(crate::specs::Reading::expr_behind, chunk_codec_spec::specs::Parts::counted_at, chunk_codec_spec::specs::Exprs::clauses_at))]
 fn binding_behind(alloc: Global, s: &mut Source<'_>, room: u32) -> Result<Expr, SpellFault>
     requires { 0 < room }
     ensures { Gives result s.new (expr_behind (expr_at (room - 1))
@@ -201,7 +201,7 @@ fn binding_behind(alloc: Global, s: &mut Source<'_>, room: u32) -> Result<Expr, 
 
 /// What is behind the tag of an operator.
 #[cycle(exprs)]
-#[tactic(auto, unfolding(crate::specs::Reading::expr_behind, chunk_spelling::specs::Parts::counted_at, chunk_spelling::specs::Exprs::clauses_at))]
+#[tactic(auto, unfolding(crate::specs::Reading::expr_behind, chunk_codec_spec::specs::Parts::counted_at, chunk_codec_spec::specs::Exprs::clauses_at))]
 fn operation_behind(alloc: Global, s: &mut Source<'_>, room: u32) -> Result<Expr, SpellFault>
     requires { 0 < room }
     ensures { Gives result s.new (expr_behind (expr_at (room - 1))
@@ -215,7 +215,7 @@ fn operation_behind(alloc: Global, s: &mut Source<'_>, room: u32) -> Result<Expr
 
 /// What is behind the tag of a part of a tuple.
 #[cycle(exprs)]
-#[tactic(auto, unfolding(crate::specs::Reading::expr_behind, chunk_spelling::specs::Parts::counted_at, chunk_spelling::specs::Exprs::clauses_at))]
+#[tactic(auto, unfolding(crate::specs::Reading::expr_behind, chunk_codec_spec::specs::Parts::counted_at, chunk_codec_spec::specs::Exprs::clauses_at))]
 fn part_behind(alloc: Global, s: &mut Source<'_>, room: u32) -> Result<Expr, SpellFault>
     requires { 0 < room }
     ensures { Gives result s.new (expr_behind (expr_at (room - 1))
@@ -228,7 +228,7 @@ fn part_behind(alloc: Global, s: &mut Source<'_>, room: u32) -> Result<Expr, Spe
 
 /// What is behind the tag of a `try`.
 #[cycle(exprs)]
-#[tactic(auto, unfolding(crate::specs::Reading::expr_behind, chunk_spelling::specs::Parts::counted_at, chunk_spelling::specs::Exprs::clauses_at))]
+#[tactic(auto, unfolding(crate::specs::Reading::expr_behind, chunk_codec_spec::specs::Parts::counted_at, chunk_codec_spec::specs::Exprs::clauses_at))]
 fn handling_behind(alloc: Global, s: &mut Source<'_>, room: u32) -> Result<Expr, SpellFault>
     requires { 0 < room }
     ensures { Gives result s.new (expr_behind (expr_at (room - 1))
@@ -242,7 +242,7 @@ fn handling_behind(alloc: Global, s: &mut Source<'_>, room: u32) -> Result<Expr,
 
 /// What is behind the tag of an `OnRemote`.
 #[cycle(exprs)]
-#[tactic(auto, unfolding(crate::specs::Reading::expr_behind, chunk_spelling::specs::Parts::counted_at, chunk_spelling::specs::Exprs::clauses_at))]
+#[tactic(auto, unfolding(crate::specs::Reading::expr_behind, chunk_codec_spec::specs::Parts::counted_at, chunk_codec_spec::specs::Exprs::clauses_at))]
 fn remote_behind(alloc: Global, s: &mut Source<'_>, room: u32) -> Result<Expr, SpellFault>
     requires { 0 < room }
     ensures { Gives result s.new (expr_behind (expr_at (room - 1))
@@ -257,7 +257,7 @@ fn remote_behind(alloc: Global, s: &mut Source<'_>, room: u32) -> Result<Expr, S
 
 /// What is behind the tag of an `OnNeighbor`.
 #[cycle(exprs)]
-#[tactic(auto, unfolding(crate::specs::Reading::expr_behind, chunk_spelling::specs::Parts::counted_at, chunk_spelling::specs::Exprs::clauses_at))]
+#[tactic(auto, unfolding(crate::specs::Reading::expr_behind, chunk_codec_spec::specs::Parts::counted_at, chunk_codec_spec::specs::Exprs::clauses_at))]
 fn neighbour_behind(alloc: Global, s: &mut Source<'_>, room: u32) -> Result<Expr, SpellFault>
     requires { 0 < room }
     ensures { Gives result s.new (expr_behind (expr_at (room - 1))

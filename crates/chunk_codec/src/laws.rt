@@ -4,10 +4,10 @@ ghost use Rattle.plan_base.specs.declared.tree.Ty.{Ty};
 ghost use Rattle.plan_base.specs.declared.tree.Value.{Value};
 ghost use Rattle.plan_base.specs.declared.tree.Chunk.{Chunk};
 ghost use Rattle.plan_base.specs.declared.tree.Program.{Program};
-ghost use Rattle.chunk_spelling.specs.declared.fault.SpellFault.{SpellFault};
-ghost use Rattle.chunk_spelling.specs.Items.{a_type, a_value, a_chunk, a_program};
-ghost use Rattle.chunk_spelling.specs.Programs.{program_part};
-ghost use Rattle.chunk_spelling.specs.Spelling.{Spells, SpelledAt, FirstFaultAt, a_whole_type, a_whole_value, a_whole_chunk};
+ghost use Rattle.chunk_codec_spec.specs.declared.fault.SpellFault.{SpellFault};
+ghost use Rattle.chunk_codec_spec.specs.Items.{a_type, a_value, a_chunk, a_program};
+ghost use Rattle.chunk_codec_spec.specs.Programs.{program_part};
+ghost use Rattle.chunk_codec_spec.specs.Spelling.{Spells, SpelledAt, FirstFaultAt, a_whole_type, a_whole_value, a_whole_chunk};
 
 /// Laws of the spelling of a type: no type has two spellings and no spelling begins another's; it stands in front of
 /// whatever follows; at most one fault is the first; a spelling stands at a place or

@@ -1,16 +1,16 @@
 ghost use Rattle.std.specs.Prelude.{◌≡◌};
-ghost use Rattle.plan_items.specs.Reading.{many};
-ghost use Rattle.chunk_spelling.specs.Scan.{name_field};
-ghost use Rattle.chunk_spelling.specs.Parts.{counted_at};
-ghost use Rattle.chunk_spelling.specs.Programs.{program_at};
+ghost use Rattle.containers.specs.Reading.{many};
+ghost use Rattle.chunk_codec_spec.specs.Scan.{name_field};
+ghost use Rattle.chunk_codec_spec.specs.Parts.{counted_at};
+ghost use Rattle.chunk_codec_spec.specs.Programs.{program_at};
 ghost use Rattle.chunk_codec.specs.Reading.{Gives, type_at, param_at, service_at, function_at, program_fields};
 
 use crate::exprs::expr_of;
 use crate::source::Source;
 use crate::types::{type_of, types_of};
-use chunk_spelling::SpellFault;
+use chunk_codec_spec::SpellFault;
+use containers::Items;
 use plan_base::{Fun, Funs, Limit, Names, Param, Params, Program, Svc, Svcs, Tys};
-use plan_items::Items;
 use std::alloc::Global;
 
 /// A parameter of a function.
@@ -26,7 +26,7 @@ fn param_of(alloc: Global, s: &mut Source<'_>) -> Result<Param, SpellFault>
 }
 
 /// The types of a service's parameters.
-#[tactic(auto, unfolding(chunk_spelling::specs::Parts::counted_at))]
+#[tactic(auto, unfolding(chunk_codec_spec::specs::Parts::counted_at))]
 fn param_types(alloc: Global, s: &mut Source<'_>) -> Result<Tys, SpellFault>
     ensures { Gives result s.new (counted_at Limit.Parameters 0 8 (type_at 8) s.old) }
 {
@@ -57,7 +57,7 @@ fn service_of(alloc: Global, s: &mut Source<'_>) -> Result<Svc, SpellFault>
 }
 
 /// The parameters of a function.
-#[tactic(auto, unfolding(chunk_spelling::specs::Parts::counted_at))]
+#[tactic(auto, unfolding(chunk_codec_spec::specs::Parts::counted_at))]
 fn counted_params(alloc: Global, s: &mut Source<'_>) -> Result<Params, SpellFault>
     ensures { Gives result s.new (counted_at Limit.Parameters 0 8 param_at s.old) }
 {
@@ -144,7 +144,7 @@ fn names_of(alloc: Global, s: &mut Source<'_>, count: u8) -> Result<Names, Spell
 }
 
 /// A program before its size is judged.
-#[tactic(auto, unfolding(crate::specs::Reading::program_fields, chunk_spelling::specs::Parts::counted_at))]
+#[tactic(auto, unfolding(crate::specs::Reading::program_fields, chunk_codec_spec::specs::Parts::counted_at))]
 fn fields_of(alloc: Global, s: &mut Source<'_>) -> Result<Program, SpellFault>
     ensures { Gives result s.new (program_fields s.old) }
 {

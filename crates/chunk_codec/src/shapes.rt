@@ -3,8 +3,8 @@
 ghost use Rattle.std.specs.Prelude.{◌≡◌};
 ghost use Rattle.chunk_codec.specs.Shapes.{pair_of, fold_of, applied_of};
 
+use containers::Boxed;
 use plan_base::{Expr, Exprs, Name};
-use plan_items::Boxed;
 
 /// A form of two expressions.
 #[derive(Clone, Copy)]

@@ -1,14 +1,14 @@
 ghost use Rattle.std.specs.Prelude.{◌≡◌, ◌<◌, OnOk, IfOk, IsTrue};
 ghost use Rattle.std.specs.Int.{w8, w16, w32};
-ghost use Rattle.chunk_spelling.specs.Scan.{number_field, int_field, bytes_field, flag_field, char_field, text_field, blob_field, name_field, operator_field, count_field};
-ghost use Rattle.chunk_spelling.specs.Types.{type_tag_at};
-ghost use Rattle.chunk_spelling.specs.Exprs.{expr_tag_at, clause_tag_at};
-ghost use Rattle.chunk_spelling.specs.Programs.{counting};
-ghost use Rattle.chunk_spelling.specs.Values.{value_tag_at, may_open};
+ghost use Rattle.chunk_codec_spec.specs.Scan.{number_field, int_field, bytes_field, flag_field, char_field, text_field, blob_field, name_field, operator_field, count_field};
+ghost use Rattle.chunk_codec_spec.specs.Types.{type_tag_at};
+ghost use Rattle.chunk_codec_spec.specs.Exprs.{expr_tag_at, clause_tag_at};
+ghost use Rattle.chunk_codec_spec.specs.Programs.{counting};
+ghost use Rattle.chunk_codec_spec.specs.Values.{value_tag_at, may_open};
 ghost use Rattle.chunk_codec.specs.Reading.{Gives, Lends};
 
 use crate::tags::{can_stand, is_char, is_text, item_of, limit_passed};
-use chunk_spelling::{
+use chunk_codec_spec::{
     EXPR_TAGS, ExprTag, OPERATORS, SpellFault, TYPE_TAGS, TypeTag, VALUE_TAGS, ValueTag,
 };
 use plan_base::{Bytes, Limit, Name, NameFault, Op, Text};
@@ -24,7 +24,7 @@ pub struct Source<'a> {
 }
 
 impl<'a> Model for Source<'a> {
-    ghost use Rattle.chunk_spelling.specs.Scan.{Scan};
+    ghost use Rattle.chunk_codec_spec.specs.Scan.{Scan};
 
     ghost Value = { Scan };
 
@@ -56,7 +56,7 @@ impl<'a> Source<'a> {
     }
 
     /// The next byte.
-    #[tactic(auto, unfolding(chunk_spelling::specs::Scan::number_field))]
+    #[tactic(auto, unfolding(chunk_codec_spec::specs::Scan::number_field))]
     pub fn byte(&mut self) -> Result<u8, SpellFault>
         ensures { Gives result self.new (number_field w8 self.old) }
     {
@@ -64,7 +64,7 @@ impl<'a> Source<'a> {
     }
 
     /// The next number of two bytes.
-    #[tactic(auto, unfolding(chunk_spelling::specs::Scan::number_field))]
+    #[tactic(auto, unfolding(chunk_codec_spec::specs::Scan::number_field))]
     pub fn short(&mut self) -> Result<u16, SpellFault>
         ensures { Gives result self.new (number_field w16 self.old) }
     {
@@ -72,7 +72,7 @@ impl<'a> Source<'a> {
     }
 
     /// The next number of four bytes.
-    #[tactic(auto, unfolding(chunk_spelling::specs::Scan::number_field))]
+    #[tactic(auto, unfolding(chunk_codec_spec::specs::Scan::number_field))]
     pub fn word(&mut self) -> Result<u32, SpellFault>
         ensures { Gives result self.new (number_field w32 self.old) }
     {
@@ -80,7 +80,7 @@ impl<'a> Source<'a> {
     }
 
     /// The next number with sign.
-    #[tactic(auto, unfolding(chunk_spelling::specs::Scan::int_field))]
+    #[tactic(auto, unfolding(chunk_codec_spec::specs::Scan::int_field))]
     pub fn int(&mut self) -> Result<i64, SpellFault>
         ensures { Gives result self.new (int_field self.old) }
     {
@@ -88,7 +88,7 @@ impl<'a> Source<'a> {
     }
 
     /// The next `n` bytes.
-    #[tactic(auto, unfolding(chunk_spelling::specs::Scan::bytes_field))]
+    #[tactic(auto, unfolding(chunk_codec_spec::specs::Scan::bytes_field))]
     pub fn bytes(&mut self, n: u32) -> Result<&'a [u8], SpellFault>
         ensures { Lends (λ x. x.now) result self.new (bytes_field n self.old) }
     {
@@ -96,7 +96,7 @@ impl<'a> Source<'a> {
     }
 
     /// The next count, at least `least`, or `BadTag`, and at most `most`, or the limit is passed.
-    #[tactic(auto, unfolding(chunk_spelling::specs::Scan::count_field))]
+    #[tactic(auto, unfolding(chunk_codec_spec::specs::Scan::count_field))]
     pub fn count(&mut self, limit: Limit, least: u8, most: u8) -> Result<u8, SpellFault>
         ensures { Gives result self.new (count_field limit least most self.old) }
     {
@@ -112,7 +112,7 @@ impl<'a> Source<'a> {
     }
 
     /// The next tag of a type, where `room` more levels may be opened.
-    #[tactic(auto, unfolding(chunk_spelling::specs::Types::type_tag_at, chunk_spelling::specs::Scan::table_field))]
+    #[tactic(auto, unfolding(chunk_codec_spec::specs::Types::type_tag_at, chunk_codec_spec::specs::Scan::table_field))]
     pub fn type_tag(&mut self, room: u32) -> Result<TypeTag, SpellFault>
         ensures gives { Gives result self.new (type_tag_at room self.old) }
         ensures open { OnOk result (0 < room) }
@@ -127,7 +127,7 @@ impl<'a> Source<'a> {
     }
 
     /// The next truth value.
-    #[tactic(auto, unfolding(chunk_spelling::specs::Scan::flag_field, chunk_spelling::specs::Scan::table_field))]
+    #[tactic(auto, unfolding(chunk_codec_spec::specs::Scan::flag_field, chunk_codec_spec::specs::Scan::table_field))]
     pub fn flag(&mut self) -> Result<bool, SpellFault>
         ensures { Gives result self.new (flag_field self.old) }
     {
@@ -141,7 +141,7 @@ impl<'a> Source<'a> {
     }
 
     /// The next operator.
-    #[tactic(auto, unfolding(chunk_spelling::specs::Scan::operator_field, chunk_spelling::specs::Scan::table_field))]
+    #[tactic(auto, unfolding(chunk_codec_spec::specs::Scan::operator_field, chunk_codec_spec::specs::Scan::table_field))]
     pub fn operator(&mut self) -> Result<Op, SpellFault>
         ensures { Gives result self.new (operator_field self.old) }
     {
@@ -154,7 +154,7 @@ impl<'a> Source<'a> {
     }
 
     /// The next Unicode scalar.
-    #[tactic(auto, unfolding(chunk_spelling::specs::Scan::char_field))]
+    #[tactic(auto, unfolding(chunk_codec_spec::specs::Scan::char_field))]
     pub fn scalar(&mut self) -> Result<u32, SpellFault>
         ensures { Gives result self.new (char_field self.old) }
     {
@@ -168,7 +168,7 @@ impl<'a> Source<'a> {
     }
 
     /// The next text, behind its length.
-    #[tactic(auto, unfolding(chunk_spelling::specs::Scan::text_field))]
+    #[tactic(auto, unfolding(chunk_codec_spec::specs::Scan::text_field))]
     pub fn text(&mut self, alloc: Global) -> Result<Text, SpellFault>
         ensures { Gives result self.new (text_field self.old) }
     {
@@ -182,7 +182,7 @@ impl<'a> Source<'a> {
     }
 
     /// The next blob, behind its length.
-    #[tactic(auto, unfolding(chunk_spelling::specs::Scan::blob_field))]
+    #[tactic(auto, unfolding(chunk_codec_spec::specs::Scan::blob_field))]
     pub fn blob(&mut self, alloc: Global) -> Result<Bytes, SpellFault>
         ensures { Gives result self.new (blob_field self.old) }
     {
@@ -192,7 +192,7 @@ impl<'a> Source<'a> {
     }
 
     /// The next name, behind its length.
-    #[tactic(auto, unfolding(chunk_spelling::specs::Scan::name_field))]
+    #[tactic(auto, unfolding(chunk_codec_spec::specs::Scan::name_field))]
     pub fn name(&mut self, alloc: Global) -> Result<Name, SpellFault>
         ensures { Gives result self.new (name_field self.old) }
     {
@@ -213,7 +213,7 @@ impl<'a> Source<'a> {
     }
 
     /// The next tag of an expression, where `room` more levels may be opened; it counts.
-    #[tactic(auto, unfolding(chunk_spelling::specs::Exprs::expr_tag_at, chunk_spelling::specs::Scan::table_field))]
+    #[tactic(auto, unfolding(chunk_codec_spec::specs::Exprs::expr_tag_at, chunk_codec_spec::specs::Scan::table_field))]
     pub fn expr_tag(&mut self, room: u32) -> Result<ExprTag, SpellFault>
         ensures gives { Gives result self.new (expr_tag_at room self.old) }
         ensures open { OnOk result (0 < room) }
@@ -232,7 +232,7 @@ impl<'a> Source<'a> {
     }
 
     /// Whether the next clause has a name, by its tag; only the last may have none.
-    #[tactic(auto, unfolding(chunk_spelling::specs::Exprs::clause_tag_at, chunk_spelling::specs::Scan::table_field))]
+    #[tactic(auto, unfolding(chunk_codec_spec::specs::Exprs::clause_tag_at, chunk_codec_spec::specs::Scan::table_field))]
     pub fn clause_tag(&mut self, last: bool) -> Result<bool, SpellFault>
         ensures { Gives result self.new (clause_tag_at last self.old) }
     {
@@ -251,7 +251,7 @@ impl<'a> Source<'a> {
     }
 
     /// The next tag of a value, where `nest` chunks and `room` levels may still be opened.
-    #[tactic(auto, unfolding(chunk_spelling::specs::Values::value_tag_at, chunk_spelling::specs::Scan::table_field))]
+    #[tactic(auto, unfolding(chunk_codec_spec::specs::Values::value_tag_at, chunk_codec_spec::specs::Scan::table_field))]
     pub fn value_tag(&mut self, nest: u32, room: u32) -> Result<ValueTag, SpellFault>
         ensures gives { Gives result self.new (value_tag_at nest room self.old) }
         ensures open { IfOk result (λ tag. IsTrue (may_open nest room tag)) }

@@ -1,9 +1,9 @@
 ghost use Rattle.std.specs.Prelude.{◌≡◌};
 ghost use Rattle.std.specs.Str.{is_utf8};
-ghost use Rattle.chunk_spelling.specs.Scan.{tag_of, is_scalar};
-ghost use Rattle.chunk_spelling.specs.Values.{may_open, opening_limit, light};
+ghost use Rattle.chunk_codec_spec.specs.Scan.{tag_of, is_scalar};
+ghost use Rattle.chunk_codec_spec.specs.Values.{may_open, opening_limit, light};
 
-use chunk_spelling::ValueTag;
+use chunk_codec_spec::ValueTag;
 use plan_base::Limit;
 
 /// The item of a table with that number, where the first has the number `base`.
@@ -17,7 +17,7 @@ pub fn item_of<T: Copy>(base: u8, items: &[T], number: u8) -> Option<T>
 }
 
 /// Whether a number is a Unicode scalar.
-#[tactic(auto, using(plan_items::proofs::Bools::not_true))]
+#[tactic(auto, using(containers::proofs::Bools::not_true))]
 pub fn is_char(code: u32) -> bool
     ensures { result ≡ is_scalar code }
 {

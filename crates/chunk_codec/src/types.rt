@@ -1,11 +1,11 @@
 ghost use Rattle.std.specs.Prelude.{◌≡◌, ◌-◌, ◌<◌};
-ghost use Rattle.plan_items.specs.Reading.{many};
+ghost use Rattle.containers.specs.Reading.{many};
 ghost use Rattle.chunk_codec.specs.Reading.{Gives, type_at, type_behind};
 
 use crate::source::Source;
-use chunk_spelling::{SpellFault, TypeTag};
+use chunk_codec_spec::{SpellFault, TypeTag};
+use containers::{Boxed, Items};
 use plan_base::{Limit, Ty, Tys};
-use plan_items::{Boxed, Items};
 use std::alloc::Global;
 
 /// A type whose parts may open `room` levels, its own counted.
@@ -20,7 +20,7 @@ pub fn type_of(alloc: Global, s: &mut Source<'_>, room: u32) -> Result<Ty, Spell
 
 /// What is behind a type's tag.
 #[cycle(types)]
-#[tactic(auto, unfolding(crate::specs::Reading::type_behind, chunk_spelling::specs::Parts::counted_at))]
+#[tactic(auto, unfolding(crate::specs::Reading::type_behind, chunk_codec_spec::specs::Parts::counted_at))]
 fn type_with_tag(
     alloc: Global,
     s: &mut Source<'_>,

@@ -1,19 +1,19 @@
 ghost use Rattle.std.specs.Prelude.{◌≡◌, ◌-◌, ◌<◌, IsTrue};
-ghost use Rattle.plan_items.specs.Reading.{many};
+ghost use Rattle.containers.specs.Reading.{many};
 ghost use Rattle.plan_base.specs.declared.tree.Value.{Value};
 ghost use Rattle.plan_base.specs.declared.tree.Chunk.{Chunk};
-ghost use Rattle.chunk_spelling.specs.Parts.{counted_at};
-ghost use Rattle.chunk_spelling.specs.Scan.{Reader};
-ghost use Rattle.chunk_spelling.specs.Values.{may_open};
+ghost use Rattle.chunk_codec_spec.specs.Parts.{counted_at};
+ghost use Rattle.chunk_codec_spec.specs.Scan.{Reader};
+ghost use Rattle.chunk_codec_spec.specs.Values.{may_open};
 ghost use Rattle.chunk_codec.specs.Reading.{Gives, value_at, value_behind, chunk_read, chunk_fields};
 
 use crate::programs::program_of;
 use crate::source::Source;
 use crate::tags::is_light;
 use crate::types::type_of;
-use chunk_spelling::{SpellFault, ValueTag};
+use chunk_codec_spec::{SpellFault, ValueTag};
+use containers::{Boxed, Items, Shared};
 use plan_base::{Chunk, Dev, Host, Limit, Value, Values};
-use plan_items::{Boxed, Items, Shared};
 use std::alloc::Global;
 
 /// A value inside which `nest` chunks may stand inside each other, and `room` lists and tuples.
@@ -90,7 +90,7 @@ fn chunk_behind(
 
 /// What is behind the tag of a list.
 #[cycle(values)]
-#[tactic(auto, unfolding(crate::specs::Reading::value_behind, chunk_spelling::specs::Parts::listed_at))]
+#[tactic(auto, unfolding(crate::specs::Reading::value_behind, chunk_codec_spec::specs::Parts::listed_at))]
 fn list_behind(alloc: Global, s: &mut Source<'_>, nest: u32, room: u32) -> Result<Value, SpellFault>
     requires { 0 < room }
     ensures { Gives result s.new (value_behind (value_at nest (room - 1))
@@ -114,7 +114,7 @@ fn list_behind(alloc: Global, s: &mut Source<'_>, nest: u32, room: u32) -> Resul
 
 /// What is behind the tag of a tuple.
 #[cycle(values)]
-#[tactic(auto, unfolding(crate::specs::Reading::value_behind, chunk_spelling::specs::Parts::counted_at))]
+#[tactic(auto, unfolding(crate::specs::Reading::value_behind, chunk_codec_spec::specs::Parts::counted_at))]
 fn tuple_behind(
     alloc: Global,
     s: &mut Source<'_>,
@@ -153,7 +153,7 @@ fn values_of(
 
 /// The arguments of a chunk.
 #[cycle(values)]
-#[tactic(auto, unfolding(chunk_spelling::specs::Parts::counted_at))]
+#[tactic(auto, unfolding(chunk_codec_spec::specs::Parts::counted_at))]
 fn args_of(alloc: Global, s: &mut Source<'_>, nest: u32) -> Result<Values, SpellFault>
     ensures { Gives result s.new (counted_at Limit.Arguments 0 8 (value_at nest 8) s.old) }
 {

@@ -1,7 +1,7 @@
 ghost use Rattle.std.specs.Prelude.{◌≡◌, ◌∷◌, [], IfSome};
 ghost use Rattle.node_io.specs.Links.{HasPeer};
 
-use live_io::{HostClock, HostSpawner, UdpLink};
+use host_io::{HostClock, HostSpawner, UdpLink};
 use node_io::{Clock, Got, Link, MOST_RECEIVED, Peer, Peers, Spawner};
 use plan_base::{Bytes, Dev, Text, Texts};
 use std::alloc::Global;

@@ -6,8 +6,8 @@ ghost use Rattle.dv_routing.specs.Routing.{Routing, opening_routing, hears, rout
 ghost use Rattle.dv_routing.specs.Stands.{known_of, lane_of, Stands};
 ghost use Rattle.dv_routing.specs.Lanes.{told_cost, taken_cost, known_after, lane_after, unknown, fresh_lane, known_cost, lane_cost, lane_route, best_lane};
 
+use containers::Items;
 use plan_base::{Dev, Host, NoMemory};
-use plan_items::Items;
 use service_api::{Advert, AdvertRow, AdvertRows, Neighbours, RouteRow, RouteRows, Router};
 use std::alloc::{AllocError, Global};
 

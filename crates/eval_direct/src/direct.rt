@@ -14,6 +14,7 @@ ghost use Rattle.eval_flow.specs.Direct.{spot, IsHere, Flows, Bodies, Enters, Ad
 
 use crate::rows::{eval, row};
 use crate::sends::near;
+use containers::{Items, Shared};
 use eval_flow::{
     Binding, Flow, Here, Turn, args_back, begin, bound_back, called_back, give, inside, is_bound,
     last_back, leaf_number, number, numbers, open_code, operands_back, part_back, pause, pause_in,
@@ -21,13 +22,12 @@ use eval_flow::{
 };
 use eval_steps::{Codes, Next, StackFrame, part_or_self};
 use plan_base::{Chunk, Expr, Fun, Name, Op, Program, Value, Values};
-use plan_items::{Items, Shared};
+use plan_base_size::code_size;
 use plan_meaning::EvalStop;
-use plan_sizes::code_size;
+use plan_types_spec::place_of;
 use service_api::Services;
 use std::alloc::Global;
-use typing_rules::place_of;
-use visit_state::{State, as_bool};
+use visit_state::{EvalState, as_bool};
 
 /// Evaluates an expression, down to a depth.
 #[cycle(evaluate)]
@@ -38,7 +38,7 @@ pub fn evaluate<S: Services>(
     here: &Here<'_>,
     e: &Expr,
     depth: u64,
-    state: &mut State,
+    state: &mut EvalState,
     svc: &mut S,
 ) -> Result<Flow, EvalStop>
     requires open { IsSome (S.stands svc.old).begun }
@@ -93,7 +93,7 @@ fn other_form<S: Services>(
     here: &Here<'_>,
     e: &Expr,
     depth: u64,
-    state: &mut State,
+    state: &mut EvalState,
     svc: &mut S,
 ) -> Result<Flow, EvalStop>
     requires open { IsSome (S.stands svc.old).begun }
@@ -135,7 +135,7 @@ fn sequence<S: Services>(
     a: &Expr,
     b: &Expr,
     depth: u64,
-    state: &mut State,
+    state: &mut EvalState,
     svc: &mut S,
 ) -> Result<Flow, EvalStop>
     requires form { out-Expr e.now ≡ Expr-F.Then a.now b.now }
@@ -173,7 +173,7 @@ fn choice<S: Services>(
     a: &Expr,
     b: &Expr,
     depth: u64,
-    state: &mut State,
+    state: &mut EvalState,
     svc: &mut S,
 ) -> Result<Flow, EvalStop>
     requires form { out-Expr e.now ≡ Expr-F.If t.now a.now b.now }
@@ -215,7 +215,7 @@ fn last_part<S: Services>(
     n: usize,
     part: &Expr,
     depth: u64,
-    state: &mut State,
+    state: &mut EvalState,
     svc: &mut S,
 ) -> Result<Flow, EvalStop>
     requires open { IsSome (S.stands svc.old).begun }
@@ -247,7 +247,7 @@ fn operation<S: Services>(
     a: &Expr,
     b: &Expr,
     depth: u64,
-    state: &mut State,
+    state: &mut EvalState,
     svc: &mut S,
 ) -> Result<Flow, EvalStop>
     requires form { out-Expr e.now ≡ Expr-F.Binary op a.now b.now }
@@ -290,7 +290,7 @@ fn binding<S: Services>(
     a: &Expr,
     b: &Expr,
     depth: u64,
-    state: &mut State,
+    state: &mut EvalState,
     svc: &mut S,
 ) -> Result<Flow, EvalStop>
     requires form { (t : Ty) × (out-Expr e.now ≡ Expr-F.Let x.now t a.now b.now) }
@@ -327,7 +327,7 @@ fn under_name<S: Services>(
     v: &Value,
     b: &Expr,
     depth: u64,
-    state: &mut State,
+    state: &mut EvalState,
     svc: &mut S,
 ) -> Result<Flow, EvalStop>
     requires open { IsSome (S.stands svc.old).begun }
@@ -363,7 +363,7 @@ pub(crate) fn general<S: Services>(
     here: &Here<'_>,
     e: &Expr,
     depth: u64,
-    state: &mut State,
+    state: &mut EvalState,
     svc: &mut S,
 ) -> Result<Flow, EvalStop>
     requires open { IsSome (S.stands svc.old).begun }
@@ -395,7 +395,7 @@ pub fn proceed<S: Services>(
     e: &Expr,
     first: Next,
     depth: u64,
-    state: &mut State,
+    state: &mut EvalState,
     svc: &mut S,
 ) -> Result<Flow, EvalStop>
     requires open { IsSome (S.stands svc.old).begun }
@@ -430,7 +430,7 @@ fn advance<S: Services>(
     e: &Expr,
     now: Next,
     depth: u64,
-    state: &mut State,
+    state: &mut EvalState,
     svc: &mut S,
 ) -> Result<Turn, EvalStop>
     requires open { IsSome (S.stands svc.old).begun }
@@ -478,7 +478,7 @@ fn evaluate_part<S: Services>(
     e: &Expr,
     frame: StackFrame,
     depth: u64,
-    state: &mut State,
+    state: &mut EvalState,
     svc: &mut S,
 ) -> Result<Turn, EvalStop>
     requires open { IsSome (S.stands svc.old).begun }
@@ -516,7 +516,7 @@ pub(crate) fn enter<S: Services>(
     fun: usize,
     args: Values,
     depth: u64,
-    state: &mut State,
+    state: &mut EvalState,
     svc: &mut S,
 ) -> Result<Flow, EvalStop>
     requires open { IsSome (S.stands svc.old).begun }
@@ -556,7 +556,7 @@ fn body_flow<S: Services>(
     function: &Fun,
     args: &Values,
     depth: u64,
-    state: &mut State,
+    state: &mut EvalState,
     svc: &mut S,
 ) -> Result<Flow, EvalStop>
     requires open { IsSome (S.stands svc.old).begun }
@@ -595,7 +595,7 @@ fn visit<S: Services>(
     codes: &mut Codes,
     chunk: Chunk,
     depth: u64,
-    state: &mut State,
+    state: &mut EvalState,
     svc: &mut S,
 ) -> Result<Flow, EvalStop>
     requires open { IsSome (S.stands svc.old).begun }

@@ -13,18 +13,18 @@ ghost use Rattle.eval_steps.specs.Nexts.{begins, call_of, next_step};
 ghost use Rattle.eval_flow.specs.Direct.{spot, IsHere, Flows, Enters, Grows, Lasts, RowLasts, Rows, row_gave};
 
 use crate::direct::{enter, evaluate, general, proceed};
+use containers::Items;
 use eval_flow::{
     Flow, Here, Row, body_back, chunk_back, ended_by_value, inside, pack_chunk, pay_packed,
     stopped_in,
 };
 use eval_steps::{Codes, Next, StackFrame, begin_call, part_at};
 use plan_base::{Expr, Exprs, Name, NoMemory, Value, Values};
-use plan_items::Items;
 use plan_meaning::EvalStop;
+use plan_types_spec::place_of;
 use service_api::Services;
 use std::alloc::Global;
-use typing_rules::place_of;
-use visit_state::State;
+use visit_state::EvalState;
 
 /// Evaluates a tuple, a call or a chunk.
 #[cycle(evaluate)]
@@ -35,7 +35,7 @@ pub(crate) fn row<S: Services>(
     e: &Expr,
     es: &Exprs,
     depth: u64,
-    state: &mut State,
+    state: &mut EvalState,
     svc: &mut S,
 ) -> Result<Flow, EvalStop>
     requires form { IsRow (out-Expr e.now) }
@@ -77,7 +77,7 @@ fn all_parts<S: Services>(
     e: &Expr,
     es: &[Expr],
     depth: u64,
-    state: &mut State,
+    state: &mut EvalState,
     svc: &mut S,
 ) -> Result<Row, EvalStop>
     requires form { IsRow (out-Expr e.now) }
@@ -120,7 +120,7 @@ fn finish_row<S: Services>(
     e: &Expr,
     values: Values,
     depth: u64,
-    state: &mut State,
+    state: &mut EvalState,
     svc: &mut S,
 ) -> Result<Flow, EvalStop>
     requires open { IsSome (S.stands svc.old).begun }
@@ -154,7 +154,7 @@ fn invoke<S: Services>(
     f: &Name,
     args: Values,
     depth: u64,
-    state: &mut State,
+    state: &mut EvalState,
     svc: &mut S,
 ) -> Result<Flow, EvalStop>
     requires open { IsSome (S.stands svc.old).begun }
@@ -193,7 +193,7 @@ pub(crate) fn eval<S: Services>(
     e: &Expr,
     a: &Expr,
     depth: u64,
-    state: &mut State,
+    state: &mut EvalState,
     svc: &mut S,
 ) -> Result<Flow, EvalStop>
     requires form { out-Expr e.now ≡ Expr-F.Eval a.now }
@@ -229,7 +229,7 @@ fn eval_packing<S: Services>(
     f: &Name,
     es: &Exprs,
     depth: u64,
-    state: &mut State,
+    state: &mut EvalState,
     svc: &mut S,
 ) -> Result<Flow, EvalStop>
     requires form { out-Expr e.now ≡ Expr-F.Eval a.now }
@@ -267,7 +267,7 @@ fn eval_packed<S: Services>(
     f: &Name,
     args: Values,
     depth: u64,
-    state: &mut State,
+    state: &mut EvalState,
     svc: &mut S,
 ) -> Result<Flow, EvalStop>
     requires form { (a : Expr) × (out-Expr e.now ≡ Expr-F.Eval a) }
@@ -307,7 +307,7 @@ fn visit_here<S: Services>(
     f: &Name,
     args: Values,
     depth: u64,
-    state: &mut State,
+    state: &mut EvalState,
     svc: &mut S,
 ) -> Result<Flow, EvalStop>
     requires open { IsSome (S.stands svc.old).begun }

@@ -10,14 +10,14 @@ ghost use Rattle.eval_steps.specs.Nexts.{begins};
 ghost use Rattle.eval_flow.specs.Direct.{spot, IsHere, Flows, Grows, Lasts};
 
 use crate::direct::evaluate;
+use containers::Items;
 use eval_flow::{Flow, Here, behind_three, behind_two, inside, send_values};
 use eval_steps::{Codes, StackFrame, behind_one};
 use plan_base::{Expr, Value};
-use plan_items::Items;
 use plan_meaning::EvalStop;
 use service_api::Services;
 use std::alloc::Global;
-use visit_state::State;
+use visit_state::EvalState;
 
 /// Evaluates a send to a neighbour: first its chunk.
 #[cycle(evaluate)]
@@ -31,7 +31,7 @@ pub(crate) fn near<S: Services>(
     b: &Expr,
     d: &Expr,
     depth: u64,
-    state: &mut State,
+    state: &mut EvalState,
     svc: &mut S,
 ) -> Result<Flow, EvalStop>
     requires form { out-Expr e.now ≡ Expr-F.OnNeighbor a.now h.now b.now d.now }
@@ -67,7 +67,7 @@ fn near_host<S: Services>(
     b: &Expr,
     d: &Expr,
     depth: u64,
-    state: &mut State,
+    state: &mut EvalState,
     svc: &mut S,
 ) -> Result<Flow, EvalStop>
     requires form { (a : Expr) × (out-Expr e.now ≡ Expr-F.OnNeighbor a h.now b.now d.now) }
@@ -110,7 +110,7 @@ fn near_bound<S: Services>(
     b: &Expr,
     d: &Expr,
     depth: u64,
-    state: &mut State,
+    state: &mut EvalState,
     svc: &mut S,
 ) -> Result<Flow, EvalStop>
     requires form { (a h : Expr) × (out-Expr e.now ≡ Expr-F.OnNeighbor a h b.now d.now) }
@@ -154,7 +154,7 @@ fn near_dev<S: Services>(
     u: Value,
     d: &Expr,
     depth: u64,
-    state: &mut State,
+    state: &mut EvalState,
     svc: &mut S,
 ) -> Result<Flow, EvalStop>
     requires form { (a h b : Expr) × (out-Expr e.now ≡ Expr-F.OnNeighbor a h b d.now) }

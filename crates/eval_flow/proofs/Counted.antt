@@ -6,7 +6,7 @@ use Rattle.plan_base.specs.declared.tree.Op.TheVariants as op
 use Rattle.plan_base.specs.declared.tree.Value.{Value, Value-F, out-Value}
 use Rattle.plan_base.specs.declared.tree.Value as value
 use Rattle.plan_base.specs.Trees.{trees}
-use Rattle.typing_rules.specs.Rules.{gives, unfit, binary, computed_number}
+use Rattle.plan_types_spec.specs.Rules.{gives, unfit, binary, computed_number}
 
 out_int : (n : ℤ) → out-Value (value.Int n) ≡ Value-F.Int n
 out_int n = grind (arith, trees)

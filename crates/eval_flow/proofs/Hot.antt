@@ -1,6 +1,6 @@
 -- The forms that are evaluated by themselves on the native stack.
 use Rattle.std.proofs.Common.{◌≡◌, arith, Bool, ℕ, ◌+◌, ℤ, List, [], ◌∷◌, ◌++◌, length, length-append, drop, slice_get, zero, suc, true, false, Some, None, Result, Ok, Err, refl, sym, ◌∙◌, ap, subst}
-use Rattle.plan_items.proofs.Options.{none-some}
+use Rattle.containers.proofs.Options.{none-some}
 use Rattle.plan_base.specs.declared.name.Name.{Name}
 use Rattle.plan_base.specs.declared.tree.Op.{Op}
 use Rattle.plan_base.specs.declared.tree.Ty.{Ty}

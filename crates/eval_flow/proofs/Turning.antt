@@ -4,7 +4,7 @@ use Rattle.plan_base.specs.declared.tree.Exn.{Exn}
 use Rattle.plan_base.specs.declared.tree.Program.{Program}
 use Rattle.plan_base.specs.declared.tree.Value.{Value}
 use Rattle.plan_base.specs.declared.tree.Chunk.{Chunk}
-use Rattle.typing_rules.specs.TypingNames.{place_of}
+use Rattle.plan_types_spec.specs.TypingNames.{place_of}
 use Rattle.plan_meaning.specs.declared.stop.EvalStop.{EvalStop}
 use Rattle.plan_meaning.specs.declared.stop.EvalStop.TheVariants.{Raised, Wrong, NoMemory}
 use Rattle.plan_meaning.specs.State.{VisitState}

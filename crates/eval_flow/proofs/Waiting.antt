@@ -2,7 +2,7 @@
 use Rattle.std.proofs.Common.{◌≡◌, ℕ, List, [], ◌∷◌, ◌++◌, reverse, slice_get, Option, Some, None, IsSome, refl, sym, ◌∙◌, ap, append-nil}
 use Rattle.std.proofs.lemmas.List.{reverse-append, append_assoc}
 use Rattle.std.proofs.lemmas.Bool.{false≢true}
-use Rattle.plan_items.proofs.Options.{none-some, some-same}
+use Rattle.containers.proofs.Options.{none-some, some-same}
 use Rattle.plan_base.specs.declared.tree.Expr.{Expr}
 use Rattle.plan_base.specs.declared.tree.Fun.{Fun}
 use Rattle.plan_base.specs.declared.tree.Program.{Program}

@@ -24,7 +24,7 @@ use plan_base::{Exn, Expr, Value, Values};
 use plan_meaning::EvalStop;
 use service_api::Services;
 use std::alloc::Global;
-use visit_state::{State, Weighing, too_large};
+use visit_state::{EvalState, Weighing, too_large};
 
 /// Whether a frame binds a name.
 pub fn is_bound(frame: &StackFrame) -> bool
@@ -37,7 +37,7 @@ pub fn is_bound(frame: &StackFrame) -> bool
 }
 
 /// Ends with a value, which is weighed first.
-pub fn give(alloc: Global, v: Value, state: &mut State) -> Result<Turn, EvalStop>
+pub fn give(alloc: Global, v: Value, state: &mut EvalState) -> Result<Turn, EvalStop>
     ensures advances { (codes : List Code) (code : Code) (seen : ℕ) (at : Spot) (n : ServiceState)
         → Advances codes code seen at (weighed_value v (joined_state state.old n))
         result (joined_state state.new n) }
@@ -67,7 +67,7 @@ fn light_weight(v: &Value) -> Option<u64>
 
 /// The value of the whole, whatever it is, which is weighed first.
 #[inline(never)]
-fn ended_by_any(alloc: Global, v: Value, state: &mut State) -> Result<Flow, EvalStop>
+fn ended_by_any(alloc: Global, v: Value, state: &mut EvalState) -> Result<Flow, EvalStop>
     ensures flows { (codes : List Code) (code : Code) (seen : ℕ) (at : Spot) (n : ServiceState)
         → Flows codes code seen at (weighed_value v (joined_state state.old n))
         result (joined_state state.new n) }
@@ -87,7 +87,7 @@ fn ended_by_any(alloc: Global, v: Value, state: &mut State) -> Result<Flow, Eval
 }
 
 /// The value of the whole, which is weighed first.
-pub fn ended_by_value(alloc: Global, v: Value, state: &mut State) -> Result<Flow, EvalStop>
+pub fn ended_by_value(alloc: Global, v: Value, state: &mut EvalState) -> Result<Flow, EvalStop>
     ensures flows { (codes : List Code) (code : Code) (seen : ℕ) (at : Spot) (n : ServiceState)
         → Flows codes code seen at (weighed_value v (joined_state state.old n))
         result (joined_state state.new n) }
@@ -114,7 +114,7 @@ pub fn last_back(
     alloc: Global,
     n: usize,
     flow: Result<Flow, EvalStop>,
-    state: &mut State,
+    state: &mut EvalState,
 ) -> Result<Flow, EvalStop>
     ensures flows { (codes : List Code) (code : Code) (seen : ℕ) (at inner : Spot)
         (c : RunStep AValue) (m : ServiceState) → deeper at (frame.Last n) ≡ Some inner
@@ -136,7 +136,7 @@ pub fn bound_back(
     alloc: Global,
     v: Value,
     flow: Result<Flow, EvalStop>,
-    state: &mut State,
+    state: &mut EvalState,
 ) -> Result<Flow, EvalStop>
     ensures flows { (codes : List Code) (code : Code) (seen : ℕ) (at inner : Spot)
         (c : RunStep AValue) (m : ServiceState) → deeper at (frame.Bound v) ≡ Some inner
@@ -177,7 +177,7 @@ pub fn called_back(alloc: Global, flow: Result<Flow, EvalStop>) -> Result<Turn, 
 pub fn body_back(
     alloc: Global,
     flow: Result<Flow, EvalStop>,
-    state: &mut State,
+    state: &mut EvalState,
 ) -> Result<Flow, EvalStop>
     ensures flows { (codes : List Code) (code : Code) (seen : ℕ) (at : Spot) (c : RunStep AValue)
         (m : ServiceState) → Enters codes c flow (joined_state state.old m)
@@ -196,7 +196,7 @@ pub fn body_back(
 pub fn chunk_back(
     alloc: Global,
     flow: Result<Flow, EvalStop>,
-    state: &mut State,
+    state: &mut EvalState,
 ) -> Result<Flow, EvalStop>
     ensures flows { (codes : List Code) (code : Code) (seen : ℕ) (at : Spot) (c : RunStep AValue)
         (m : ServiceState) → Enters codes c flow (joined_state state.old m)
@@ -280,7 +280,7 @@ fn value_back<S: Services>(
     e: &Expr,
     frame: StackFrame,
     v: Value,
-    state: &mut State,
+    state: &mut EvalState,
     svc: &mut S,
 ) -> Result<Turn, EvalStop>
     requires open { IsSome (S.stands svc.old).begun }
@@ -343,7 +343,7 @@ pub fn part_back<S: Services>(
     e: &Expr,
     frame: StackFrame,
     flow: Result<Flow, EvalStop>,
-    state: &mut State,
+    state: &mut EvalState,
     svc: &mut S,
 ) -> Result<Turn, EvalStop>
     requires open { IsSome (S.stands svc.old).begun }

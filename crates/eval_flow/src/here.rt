@@ -3,9 +3,9 @@ ghost use Rattle.std.specs.Prelude.{◌≡◌};
 ghost use Rattle.std.specs.Option.{option_copied};
 ghost use Rattle.eval_flow.specs.Direct.{bound_value};
 
+use containers::Shared;
 use eval_steps::StackFrame;
 use plan_base::{Fun, Name, Program, Value};
-use plan_items::Shared;
 
 /// A name that a `let` binds.
 #[derive(Clone, Copy)]

@@ -2,7 +2,7 @@
 ghost use Rattle.std.specs.Prelude.{◌≡◌, ℕ, List, IfSome};
 ghost use Rattle.plan_base.specs.declared.tree.Program.{Program as Code};
 ghost use Rattle.plan_base.specs.declared.tree.Value as value;
-ghost use Rattle.typing_rules.specs.Rules as rules;
+ghost use Rattle.plan_types_spec.specs.Rules as rules;
 ghost use Rattle.service_api.specs.Services.{ServiceState};
 ghost use Rattle.plan_meaning.specs.State.{joined_state};
 ghost use Rattle.plan_meaning.specs.Run.{weighed_value};
@@ -12,7 +12,7 @@ ghost use Rattle.eval_flow.specs.Direct.{Flows, Lasts};
 use crate::rest::Flow;
 use plan_base::{Op, Value};
 use plan_meaning::EvalStop;
-use visit_state::State;
+use visit_state::EvalState;
 
 /// The number that an operator gives of two numbers, where it gives one.
 #[tactic(auto, using(plan_values::proofs::NumberLaws::bounded_in, plan_values::proofs::NumberLaws::quotients, plan_values::proofs::NumberLaws::remainders))]
@@ -93,7 +93,7 @@ pub fn order_given(op: Op, x: &Value, y: &Value) -> Option<bool>
 
 /// Ends with a number, once its weight is spent.
 #[tactic(auto, using(crate::proofs::Hot::weighs_nine, crate::proofs::Hot::stops_nine))]
-pub fn ended_by_number(n: i64, state: &mut State) -> Result<Flow, EvalStop>
+pub fn ended_by_number(n: i64, state: &mut EvalState) -> Result<Flow, EvalStop>
     ensures flows { (codes : List Code) (code : Code) (seen : ℕ) (at : Spot) (m : ServiceState)
         → Flows codes code seen at (weighed_value (value.Int n) (joined_state state.old m)) result
         (joined_state state.new m) }
@@ -107,7 +107,7 @@ pub fn ended_by_number(n: i64, state: &mut State) -> Result<Flow, EvalStop>
 
 /// Ends with a truth value, once its weight is spent.
 #[tactic(auto, using(crate::proofs::Hot::weighs_two, crate::proofs::Hot::stops_two))]
-pub fn ended_by_test(b: bool, state: &mut State) -> Result<Flow, EvalStop>
+pub fn ended_by_test(b: bool, state: &mut EvalState) -> Result<Flow, EvalStop>
     ensures flows { (codes : List Code) (code : Code) (seen : ℕ) (at : Spot) (m : ServiceState)
         → Flows codes code seen at (weighed_value (value.Bool b) (joined_state state.old m)) result
         (joined_state state.new m) }

@@ -17,14 +17,14 @@ use crate::here::{Here, bound_value};
 use crate::integers::{ended_by_number, number_in};
 use crate::place::argument_of;
 use crate::rest::Flow;
+use containers::{Boxed, Items, Shared};
 use eval_steps::{Kind, Next, StackFrame, begin_call, kind_of, value_from};
 use plan_base::{Chunk, Exn, Expr, Name, Program, Value, Values};
-use plan_copies::Copied;
-use plan_items::{Boxed, Items, Shared};
+use plan_base_copy::TryClone;
 use plan_meaning::EvalStop;
 use service_api::Services;
 use std::alloc::Global;
-use visit_state::State;
+use visit_state::EvalState;
 
 /// What a name stands for, lent.
 #[tactic(auto, using(crate::proofs::Backs::here_name))]
@@ -52,7 +52,7 @@ fn give_named_value(alloc: Global, here: &Here<'_>, e: &Expr, name: &Name) -> Re
 }
 
 /// Ends with a copy of a value, which is weighed first: that of a number takes no memory.
-fn ended_by_copy(alloc: Global, v: &Value, state: &mut State) -> Result<Flow, EvalStop>
+fn ended_by_copy(alloc: Global, v: &Value, state: &mut EvalState) -> Result<Flow, EvalStop>
     ensures flows { (codes : List AProgram) (code : AProgram) (seen : ℕ) (at : Spot)
         (n : ServiceState)
         → Flows codes code seen at (weighed_value v.now (joined_state state.old n))
@@ -72,7 +72,7 @@ pub fn variable(
     here: &Here<'_>,
     e: &Expr,
     name: &Name,
-    state: &mut State,
+    state: &mut EvalState,
 ) -> Result<Flow, EvalStop>
     requires form { out-Expr e.now ≡ Expr-F.Var name.now }
     requires binds { IsSome (bound here.now.function.now.params here.now.args.now) }
@@ -89,7 +89,7 @@ pub fn variable(
 }
 
 /// What a numeral gives.
-pub fn number(here: &Here<'_>, e: &Expr, n: i64, state: &mut State) -> Result<Flow, EvalStop>
+pub fn number(here: &Here<'_>, e: &Expr, n: i64, state: &mut EvalState) -> Result<Flow, EvalStop>
     requires form { out-Expr e.now ≡ Expr-F.Int n }
     ensures flows { (codes : List AProgram) (m : ServiceState) → Flows codes here.now.code.now
         here.now.fun (spot here.now e.now)
@@ -106,7 +106,7 @@ pub fn written(
     here: &Here<'_>,
     e: &Expr,
     v: Value,
-    state: &mut State,
+    state: &mut EvalState,
 ) -> Result<Flow, EvalStop>
     requires form { literal (out-Expr e.now) ≡ Some v }
     ensures flows { (codes : List AProgram) (m : ServiceState)
@@ -164,7 +164,7 @@ pub fn begin<S: Services>(
     alloc: Global,
     here: &Here<'_>,
     e: &Expr,
-    state: &mut State,
+    state: &mut EvalState,
     svc: &mut S,
 ) -> Result<Next, EvalStop>
     requires open { IsSome (S.stands svc.old).begun }

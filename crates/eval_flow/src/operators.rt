@@ -22,7 +22,7 @@ use eval_steps::behind_one;
 use plan_base::{Op, Value};
 use plan_meaning::EvalStop;
 use std::alloc::Global;
-use visit_state::{State, binary, cons};
+use visit_state::{EvalState, binary, cons};
 
 /// What an operator gives of two values, which isn't weighed yet.
 #[tactic(auto, using(eval_steps::proofs::Gathering::list_gives, eval_steps::proofs::Gathering::list_stops, eval_steps::proofs::Gathering::operator_gives, eval_steps::proofs::Gathering::operator_stops))]
@@ -50,7 +50,7 @@ fn operate_values(
     op: Op,
     x: Value,
     v: Value,
-    state: &mut State,
+    state: &mut EvalState,
 ) -> Result<Flow, EvalStop>
     ensures flows { (codes : List Program) (code : Program) (seen : ℕ) (e a b : Expr) (env : Env)
         (m : ServiceState) → out-Expr e ≡ Expr-F.Binary op a b
@@ -66,7 +66,13 @@ fn operate_values(
 }
 
 /// Both operands gave values.
-fn operate(alloc: Global, op: Op, x: Value, v: Value, state: &mut State) -> Result<Flow, EvalStop>
+fn operate(
+    alloc: Global,
+    op: Op,
+    x: Value,
+    v: Value,
+    state: &mut EvalState,
+) -> Result<Flow, EvalStop>
     ensures flows { (codes : List Program) (code : Program) (seen : ℕ) (e a b : Expr) (env : Env)
         (m : ServiceState) → out-Expr e ≡ Expr-F.Binary op a b
         → Flows codes code seen (record { expr = e; env = env })
@@ -89,7 +95,7 @@ fn operate(alloc: Global, op: Op, x: Value, v: Value, state: &mut State) -> Resu
 
 /// Spends what an expression spends that gives a number at once, or says no.
 #[tactic(auto, using(crate::proofs::Hot::number_comes))]
-fn number_paid(state: &mut State) -> bool
+fn number_paid(state: &mut EvalState) -> bool
     ensures paid { IsTrue result → (code : Program) (seen : ℕ) (at : Spot) (n : ℤ)
         (m : ServiceState) → IsNumber code seen at n
         → (meaning code seen at.env at.expr (joined_state state.old m)).after ≡ gave (value.Int n)
@@ -110,7 +116,13 @@ fn number_paid(state: &mut State) -> bool
 }
 
 /// Both operands are numbers that are at hand.
-pub fn numbers(alloc: Global, op: Op, x: i64, y: i64, state: &mut State) -> Result<Flow, EvalStop>
+pub fn numbers(
+    alloc: Global,
+    op: Op,
+    x: i64,
+    y: i64,
+    state: &mut EvalState,
+) -> Result<Flow, EvalStop>
     ensures flows { (codes : List Program) (code : Program) (seen : ℕ) (e a b : Expr) (env : Env)
         (m : ServiceState) → out-Expr e ≡ Expr-F.Binary op a b
         → IsNumber code seen (record { expr = a; env = env }) x → IsNumber code seen
@@ -135,7 +147,7 @@ pub fn operands_back(
     op: Op,
     x: Value,
     flow: Result<Flow, EvalStop>,
-    state: &mut State,
+    state: &mut EvalState,
 ) -> Result<Flow, EvalStop>
     ensures flows { (codes : List Program) (code : Program) (seen : ℕ) (e a b : Expr) (env : Env)
         (inner : Spot) (c : RunStep Value) (m : ServiceState) → out-Expr e ≡ Expr-F.Binary op a b

@@ -19,10 +19,10 @@ use crate::here::Here;
 use crate::rest::Flow;
 use eval_steps::packed;
 use plan_base::{Name, Value, Values};
+use plan_base_size::{values_nesting, values_weight};
 use plan_meaning::EvalStop;
-use plan_sizes::{values_nesting, values_weight};
 use std::alloc::Global;
-use visit_state::{State, Weighing, too_large};
+use visit_state::{EvalState, Weighing, too_large};
 
 /// What a chunk weighs as a value.
 #[tactic(auto, using(plan_base::proofs::SizeLaws::weight_out, plan_base::proofs::SizeLaws::chunk_weight_is, plan_base::specs::Trees::trees))]
@@ -55,7 +55,7 @@ pub fn pay_packed(
     here: &Here<'_>,
     entry: &Name,
     args: &[Value],
-    state: &mut State,
+    state: &mut EvalState,
 ) -> Result<(), EvalStop>
     requires size { here.now.size ≡ min (code_size here.now.code.now) 18446744073709551615 }
     ensures pays { (seen : ℕ) (e a : Expr) (env : Env) (n : ServiceState)
@@ -85,7 +85,7 @@ pub fn pack_chunk(
     here: &Here<'_>,
     entry: &Name,
     args: Values,
-    state: &mut State,
+    state: &mut EvalState,
 ) -> Result<Flow, EvalStop>
     requires size { here.now.size ≡ min (code_size here.now.code.now) 18446744073709551615 }
     ensures flows { (codes : List AProgram) (seen : ℕ) (at : Spot) (m : ServiceState)

@@ -9,9 +9,9 @@ ghost use Rattle.plan_meaning.specs.Run.{stopped};
 ghost use Rattle.plan_meaning.specs.Meaning.{entered_function, meaning};
 ghost use Rattle.eval_steps.specs.Nexts.{Enters};
 
+use containers::Shared;
 use eval_steps::Codes;
 use plan_base::{Name, NoMemory, Param, Program, Value, Values};
-use plan_items::Shared;
 
 /// What a name is bound to among parameters with their arguments: the last of that name.
 #[tactic(auto, using(crate::proofs::Naming::no_arguments))]

@@ -4,9 +4,9 @@ ghost use Rattle.eval_flow.specs.declared.rest.Flow.TheVariants as flow;
 ghost use Rattle.eval_flow.specs.declared.row.Row.TheVariants as row;
 
 use crate::row::Row;
+use containers::Items;
 use eval_steps::{Activation, Activations, StackFrame, StackFrames};
 use plan_base::{NoMemory, Value, Values};
-use plan_items::Items;
 use std::alloc::Global;
 
 /// What waits: the open expressions inside one that stopped, and the activations on top of it, each the innermost first.

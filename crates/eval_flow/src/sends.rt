@@ -11,12 +11,12 @@ ghost use Rattle.eval_flow.specs.Direct.{Flows, Lasts};
 
 use crate::back::ended_by_value;
 use crate::rest::Flow;
+use containers::Items;
 use eval_steps::{StackFrame, neighbour_sent, with_more};
 use plan_base::{NoMemory, Value, Values};
-use plan_items::Items;
 use plan_meaning::EvalStop;
 use std::alloc::Global;
-use visit_state::State;
+use visit_state::EvalState;
 
 /// A list of two values.
 #[cold]
@@ -64,7 +64,7 @@ pub fn send_values(
     w: &Value,
     u: &Value,
     v: &Value,
-    state: &mut State,
+    state: &mut EvalState,
 ) -> Result<Flow, EvalStop>
     requires safe { NeighbourIsSafe c w.now u.now v.now state.old }
     ensures flows { (codes : List Program) (code : Program) (seen : ℕ) (e a h b d : Expr)

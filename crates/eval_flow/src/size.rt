@@ -2,9 +2,9 @@
 ghost use Rattle.std.specs.Prelude.{◌≡◌, min};
 ghost use Rattle.plan_base.specs.Sizes.{code_size};
 
+use containers::Shared;
 use plan_base::Program;
-use plan_items::Shared;
-use plan_sizes::code_size;
+use plan_base_size::code_size;
 
 /// The size of a program that is open.
 #[derive(Clone, Copy)]

@@ -5,8 +5,8 @@ use Rattle.plan_base.specs.declared.prim.Primitive.{Primitive}
 use Rattle.plan_base.specs.declared.tree.Svc.{Svc}
 use Rattle.plan_base.specs.declared.tree.Program.{Program}
 use Rattle.plan_base.specs.declared.tree.Value.{Value}
-use Rattle.typing_rules.specs.TypingNames.{place_of, service_of, prim_of}
-use Rattle.typing_rules.specs.Rules.{Given, gives, primitive}
+use Rattle.plan_types_spec.specs.TypingNames.{place_of, service_of, prim_of}
+use Rattle.plan_types_spec.specs.Rules.{Given, gives, primitive}
 use Rattle.plan_meaning.specs.declared.stop.EvalStop.{EvalStop}
 use Rattle.plan_meaning.specs.declared.stop.EvalStop.TheVariants.{Raised, WorkSpent, Wrong, NoMemory}
 use Rattle.plan_meaning.specs.State.{VisitState}

@@ -14,8 +14,8 @@ use Rattle.plan_base.specs.declared.tree.Value.{Value}
 use Rattle.plan_base.specs.declared.tree.Value as value
 use Rattle.plan_base.specs.declared.tree.Chunk.{Chunk}
 use Rattle.plan_base.specs.Trees.{ExprLayer}
-use Rattle.typing_rules.specs.TypingNames.{place_of}
-use Rattle.typing_rules.specs.Rules.{Given, gives, raises, binary}
+use Rattle.plan_types_spec.specs.TypingNames.{place_of}
+use Rattle.plan_types_spec.specs.Rules.{Given, gives, raises, binary}
 use Rattle.plan_meaning.specs.declared.stop.EvalStop.TheVariants.{Raised, Wrong}
 use Rattle.plan_meaning.specs.State.{VisitState}
 use Rattle.plan_meaning.specs.Run.{Run, gave, stopped, quiet, ◌>>=◌, ◌>>◌, pure, or_wrong, given_value, weighed_value}

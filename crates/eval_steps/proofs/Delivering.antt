@@ -1,6 +1,6 @@
 -- A value given to an open expression, and functions and chunks that are entered.
 use Rattle.std.proofs.Common.{◌≡◌, ◌+◌, map, arith, Bool, true, false, if◌then◌else◌, ℕ, suc, List, [], ◌∷◌, slice_get, Option, Some, None, refl, sym, ◌∙◌, ap}
-use Rattle.plan_items.proofs.Options.{none-some, some-same}
+use Rattle.containers.proofs.Options.{none-some, some-same}
 use Rattle.plan_base.specs.declared.tree.Expr.{Expr, Expr-F, out-Expr}
 use Rattle.plan_base.specs.declared.tree.Clause.{Clause}
 use Rattle.plan_base.specs.declared.tree.Fun.{Fun}
@@ -10,7 +10,7 @@ use Rattle.plan_base.specs.declared.tree.Value.{Value}
 use Rattle.plan_base.specs.declared.tree.Value as value
 use Rattle.plan_base.specs.declared.tree.Chunk.{Chunk}
 use Rattle.plan_base.specs.Trees.{ExprLayer}
-use Rattle.typing_rules.specs.TypingNames.{place_of}
+use Rattle.plan_types_spec.specs.TypingNames.{place_of}
 use Rattle.plan_meaning.specs.declared.stop.EvalStop.TheVariants.{Raised}
 use Rattle.plan_meaning.specs.State.{VisitState}
 use Rattle.plan_meaning.specs.Run.{Run, gave, stopped, quiet, raise, weighed_value, ◌>>=◌}

@@ -10,8 +10,8 @@ use Rattle.plan_base.specs.declared.tree.Expr.{Expr, Expr-F, out-Expr}
 use Rattle.plan_base.specs.declared.tree.Program.{Program}
 use Rattle.plan_base.specs.declared.tree.Value.{Value, out-Value}
 use Rattle.plan_base.specs.Sizes.{weight}
-use Rattle.typing_rules.specs.TypingNames.{place_of}
-use Rattle.typing_rules.specs.Rules.{Given, gives, raises, too_large, limited_value, put_first, binary, part}
+use Rattle.plan_types_spec.specs.TypingNames.{place_of}
+use Rattle.plan_types_spec.specs.Rules.{Given, gives, raises, too_large, limited_value, put_first, binary, part}
 use Rattle.plan_meaning.specs.declared.stop.EvalStop.{EvalStop}
 use Rattle.plan_meaning.specs.declared.stop.EvalStop.TheVariants.{Raised, WorkSpent, Wrong, NoMemory}
 use Rattle.plan_meaning.specs.State.{VisitState}

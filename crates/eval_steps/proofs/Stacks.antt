@@ -1,6 +1,6 @@
 -- Stacks: a step inside leads on outside, and frames and activations that come on top.
 use Rattle.std.proofs.Common.{◌≡◌, ℕ, List, [], ◌∷◌, ◌++◌, slice_get, Option, Some, None, refl, ap}
-use Rattle.plan_items.proofs.Options.{none-some, some-same}
+use Rattle.containers.proofs.Options.{none-some, some-same}
 use Rattle.plan_base.specs.declared.tree.Expr.{Expr, Expr-F, out-Expr}
 use Rattle.plan_base.specs.declared.tree.Program.{Program}
 use Rattle.plan_base.specs.declared.tree.Value.{Value}

@@ -10,7 +10,7 @@ use Rattle.plan_base.specs.declared.tree.Program.{Program}
 use Rattle.plan_base.specs.declared.tree.Value.{Value}
 use Rattle.plan_base.specs.declared.tree.Value as value
 use Rattle.plan_base.specs.Trees.{ExprLayer}
-use Rattle.typing_rules.specs.Rules.{binary, part}
+use Rattle.plan_types_spec.specs.Rules.{binary, part}
 use Rattle.plan_meaning.specs.declared.stop.EvalStop.TheVariants.{Raised}
 use Rattle.plan_meaning.specs.State.{VisitState}
 use Rattle.plan_meaning.specs.Run.{Run, RunStep, gave, stopped, ◌>>=◌, ◌>>◌, and_then, rescued_step, quiet, pure, wrong, or_wrong, given_value, weighed_value}

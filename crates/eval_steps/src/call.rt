@@ -2,7 +2,7 @@
 ghost use Rattle.std.specs.Prelude.{◌≡◌, ◌≤◌, ℕ, Some, None, IsSome};
 ghost use Rattle.plan_base.specs.declared.name.Name.{Name as CalledName};
 ghost use Rattle.plan_base.specs.declared.tree.Program.{Program as Code};
-ghost use Rattle.typing_rules.specs.TypingNames.{prim_of, service_of};
+ghost use Rattle.plan_types_spec.specs.TypingNames.{prim_of, service_of};
 ghost use Rattle.plan_meaning.specs.State.{VisitState, joined_state};
 ghost use Rattle.plan_meaning.specs.Run.{serve};
 ghost use Rattle.plan_meaning.specs.Safe.{IsSafe};
@@ -10,13 +10,13 @@ ghost use Rattle.eval_steps.specs.Stack.{Spot};
 ghost use Rattle.eval_steps.specs.Nexts.{Decides, call_of};
 
 use crate::next::Next;
+use containers::Shared;
 use plan_base::{Name, Primitive, Program, Svc, Values};
-use plan_items::Shared;
 use plan_meaning::EvalStop;
+use plan_types_spec::{prim_of, service_of};
 use service_api::Services;
 use std::alloc::Global;
-use typing_rules::{prim_of, service_of};
-use visit_state::{State, ask_service, place_among, primitive};
+use visit_state::{EvalState, ask_service, place_among, primitive};
 
 /// What a call of a primitive gives.
 #[tactic(auto, using(crate::proofs::Calling::prim_gives, crate::proofs::Calling::prim_stops))]
@@ -36,7 +36,7 @@ fn service_call<S: Services>(
     alloc: Global,
     service: &Svc,
     args: Values,
-    state: &mut State,
+    state: &mut EvalState,
     svc: &mut S,
 ) -> Result<Next, EvalStop>
     requires open { IsSome (S.stands svc.old).begun }
@@ -82,7 +82,7 @@ pub fn begin_call<S: Services>(
     seen: usize,
     f: &Name,
     args: Values,
-    state: &mut State,
+    state: &mut EvalState,
     svc: &mut S,
 ) -> Result<Next, EvalStop>
     requires open { IsSome (S.stands svc.old).begun }

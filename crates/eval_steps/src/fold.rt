@@ -10,8 +10,8 @@ ghost use Rattle.eval_steps.specs.Nexts.{Decides, Continues, FoldsOn, fold_on};
 
 use crate::next::Next;
 use crate::operand::{alone, behind_one, first_of, with_more};
+use containers::{Items, Shared};
 use plan_base::{Expr, Name, NoMemory, Program, Value, Values};
-use plan_items::{Items, Shared};
 use plan_meaning::EvalStop;
 use std::alloc::Global;
 use visit_state::place_among;

@@ -10,12 +10,12 @@ ghost use Rattle.eval_steps.specs.Nexts.{Continues, call_of};
 use crate::call::begin_call;
 use crate::next::Next;
 use crate::stack_frame::StackFrame;
+use containers::{Boxed, Shared};
 use plan_base::{Chunk, Expr, Exprs, Name, NoMemory, Program, Value, Values};
-use plan_items::{Boxed, Shared};
 use plan_meaning::EvalStop;
 use service_api::Services;
 use std::alloc::Global;
-use visit_state::State;
+use visit_state::EvalState;
 
 /// The number of the part behind that of number `n`, where there is one.
 fn part_behind(es: &[Expr], n: usize) -> Option<usize>
@@ -99,7 +99,7 @@ pub fn call_part<S: Services>(
     n: usize,
     held: Values,
     v: Value,
-    state: &mut State,
+    state: &mut EvalState,
     svc: &mut S,
 ) -> Result<Next, EvalStop>
     requires open { IsSome (S.stands svc.old).begun }

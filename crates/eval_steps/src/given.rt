@@ -14,12 +14,12 @@ use crate::operand::{operand, select_part};
 use crate::pure::{both, choose, either, turn};
 use crate::send::{begin_eval, neighbour_part, remote_part};
 use crate::stack_frame::StackFrame;
+use containers::Shared;
 use plan_base::{Expr, Program, Value, Values};
-use plan_items::Shared;
 use plan_meaning::EvalStop;
 use service_api::Services;
 use std::alloc::Global;
-use visit_state::State;
+use visit_state::EvalState;
 
 /// What an expression does when its part of number `n` has given a value, behind those that gave `held`.
 #[tactic(auto, using(plan_base::specs::Trees::trees, crate::proofs::Deciding::bound, crate::proofs::Deciding::then_is_followed, crate::proofs::Giving::leaf_given))]
@@ -31,7 +31,7 @@ fn after_part<S: Services>(
     n: usize,
     held: Values,
     v: Value,
-    state: &mut State,
+    state: &mut EvalState,
     svc: &mut S,
 ) -> Result<Next, EvalStop>
     requires open { IsSome (S.stands svc.old).begun }
@@ -81,7 +81,7 @@ pub fn frame_given<S: Services>(
     e: &Expr,
     frame: StackFrame,
     v: Value,
-    state: &mut State,
+    state: &mut EvalState,
     svc: &mut S,
 ) -> Result<Next, EvalStop>
     requires open { IsSome (S.stands svc.old).begun }

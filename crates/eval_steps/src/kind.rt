@@ -4,9 +4,9 @@ ghost use Rattle.plan_base.specs.declared.tree.Value as value;
 ghost use Rattle.plan_base.specs.declared.tree.Expr.{Expr-F, out-Expr};
 ghost use Rattle.eval_steps.specs.Forms.{IsKind};
 
+use containers::{Boxed, Items};
 use plan_base::{Expr, Exprs, Name, NoMemory, Ty, Value};
-use plan_copies::Copied;
-use plan_items::{Boxed, Items};
+use plan_base_copy::TryClone;
 use std::alloc::Global;
 
 /// The empty list of this type of items.

@@ -10,8 +10,8 @@ ghost use Rattle.eval_steps.specs.Nexts.{Continues};
 
 use crate::next::Next;
 use crate::stack_frame::StackFrame;
+use containers::Items;
 use plan_base::{NoMemory, Op, Value, Values};
-use plan_items::Items;
 use plan_meaning::EvalStop;
 use std::alloc::Global;
 use visit_state::{binary, cons, part};

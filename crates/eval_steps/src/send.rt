@@ -22,7 +22,7 @@ use crate::stack_frame::StackFrame;
 use plan_base::{Chunk, Host, Name, NoMemory, Value, Values};
 use plan_meaning::EvalStop;
 use std::alloc::Global;
-use visit_state::{State, as_chunk, as_dev, as_host, as_int};
+use visit_state::{EvalState, as_chunk, as_dev, as_host, as_int};
 
 /// The chunk that a value is.
 #[tactic(auto, unfolding(plan_meaning::specs::Meaning::as_chunk), using(plan_base::specs::Trees::trees))]
@@ -41,7 +41,7 @@ fn chunk_of(v: Value) -> Option<Chunk>
 /// An eval, which is paid before its chunk runs.
 #[tactic(auto, using(crate::proofs::Deciding::chunk_paid, crate::proofs::Sending::chunk_unpaid, crate::proofs::Sending::no_chunk))]
 #[inline(never)]
-pub fn begin_eval(alloc: Global, v: Value, state: &mut State) -> Result<Next, EvalStop>
+pub fn begin_eval(alloc: Global, v: Value, state: &mut EvalState) -> Result<Next, EvalStop>
     ensures decides { (code : Program) (seen : ℕ) (a : Expr) (n : ℕ)
         (held : List Value) (s : ServiceState)
         → Continues code seen (Expr-F.Eval a) n held v
@@ -105,7 +105,7 @@ fn send_remote(
     c: Value,
     w: &Value,
     v: &Value,
-    state: &mut State,
+    state: &mut EvalState,
 ) -> Result<Next, EvalStop>
     requires safe { RemoteIsSafe r.now c w.now v.now state.old }
     ensures decides { (code : Program) (seen : ℕ) (a h b : Expr) (n : ℕ)
@@ -135,7 +135,7 @@ pub fn remote_part(
     r: &Name,
     held: Values,
     v: Value,
-    state: &mut State,
+    state: &mut EvalState,
 ) -> Result<Next, EvalStop>
     requires safe { (c w : Value) (more : List Value) → held ≡ c ∷ w ∷ more
         → RemoteIsSafe r.now c w v state.old }
@@ -180,7 +180,7 @@ fn send_near(
     host: Host,
     u: &Value,
     v: &Value,
-    state: &mut State,
+    state: &mut EvalState,
 ) -> Result<Next, EvalStop>
     requires safe { NearIsSafe chunk host u.now v.now state.old }
     ensures decides { (code : Program) (seen : ℕ) (at : Spot) (s : ServiceState) →
@@ -208,7 +208,7 @@ fn send_neighbour(
     w: &Value,
     u: &Value,
     v: &Value,
-    state: &mut State,
+    state: &mut EvalState,
 ) -> Result<Next, EvalStop>
     requires safe { NeighbourIsSafe c w.now u.now v.now state.old }
     ensures decides { (code : Program) (seen : ℕ) (a h b d : Expr) (n : ℕ)
@@ -234,7 +234,7 @@ pub fn neighbour_sent(
     w: &Value,
     u: &Value,
     v: &Value,
-    state: &mut State,
+    state: &mut EvalState,
 ) -> Result<(), EvalStop>
     requires safe { NeighbourIsSafe c w.now u.now v.now state.old }
     ensures sends { (code : Program) (seen : ℕ) (e a h b d : Expr) (env : Env) (n : ℕ)
@@ -261,7 +261,7 @@ pub fn neighbour_part(
     alloc: Global,
     held: Values,
     v: Value,
-    state: &mut State,
+    state: &mut EvalState,
 ) -> Result<Next, EvalStop>
     requires safe { (c w u : Value) (more : List Value) → held ≡ c ∷ w ∷ u ∷ more
         → NeighbourIsSafe c w u v state.old }

@@ -1,6 +1,6 @@
 //! The stack of a visit.
+use containers::{Items, Shared};
 use plan_base::{Program, Value, Values};
-use plan_items::{Items, Shared};
 
 /// An open expression: what of it is being evaluated, and the values that wait.
 #[derive(Drop)]

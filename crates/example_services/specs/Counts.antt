@@ -1,6 +1,6 @@
 -- What the services hold, and what they stand for.
 use Rattle.std.specs.Prelude.{ℤ, pos, ◌≤ℤ◌, false, [], Option, Some, None}
-use Rattle.table_rows.specs.Rows.{last_key}
+use Rattle.service_api.specs.Rows.{last_key}
 use Rattle.service_api.specs.Services.{Rows, ServiceState}
 use Rattle.example_services.specs.declared.services.Counts.{Counts}
 use Rattle.example_services.specs.Serving.{offer}

@@ -12,13 +12,13 @@ use Rattle.plan_base.specs.declared.tree.Value.TheVariants as value
 use Rattle.plan_base.specs.WellFormed.{well_formed_text}
 use Rattle.plan_base.proofs.SizeLaws.{weight_out, nesting_out, value_depth_out}
 use Rattle.plan_base.proofs.FormLaws.{formed_value_out}
-use Rattle.typing_rules.specs.Typing.{str}
+use Rattle.plan_types_spec.specs.Typing.{str}
 use Rattle.service_api.specs.declared.answer.Note.TheVariants.{Print}
 use Rattle.service_api.specs.Schemes.{instance, is_instance_of}
 use Rattle.service_api.specs.Services.{Rows, IsGoodServe, IsGoodServed, IsGoodValue, AreGoodValues, AreGoodRows, IsGoodNote, RefusesOthers, refused_call}
 use Rattle.service_api.proofs.InstanceLaws.{found_is}
-use Rattle.service_meaning.proofs.Leaves.{Sized, good_sized, good_int}
-use Rattle.service_meaning.proofs.Tables.{key_good}
+use Rattle.service_registry_spec.proofs.Leaves.{Sized, good_sized, good_int}
+use Rattle.service_registry_spec.proofs.Tables.{key_good}
 use Rattle.example_services.specs.declared.services.Counts.{Counts}
 use Rattle.example_services.specs.declared.service.ExampleService.{ExampleService}
 use Rattle.example_services.specs.declared.service.ExampleService.TheVariants.{Count, Greet}

@@ -2,7 +2,7 @@
 use Rattle.std.specs.Prelude.{ℕ, ℤ, List, [], ◌∷◌, codes, Option, Some, None}
 use Rattle.plan_base.specs.declared.tree.Value.{Value}
 use Rattle.plan_base.specs.declared.tree.Value.TheVariants as value
-use Rattle.table_rows.specs.Rows.{key_after}
+use Rattle.service_api.specs.Rows.{key_after}
 use Rattle.service_api.specs.declared.answer.Note.TheVariants.{Print}
 use Rattle.service_api.specs.declared.answer.Answer.TheVariants.{Gives}
 use Rattle.service_api.specs.Services.{Rows, Served, Serve, Offer, refused_call}

@@ -1,5 +1,5 @@
 ghost use Rattle.std.specs.Prelude.{IfOk, ◌≡◌};
-ghost use Rattle.typing_rules.specs.Rules as rules;
+ghost use Rattle.plan_types_spec.specs.Rules as rules;
 ghost use Rattle.service_api.specs.declared.answer.Answer.TheVariants as answer;
 ghost use Rattle.example_services.specs.Serving as spec;
 

@@ -1,5 +1,5 @@
-use chunk_types::ChunkFault;
 use plan_base::NoMemory;
+use plan_types_chunks::ChunkFault;
 use program_text::TextFault;
 
 /// Why a text gives no packet.

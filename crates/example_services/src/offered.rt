@@ -2,8 +2,8 @@ ghost use Rattle.std.specs.Prelude.{◌≡◌, IfOk};
 ghost use Rattle.example_services.specs.Offered as spec;
 
 use crate::service::ExampleService;
+use containers::Items;
 use plan_base::{Name, NoMemory, Svc, Ty};
-use plan_items::Items;
 use service_api::{Scheme, SchemeTy, SchemeTys, instance};
 use std::alloc::Global;
 

@@ -1,15 +1,15 @@
 //! The packet of a program's text.
 ghost use Rattle.std.specs.Prelude.{◌≡◌, ◌≤◌, length, IfOk, MatchResult, Ok};
 ghost use Rattle.plan_base.specs.declared.tree.Program.{Program};
-ghost use Rattle.typing_rules.specs.Typing.{IsTypedChunk};
+ghost use Rattle.plan_types_spec.specs.Typing.{IsTypedChunk};
 ghost use Rattle.program_text.specs.Texts.{program_of};
 ghost use Rattle.example_services.specs.Packets.{chunk_with, first_packet, IsPacketOf};
 
 use crate::fault::PacketFault;
 use checked_chunks::{Checked, CheckedChunk, CheckedPacket};
-use chunk_types::{ChunkFault, chunk_of};
+use containers::Items;
 use plan_base::{Family, Host, Name};
-use plan_items::Items;
+use plan_types_chunks::{ChunkFault, chunk_of};
 use program_text::{TextFault, read_program};
 use remote_calls::default_route;
 use std::alloc::Global;

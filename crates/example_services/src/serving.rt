@@ -8,7 +8,7 @@ use crate::answers::{hello, no_such_service};
 use crate::offered::service_of_call;
 use crate::service::ExampleService;
 use plan_base::{NoMemory, Svc, Value};
-use plan_copies::Copied;
+use plan_base_copy::TryClone;
 use service_api::{Answer, Note};
 use std::alloc::Global;
 

@@ -6,7 +6,7 @@ use Rattle.std.proofs.Math.Dec.{eqb-suc-zero}
 use Rattle.std.proofs.lemmas.Bool.{eq-eqb}
 use Rattle.std.specs.Result.{is_err}
 use Rattle.plan_base.specs.declared.ids.Host.{Host}
-use Rattle.network_plan.specs.declared.fleet.Kid.{Kid}
+use Rattle.network_config.specs.declared.fleet.Kid.{Kid}
 use Rattle.node_io.specs.Spawners.{Words, SpawnerState}
 use Rattle.node_io.specs.declared.spawner.Child.{Child}
 use Rattle.fleet_run.specs.Children.{AreStarted}

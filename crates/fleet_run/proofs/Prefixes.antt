@@ -1,7 +1,7 @@
 -- The lines of the first statuses are a prefix of those of all.
 use Rattle.std.proofs.Common.{◌≡◌, ℕ, zero, suc, List, [], ◌∷◌, ◌++◌, length, take, drop, IsTrue, Result, Ok, Err, refl, sym, ◌∙◌, ap, subst, append_assoc}
-use Rattle.network_plan.specs.declared.fleet.Kid.{Kid}
-use Rattle.node_io.specs.Sinks.{SinkState, Writes, WritesPrefix, FailsIn}
+use Rattle.network_config.specs.declared.fleet.Kid.{Kid}
+use Rattle.node_io.specs.Sinks.{SinkState, WritesPrefix}
 use Rattle.node_io.specs.Spawners.{SpawnerState}
 use Rattle.node_io.proofs.SinkLaws.{prefix_none, prefix_as, prefix_all, prefix_longer}
 use Rattle.fleet_run.specs.Fleets.{kid_line, fleet_text}

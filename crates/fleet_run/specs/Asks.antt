@@ -3,8 +3,8 @@ use Rattle.std.specs.Prelude.{ℕ, IsTrue, ◌≡◌, ◌⊎◌, ◌≤◌, List
 use Rattle.std.specs.Fmt.{decimal}
 use Rattle.std.specs.String.{string_bytes}
 use lib.Chars.{codes}
-use Rattle.network_plan.specs.declared.fleet.AskFile.{AskFile}
-use Rattle.network_plan.specs.Hosts.{dev_of}
+use Rattle.network_config.specs.declared.fleet.AskFile.{AskFile}
+use Rattle.network_config.specs.Hosts.{dev_of}
 use Rattle.packet_frame.specs.declared.frame.PlainFrame.{PlainFrame}
 use Rattle.packet_frame.specs.Bytes.{frame_bytes}
 use Rattle.node_io.specs.declared.link.Peer.{Peer}

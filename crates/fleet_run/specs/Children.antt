@@ -1,6 +1,6 @@
 -- Children that were started and are waited for.
 use Rattle.std.specs.Prelude.{ℕ, ◌≡◌, ◌+◌, ◌≤◌, List, [], ◌∷◌, ◌++◌, length}
-use Rattle.network_plan.specs.declared.fleet.Kid.{Kid}
+use Rattle.network_config.specs.declared.fleet.Kid.{Kid}
 use Rattle.node_io.specs.declared.spawner.Child.{Child}
 use Rattle.node_io.specs.Spawners.{IsFresh}
 

@@ -3,8 +3,8 @@ use Rattle.std.specs.Prelude.{ℕ, ◌==◌, if◌then◌else◌, List, [], ◌�
 use Rattle.std.specs.Fmt.{decimal}
 use lib.Chars.{codes}
 use Rattle.plan_base.specs.declared.ids.Host.{Host}
-use Rattle.network_plan.specs.declared.fleet.Kid.{Kid}
-use Rattle.network_plan.specs.declared.fleet.Kid.TheVariants.{Node, Ask}
+use Rattle.network_config.specs.declared.fleet.Kid.{Kid}
+use Rattle.network_config.specs.declared.fleet.Kid.TheVariants.{Node, Ask}
 use Rattle.node_io.specs.Spawners.{Words}
 use Rattle.fleet_run.specs.declared.reports.FleetEnd.{FleetEnd}
 use Rattle.fleet_run.specs.declared.reports.FleetEnd.TheVariants.{Well, Failed}

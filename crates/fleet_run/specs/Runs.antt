@@ -1,6 +1,6 @@
 -- What stands after a fleet's run, and after each part of it.
 use Rattle.std.specs.Prelude.{ℕ, IsTrue, List, ◌≡◌, ◌++◌, ◌⊎◌, ◌≤◌, length, take, drop, Result, Ok, Err}
-use Rattle.network_plan.specs.declared.fleet.Kid.{Kid}
+use Rattle.network_config.specs.declared.fleet.Kid.{Kid}
 use Rattle.node_io.specs.Causes.{HasRisen, one_more}
 use Rattle.node_io.specs.Sinks.{SinkState, Writes, FailsIn}
 use Rattle.node_io.specs.Spawners.{Words, SpawnerState, KeepsStatuses}

@@ -1,16 +1,16 @@
 ghost use Rattle.std.specs.Prelude.{◌≡◌, IfOk};
 ghost use Rattle.std.specs.String.{string_bytes};
-ghost use Rattle.network_plan.specs.Hosts.{dev_of};
-ghost use Rattle.network_plan.specs.NodeRules.{KeepsAsk};
+ghost use Rattle.network_config.specs.Hosts.{dev_of};
+ghost use Rattle.network_config.specs.NodeRules.{KeepsAsk};
 ghost use Rattle.node_io.specs.Links.{HasPeer};
 ghost use Rattle.fleet_run.specs.Asks.{ask_peers, asked_line, IsPrepared, SendsOne, Asks};
 
 use crate::fault::AskFault;
-use network_plan::AskFile;
+use containers::Items;
+use network_config::AskFile;
 use node_io::{Failed, Link, Peer, Peers, Sink, put_all};
 use packet_frame::put_ask;
 use plan_base::{Bytes, Dev, NoMemory};
-use plan_items::Items;
 use std::alloc::Global;
 
 // The peer of a request.

@@ -6,10 +6,10 @@ use crate::fault::FleetFault;
 use crate::reports::{FleetEnd, end_of, report_all};
 use crate::starts::{start_all, wait_all};
 use crate::words::starts_of;
-use network_plan::{Fleet, Kid};
+use containers::Items;
+use network_config::{Fleet, Kid};
 use node_io::{Child, Sink, Spawner};
 use plan_base::{NoMemory, Texts};
-use plan_items::Items;
 use std::alloc::Global;
 
 // What a fleet needs before its first start: the words of the starts, and room for its children and their statuses.

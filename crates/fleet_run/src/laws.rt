@@ -1,6 +1,6 @@
 //! What follows from the record of a fleet's run, where the spawner is observable.
 ghost use Rattle.std.specs.Prelude.{◌≡◌, List, ℕ, Result, Ok, IsTrue, drop};
-ghost use Rattle.network_plan.specs.declared.fleet.Kid.{Kid};
+ghost use Rattle.network_config.specs.declared.fleet.Kid.{Kid};
 ghost use Rattle.node_io.specs.Sinks.{SinkState, WritesPrefix};
 ghost use Rattle.node_io.specs.Spawners.{SpawnerState};
 ghost use Rattle.fleet_run.specs.Fleets.{fleet_text, fleet_end};

@@ -5,7 +5,7 @@ ghost use Rattle.fleet_run.specs.Runs.{ReportsEach};
 
 use crate::fault::FleetFault;
 use crate::words::{kid_host, kid_line};
-use network_plan::Kid;
+use network_config::Kid;
 use node_io::{Child, Sink, Spawner, put_all};
 use plan_base::Host;
 use std::alloc::Global;

@@ -4,9 +4,9 @@ ghost use Rattle.std.specs.String.{string_bytes};
 ghost use Rattle.fleet_run.specs.Fleets as spec;
 ghost use Rattle.fleet_run.specs.Fleets.{fleet_starts};
 
-use network_plan::Kid;
+use containers::Items;
+use network_config::Kid;
 use plan_base::{Host, NoMemory, Text, Texts};
-use plan_items::Items;
 use std::alloc::{AllocError, Global};
 
 fn add_word(alloc: Global, words: &mut Texts, word: &[u8]) -> Result<(), AllocError>

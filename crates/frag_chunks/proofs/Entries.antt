@@ -6,8 +6,8 @@ use Rattle.std.specs.Ordering.{int_eq}
 use Rattle.std.proofs.lemmas.Bool.Decides.{nat_tests}
 use Rattle.frag_chunks.specs.declared.gather.Added.{Added}
 use Rattle.frag_chunks.specs.declared.gather.Added.TheVariants as added
-use Rattle.frag_chunks.specs.declared.holding.Holding.{Holding}
-use Rattle.frag_chunks.specs.declared.holding.Holding.TheVariants as holding
+use Rattle.frag_chunks.specs.declared.holding.PartialMessage.{PartialMessage}
+use Rattle.frag_chunks.specs.declared.holding.PartialMessage.TheVariants as holding
 use Rattle.frag_chunks.specs.declared.holding.Entry.{Entry}
 use Rattle.frag_chunks.specs.Places.{position}
 use Rattle.frag_chunks.specs.Gathers.{Said, is_part, judged_part, judged_among, judged_all, with_part, holding_after, holding_of, with_holding, after}
@@ -26,7 +26,7 @@ holding_at_place k (x ∷ es) i d e = by (int_eq x.key k) refl (λ j. holding_at
         let n = none_placed (position k es) i s in
         ap (λ t. if t then Some x.holding else holding_of k es) q ∙ r n.0 n.1 ∙ ap (λ n. Some (get_or (x ∷ es) n d).holding) (sym n.2)
 
-written_at_place : (k : ℤ) (h : Holding) (es : List Entry) (i : ℕ) (d : Entry) → position k es ≡ Some i → slice_set es i (record { key = (get_or es i d).key; holding = h }) ≡ with_holding k h es
+written_at_place : (k : ℤ) (h : PartialMessage) (es : List Entry) (i : ℕ) (d : Entry) → position k es ≡ Some i → slice_set es i (record { key = (get_or es i d).key; holding = h }) ≡ with_holding k h es
 written_at_place k h [] i d e = absurd cc
 written_at_place k h (x ∷ es) i d e = by (int_eq x.key k) refl (λ j. written_at_place k h es j d) e
   where
@@ -49,7 +49,7 @@ unplaced_has_none k (x ∷ es) e = by (int_eq x.key k) refl (unplaced_has_none k
         no None e = refl
         no (Some j) e = absurd cc
 
-unwritten : (k : ℤ) (h : Holding) (es : List Entry) → holding_of k es ≡ None → es ++ record { key = k; holding = h } ∷ [] ≡ with_holding k h es
+unwritten : (k : ℤ) (h : PartialMessage) (es : List Entry) → holding_of k es ≡ None → es ++ record { key = k; holding = h } ∷ [] ≡ with_holding k h es
 unwritten k h [] e = refl
 unwritten k h (x ∷ es) e = by (int_eq x.key k) refl (unwritten k h es) e
   where
@@ -101,7 +101,7 @@ new_answer g = by (is_part g.index g.count (length g.piece))
     by true = inl refl
     by false = inr refl
 
-pub after_new : (a : Added) (h : Holding) (g : Said) (es : List Entry) → holding_of g.key es ≡ None → a ≡ judged_part None g → h ≡ holding_after a None g holding.Spoiled
+pub after_new : (a : Added) (h : PartialMessage) (g : Said) (es : List Entry) → holding_of g.key es ≡ None → a ≡ judged_part None g → h ≡ holding_after a None g holding.Spoiled
     → es ++ record { key = g.key; holding = h } ∷ [] ≡ after a g es
 unfolding holding_after
 after_new a h g es e s t = by (new_answer g) s t

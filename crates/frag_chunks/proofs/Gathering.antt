@@ -7,11 +7,11 @@ use Rattle.std.proofs.lemmas.Bool.Decides.{nat_tests}
 use Rattle.service_api.specs.declared.answer.Note.{Note}
 use Rattle.frag_chunks.specs.declared.gather.Added.{Added}
 use Rattle.frag_chunks.specs.declared.gather.Added.TheVariants as added
-use Rattle.frag_chunks.specs.declared.holding.Holding.{Holding}
-use Rattle.frag_chunks.specs.declared.holding.Holding.TheVariants as holding
+use Rattle.frag_chunks.specs.declared.holding.PartialMessage.{PartialMessage}
+use Rattle.frag_chunks.specs.declared.holding.PartialMessage.TheVariants as holding
 use Rattle.frag_chunks.specs.declared.holding.Entry.{Entry}
 use Rattle.frag_chunks.specs.Parts.{IsMessage, parts_in, piece_of}
-use Rattle.frag_chunks.specs.Gathers.{Said, said_in, is_part, place_of, judged_piece, judged_in, judged_part, at_place, with_part, holding_of, with_holding, judged_among, judged_all, after, added_or, added_note, gathered_entries}
+use Rattle.frag_chunks.specs.Gathers.{Said, said_in, place_of, judged_piece, judged_in, judged_part, at_place, with_part, holding_of, judged_among, judged_all, after, added_or, added_note, gathered_entries}
 use Rattle.frag_chunks.specs.Messages.{said_of, IsPartOf, OnlyParts, gives, was_given}
 use Rattle.frag_chunks.proofs.Pieces.{slots_from, slots_length, slots_same, slots_get, slots_set, slots_none, is_right}
 use Rattle.frag_chunks.proofs.Keys.{key_self, key_is, own_holding, other_holding, no_fewer}
@@ -35,7 +35,7 @@ after_no_fewer g es added.Full = omega arith
 -- ---- a part of the key's message
 
 -- the places where f says which parts came
-abbrev pub Came : (ℕ → Bool) → List ℕ → Option Holding
+abbrev pub Came : (ℕ → Bool) → List ℕ → Option PartialMessage
 Came f b = Some (holding.Open (slots_from f b 0 (parts_in (length b))))
 
 -- f, with one more

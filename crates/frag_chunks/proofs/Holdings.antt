@@ -3,7 +3,7 @@ use Rattle.std.proofs.Common.{◌≡◌, ◌≢◌, ℕ, suc, ◌+◌, ◌≤◌
 use Rattle.std.specs.Prelude.{ℤ}
 use Rattle.std.specs.List.{list_all}
 use Rattle.frag_chunks.specs.declared.gather.Held.TheVariants as held
-use Rattle.frag_chunks.specs.declared.holding.Holding.TheVariants as holding
+use Rattle.frag_chunks.specs.declared.holding.PartialMessage.TheVariants as holding
 use Rattle.frag_chunks.specs.Gathers.{filled_parts, joined_pieces, held_of}
 
 pub filled_few : (xs : List (Option (List ℕ))) → filled_parts xs ≤ length xs

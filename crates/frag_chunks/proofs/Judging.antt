@@ -6,9 +6,9 @@ use Rattle.std.proofs.lemmas.Slice.Eq.{bytes_eq-Decides}
 use Rattle.std.proofs.lemmas.Bool.Decides.{nat_tests}
 use Rattle.frag_chunks.specs.declared.gather.Added.{Added}
 use Rattle.frag_chunks.specs.declared.gather.Added.TheVariants as added
-use Rattle.frag_chunks.specs.declared.holding.Holding.{Holding}
-use Rattle.frag_chunks.specs.declared.holding.Holding.TheVariants as holding
-use Rattle.frag_chunks.specs.Gathers.{Said, is_part, is_sized, place_of, at_place, judged_piece, judged_in, judged_part, places, with_part, holding_after}
+use Rattle.frag_chunks.specs.declared.holding.PartialMessage.{PartialMessage}
+use Rattle.frag_chunks.specs.declared.holding.PartialMessage.TheVariants as holding
+use Rattle.frag_chunks.specs.Gathers.{Said, is_part, is_sized, place_of, at_place, judged_piece, judged_in, judged_part, with_part, holding_after}
 
 pub piece_new : (slots : List (Option (List ℕ))) (i : ℕ) (d : List ℕ) → slice_get slots i ≡ Some None → added.Kept ≡ judged_piece (at_place (slice_get slots i)) d
 piece_new slots i d e = ap (λ o. judged_piece (at_place o) d) (sym e)
@@ -33,7 +33,7 @@ pub new_part : (g : Said) → is_part g.index g.count (length g.piece) ≡ true 
 unfolding judged_part
 new_part g e = ap (λ c. if c then added.Kept else added.Spoiled) e
 
-pub no_part : (h : Option Holding) (g : Said) → is_part g.index g.count (length g.piece) ≡ false → judged_part h g ≡ added.Spoiled
+pub no_part : (h : Option PartialMessage) (g : Said) → is_part g.index g.count (length g.piece) ≡ false → judged_part h g ≡ added.Spoiled
 unfolding judged_part
 no_part h g e = ap (λ c. if c then judged_in h (place_of g.index) (place_of g.count) g.piece else added.Spoiled) e
 
@@ -66,7 +66,7 @@ part_within (pos i) (pos m) n e = by (nat_lt i m) refl (all (nat_le 1 m) (nat_le
 part_within (pos i) (negsuc m) n e = absurd cc
 part_within (negsuc i) m n e = absurd cc
 
-kept_part : (h : Option Holding) (g : Said) → judged_part h g ≡ added.Kept → (is_part g.index g.count (length g.piece) ≡ true) × (judged_in h (place_of g.index) (place_of g.count) g.piece ≡ added.Kept)
+kept_part : (h : Option PartialMessage) (g : Said) → judged_part h g ≡ added.Kept → (is_part g.index g.count (length g.piece) ≡ true) × (judged_in h (place_of g.index) (place_of g.count) g.piece ≡ added.Kept)
 unfolding judged_part
 kept_part h g e = by (is_part g.index g.count (length g.piece)) e
   where
@@ -88,7 +88,7 @@ pub kept_put : (slots : List (Option (List ℕ))) (g : Said) (i : ℕ) → i ≡
 unfolding with_part
 kept_put slots g i s = ap (λ j. holding.Open (slice_set slots j (Some g.piece))) s
 
-pub kept_not_spoiled : (h : Holding) (g : Said) → h ≡ holding.Spoiled → judged_part (Some h) g ≡ added.Kept → h ≡ with_part (Some h) g
+pub kept_not_spoiled : (h : PartialMessage) (g : Said) → h ≡ holding.Spoiled → judged_part (Some h) g ≡ added.Kept → h ≡ with_part (Some h) g
 kept_not_spoiled h g s e = let k = sym (ap (λ x. judged_part (Some x) g) s) ∙ e in let q = spoiled_part g in absurd cc
 
 pub new_within : (g : Said) (i m : ℕ) → judged_part None g ≡ added.Kept → i ≡ place_of g.index → m ≡ place_of g.count → i < m
@@ -98,11 +98,11 @@ pub new_put : (g : Said) (i m : ℕ) → i ≡ place_of g.index → m ≡ place_
 unfolding with_part
 new_put g i m s t = λ w. holding.Open (slice_set (replicate (t w) None) (s w) (Some g.piece))
 
-pub after_kept : (h : Option Holding) (g : Said) (old : Holding) → with_part h g ≡ holding_after added.Kept h g old
+pub after_kept : (h : Option PartialMessage) (g : Said) (old : PartialMessage) → with_part h g ≡ holding_after added.Kept h g old
 unfolding holding_after
 after_kept h g old = refl
 
-pub after_other : (a : Added) (h : Option Holding) (g : Said) → a ≢ added.Kept → holding.Spoiled ≡ holding_after a h g holding.Spoiled
+pub after_other : (a : Added) (h : Option PartialMessage) (g : Said) → a ≢ added.Kept → holding.Spoiled ≡ holding_after a h g holding.Spoiled
 unfolding holding_after
 after_other added.Kept h g n = absurd (n refl)
 after_other added.Again h g n = refl

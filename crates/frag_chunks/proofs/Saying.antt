@@ -2,7 +2,7 @@
 use Rattle.std.proofs.Common.{◌≡◌, ◌≢◌, List, [], ◌∷◌, length, None, refl, sym, arith}
 use Rattle.std.specs.Prelude.{get_or}
 use Rattle.plan_base.specs.declared.tree.Value.{Value, out-Value}
-use Rattle.frag_chunks.specs.Gathers.{Said, int_in, blob_in, said_with, of_four}
+use Rattle.frag_chunks.specs.Gathers.{int_in, blob_in, said_with, of_four}
 
 pub not_four : (vs : List Value) → length vs ≢ 4 → None ≡ of_four vs
 not_four [] h = refl

@@ -10,25 +10,25 @@ use Rattle.plan_base.specs.declared.ids.Host.{Host}
 use Rattle.plan_base.specs.declared.tree.Program.{Program}
 use Rattle.plan_meaning.specs.Meaning.{bound_of}
 use Rattle.program_text.specs.Texts.{program_of}
-use Rattle.frag_chunks.specs.declared.cutting.Address.{Address}
+use Rattle.frag_chunks.specs.declared.cutting.PartId.{PartId}
 use Rattle.frag_chunks.specs.declared.cutting.Part.{Part}
 use Rattle.frag_chunks.specs.Parts.{IsMessage, parts_in, piece_of, share, part, parts_from, cut_of, bounds, part_text, address, parts_by, parts_for, HasBound}
 
 -- what is still to come from an index on
-pub parts_next : (code : Program) (n : ℕ) (a : Address) (b : List ℕ) (m i : ℕ) → i < m → parts_from code n a b m i (m - i) ≡ part code n a b m i ∷ parts_from code n a b m (i + 1) (m - (i + 1))
+pub parts_next : (code : Program) (n : ℕ) (a : PartId) (b : List ℕ) (m i : ℕ) → i < m → parts_from code n a b m i (m - i) ≡ part code n a b m i ∷ parts_from code n a b m (i + 1) (m - (i + 1))
 parts_next code n a b m i h = by (m - i) (m - (i + 1)) (omega arith)
   where
     by : (k j : ℕ) → k ≡ j + 1 → parts_from code n a b m i k ≡ part code n a b m i ∷ parts_from code n a b m (i + 1) j
     by zero j e = absurd (omega arith)
     by (suc k) j e = let s : k ≡ j = omega arith in ap (λ x. part code n a b m i ∷ parts_from code n a b m (i + 1) x) s
 
-pub parts_none : (code : Program) (n : ℕ) (a : Address) (b : List ℕ) (m : ℕ) → parts_from code n a b m m (m - m) ≡ []
+pub parts_none : (code : Program) (n : ℕ) (a : PartId) (b : List ℕ) (m : ℕ) → parts_from code n a b m m (m - m) ≡ []
 parts_none code n a b m = let s : m - m ≡ 0 = omega arith in ap (parts_from code n a b m m) s
 
 -- ---- bounds
 
 -- the bounds of k parts from index i on
-bounds_from : (code : Program) (n : ℕ) (a : Address) (b : List ℕ) (m i k : ℕ) → bounds (parts_from code n a b m i k) + min i (n % m) ≡ k * (n / m) + min (i + k) (n % m)
+bounds_from : (code : Program) (n : ℕ) (a : PartId) (b : List ℕ) (m i k : ℕ) → bounds (parts_from code n a b m i k) + min i (n % m) ≡ k * (n / m) + min (i + k) (n % m)
 bounds_from code n a b m i zero = let s : i + 0 ≡ i = omega arith in let z : 0 * (n / m) ≡ 0 = omega arith in omega (arith, ap (λ x. min x (n % m)) s, z)
 bounds_from code n a b m i (suc k) = by (nat_lt i (n % m)) refl (bounds_from code n a b m (i + 1) k)
   where
@@ -47,7 +47,7 @@ bounds_from code n a b m i (suc k) = by (nat_lt i (n % m)) refl (bounds_from cod
     by false e h = let l : n % m ≤ i = grind (arith, nat_tests) in omega (arith, h, l, more)
 
 -- a message's parts share the whole bound
-pub bounds_all : (code : Program) (n : ℕ) (a : Address) (b : List ℕ) → IsMessage b → bounds (cut_of code n a b) ≡ n
+pub bounds_all : (code : Program) (n : ℕ) (a : PartId) (b : List ℕ) → IsMessage b → bounds (cut_of code n a b) ≡ n
 unfolding cut_of
 bounds_all code n a b m = whole (parts_in (length b)) (omega (arith, m.some))
   where
@@ -74,8 +74,8 @@ parts_are code n dest port key b e = sym (ap (λ r. parts_by r (bound_of n) (add
 pub last_piece : (b : List ℕ) (i : ℕ) → length b - 8192 * i < 8192 → take (length b - 8192 * i) (drop (8192 * i) b) ≡ piece_of b i
 last_piece b i h = take_all (length b - 8192 * i) (drop (8192 * i) b) (omega (arith, length-drop (8192 * i) b)) ∙ sym (take_all 8192 (drop (8192 * i) b) (omega (arith, length-drop (8192 * i) b)))
 
-pub part_step : (code : Program) (n : ℕ) (a : Address) (b : List ℕ) (m i : ℕ) (ps all : List Part) → ps ++ parts_from code n a b m i (m - i) ≡ all → i < m → (ps ++ part code n a b m i ∷ []) ++ parts_from code n a b m (i + 1) (m - (i + 1)) ≡ all
+pub part_step : (code : Program) (n : ℕ) (a : PartId) (b : List ℕ) (m i : ℕ) (ps all : List Part) → ps ++ parts_from code n a b m i (m - i) ≡ all → i < m → (ps ++ part code n a b m i ∷ []) ++ parts_from code n a b m (i + 1) (m - (i + 1)) ≡ all
 part_step code n a b m i ps all h l = append_assoc ps (part code n a b m i ∷ []) (parts_from code n a b m (i + 1) (m - (i + 1))) ∙ ap (λ xs. ps ++ xs) (sym (parts_next code n a b m i l)) ∙ h
 
-pub part_end : (code : Program) (n : ℕ) (a : Address) (b : List ℕ) (m i : ℕ) (ps all : List Part) → ps ++ parts_from code n a b m i (m - i) ≡ all → m ≤ i → ps ≡ all
+pub part_end : (code : Program) (n : ℕ) (a : PartId) (b : List ℕ) (m i : ℕ) (ps all : List Part) → ps ++ parts_from code n a b m i (m - i) ≡ all → m ≤ i → ps ≡ all
 part_end code n a b m i ps all h l = let z : m - i ≡ 0 = omega arith in sym (append-nil ps) ∙ ap (λ k. ps ++ parts_from code n a b m i k) (sym z) ∙ h

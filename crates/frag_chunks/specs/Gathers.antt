@@ -12,8 +12,8 @@ use Rattle.frag_chunks.specs.declared.gather.Added.{Added}
 use Rattle.frag_chunks.specs.declared.gather.Added.TheVariants as added
 use Rattle.frag_chunks.specs.declared.gather.Held.{Held}
 use Rattle.frag_chunks.specs.declared.gather.Held.TheVariants as held
-use Rattle.frag_chunks.specs.declared.holding.Holding.{Holding}
-use Rattle.frag_chunks.specs.declared.holding.Holding.TheVariants as holding
+use Rattle.frag_chunks.specs.declared.holding.PartialMessage.{PartialMessage}
+use Rattle.frag_chunks.specs.declared.holding.PartialMessage.TheVariants as holding
 use Rattle.frag_chunks.specs.declared.holding.Entry.{Entry}
 
 -- a part as a note says it
@@ -76,38 +76,38 @@ judged_piece None d = added.Kept
 judged_piece (Some e) d = if bytes_eq e d then added.Again else added.Spoiled
 
 -- a right part beside what is kept of its key
-abbrev pub judged_in : Option Holding → ℕ → ℕ → List ℕ → Added
+abbrev pub judged_in : Option PartialMessage → ℕ → ℕ → List ℕ → Added
 judged_in None i m d = added.Kept
 judged_in (Some holding.Spoiled) i m d = added.Spoiled
 judged_in (Some (holding.Open slots)) i m d = if nat_eq (length slots) m then judged_piece (at_place (slice_get slots i)) d else added.Spoiled
 
 -- any part beside what is kept of its key
-unfoldable pub judged_part : Option Holding → Said → Added
+unfoldable pub judged_part : Option PartialMessage → Said → Added
 judged_part h g = if is_part g.index g.count (length g.piece) then judged_in h (place_of g.index) (place_of g.count) g.piece else added.Spoiled
 
 -- the places of a key's parts: for a new key as many as its first note says
-abbrev pub places : Option Holding → ℕ → List (Option (List ℕ))
+abbrev pub places : Option PartialMessage → ℕ → List (Option (List ℕ))
 places None m = replicate m None
 places (Some holding.Spoiled) m = replicate m None
 places (Some (holding.Open slots)) m = slots
 
 -- a key's holding with a part at its place
-unfoldable pub with_part : Option Holding → Said → Holding
+unfoldable pub with_part : Option PartialMessage → Said → PartialMessage
 with_part h g = holding.Open (slice_set (places h (place_of g.count)) (place_of g.index) (Some g.piece))
 
 -- a key's holding after a part that was judged; as it was where nothing changes
-unfoldable pub holding_after : Added → Option Holding → Said → Holding → Holding
+unfoldable pub holding_after : Added → Option PartialMessage → Said → PartialMessage → PartialMessage
 holding_after added.Kept h g old = with_part h g
 holding_after added.Spoiled h g old = holding.Spoiled
 holding_after _ h g old = old
 
 -- ---- all keys, in order of first note
 
-abbrev pub holding_of : ℤ → List Entry → Option Holding
+abbrev pub holding_of : ℤ → List Entry → Option PartialMessage
 holding_of k [] = None
 holding_of k (e ∷ es) = if int_eq e.key k then Some e.holding else holding_of k es
 
-abbrev pub with_holding : ℤ → Holding → List Entry → List Entry
+abbrev pub with_holding : ℤ → PartialMessage → List Entry → List Entry
 with_holding k h [] = record { key = k; holding = h } ∷ []
 with_holding k h (e ∷ es) = if int_eq e.key k then record { key = e.key; holding = h } ∷ es else e ∷ with_holding k h es
 
@@ -117,7 +117,7 @@ pub record Gathering : Type 0 where
   pub entries : List Entry
 
 -- a part beside all keys: a new one isn't taken where 64 are kept
-abbrev pub judged_among : Option Holding → Said → List Entry → Added
+abbrev pub judged_among : Option PartialMessage → Said → List Entry → Added
 judged_among None g es = if nat_le 64 (length es) then added.Full else judged_part None g
 judged_among (Some h) g es = judged_part (Some h) g
 
@@ -165,6 +165,6 @@ filled_parts [] = 0
 filled_parts (None ∷ xs) = filled_parts xs
 filled_parts (Some d ∷ xs) = suc (filled_parts xs)
 
-abbrev pub held_of : ℤ → Holding → Held
+abbrev pub held_of : ℤ → PartialMessage → Held
 held_of k holding.Spoiled = held.Spoiled k
 held_of k (holding.Open slots) = if list_all is_some slots then held.Whole k (joined_pieces slots) else held.Missing k (filled_parts slots) (length slots)

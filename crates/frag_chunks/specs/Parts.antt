@@ -9,7 +9,7 @@ use Rattle.plan_meaning.specs.Meaning.{is_paid, bound_of}
 use Rattle.program_text.specs.Texts.{program_of}
 use Rattle.program_text.specs.declared.fault.TextFault.{TextFault}
 use Rattle.frag_chunks.specs.declared.cutting.Part.{Part}
-use Rattle.frag_chunks.specs.declared.cutting.Address.{Address}
+use Rattle.frag_chunks.specs.declared.cutting.PartId.{PartId}
 
 -- the program of a part: it goes to its destination, and is delivered there
 unfoldable pub part_text : List ℕ
@@ -38,32 +38,32 @@ abbrev pub share : ℕ → ℕ → ℕ → ℕ
 share n m i = n / m + (if nat_lt i (n % m) then 1 else 0)
 
 -- where the parts go
-abbrev pub address : Host → ℕ → ℤ → Address
+abbrev pub address : Host → ℕ → ℤ → PartId
 address dest port key = record { dest = dest; port = port; key = key }
 
-abbrev pub part_args : Address → ℕ → ℕ → List ℕ → List Value
+abbrev pub part_args : PartId → ℕ → ℕ → List ℕ → List Value
 part_args a i m piece =
     value.Host a.dest ∷ value.Int (pos a.port) ∷ value.Int a.key ∷ value.Int (pos i) ∷ value.Int (pos m) ∷ value.Blob piece ∷ []
 
 -- the chunk of the part with index i, of m
-abbrev pub part_chunk : Program → Address → ℕ → ℕ → List ℕ → Chunk
+abbrev pub part_chunk : Program → PartId → ℕ → ℕ → List ℕ → Chunk
 part_chunk code a i m piece = record { code = code; entry = codes "part"; args = part_args a i m piece }
 
 -- the part of a message with index i, of m that share n
-abbrev pub part : Program → ℕ → Address → List ℕ → ℕ → ℕ → Part
+abbrev pub part : Program → ℕ → PartId → List ℕ → ℕ → ℕ → Part
 part code n a bytes m i = record { bound = share n m i; chunk = part_chunk code a i m (piece_of bytes i) }
 
 -- the parts with k indexes from i on
-abbrev pub parts_from : Program → ℕ → Address → List ℕ → ℕ → ℕ → ℕ → List Part
+abbrev pub parts_from : Program → ℕ → PartId → List ℕ → ℕ → ℕ → ℕ → List Part
 parts_from code n a bytes m i zero = []
 parts_from code n a bytes m i (suc k) = part code n a bytes m i ∷ parts_from code n a bytes m (i + 1) k
 
 -- all parts of a message that share n
-unfoldable pub cut_of : Program → ℕ → Address → List ℕ → List Part
+unfoldable pub cut_of : Program → ℕ → PartId → List ℕ → List Part
 cut_of code n a bytes = parts_from code n a bytes (parts_in (length bytes)) 0 (parts_in (length bytes))
 
 -- those by the program that a text says, where it says one
-abbrev pub parts_by : Result Program TextFault → ℕ → Address → List ℕ → List Part
+abbrev pub parts_by : Result Program TextFault → ℕ → PartId → List ℕ → List Part
 parts_by (Ok code) n a bytes = cut_of code n a bytes
 parts_by (Err fault) n a bytes = []
 

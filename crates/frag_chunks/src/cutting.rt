@@ -4,9 +4,9 @@ ghost use Rattle.program_text.specs.Texts.{program_of};
 ghost use Rattle.frag_chunks.specs.Parts as spec;
 
 use checked_chunks::{Checked, CheckedChunk};
-use chunk_types::chunk_of;
+use containers::Items;
 use plan_base::{Bytes, Host, Name, NoMemory, Value, Values};
-use plan_items::Items;
+use plan_types_chunks::chunk_of;
 use program_text::read_program;
 use remote_calls::{NoBound, Purse};
 use std::alloc::{AllocError, Global};
@@ -86,7 +86,7 @@ fn part_program(alloc: Global) -> Result<Checked, NoMemory>
 
 /// Where the parts of a message go, and its key.
 #[derive(Clone, Copy)]
-pub struct Address {
+pub struct PartId {
     /// The host that gathers them.
     pub dest: Host,
     /// Its port.
@@ -98,7 +98,7 @@ pub struct Address {
 /// The arguments of a part's chunk.
 fn part_args(
     alloc: Global,
-    to: &Address,
+    to: &PartId,
     index: u32,
     count: u32,
     piece: &[u8],
@@ -123,7 +123,7 @@ fn part_args(
 fn part_chunk(
     alloc: Global,
     code: &Checked,
-    to: &Address,
+    to: &PartId,
     index: u32,
     count: u32,
     piece: &[u8],
@@ -169,7 +169,7 @@ fn one_part(
     alloc: Global,
     code: &Checked,
     bound: u32,
-    to: &Address,
+    to: &PartId,
     bytes: &[u8],
     count: u32,
     index: u32,
@@ -199,7 +199,7 @@ fn parts_of(
     alloc: Global,
     code: &Checked,
     bound: u32,
-    to: &Address,
+    to: &PartId,
     bytes: &[u8],
 ) -> Result<Parts, NoMemory>
     requires message { spec.IsMessage bytes.now }
@@ -241,7 +241,7 @@ pub fn cut(
         return Err(CutFault::NoBound);
     };
     let code = part_program(alloc)?;
-    let to = Address { dest, port, key };
+    let to = PartId { dest, port, key };
     let parts = parts_of(alloc, &code, bound, &to, bytes.as_slice())?;
     purse.take(bound);
     Ok(parts)

@@ -2,11 +2,11 @@ ghost use Rattle.std.specs.Prelude.{◌≡◌, ◌+◌, ◌<◌, ◌≤◌, ◌�
 ghost use Rattle.frag_chunks.specs.Gathers as spec;
 ghost use Rattle.frag_chunks.specs.Saying.{as_said, FewPlaces};
 ghost use Rattle.frag_chunks.specs.Places.{position, entry_held};
-ghost use Rattle.frag_chunks.specs.declared.holding.Holding.{Holding as Kept};
-ghost use Rattle.frag_chunks.specs.declared.holding.Holding.TheVariants as Shape;
+ghost use Rattle.frag_chunks.specs.declared.holding.PartialMessage.{PartialMessage as Kept};
+ghost use Rattle.frag_chunks.specs.declared.holding.PartialMessage.TheVariants as Shape;
 
 use crate::given::{Given, said_in};
-use crate::holding::{Entry, Holding, add_to, begin, held_of};
+use crate::holding::{Entry, PartialMessage, add_to, begin, held_of};
 use plan_base::{Bytes, NoMemory};
 use service_api::Note;
 use std::alloc::Global;

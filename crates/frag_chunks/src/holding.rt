@@ -3,14 +3,14 @@ ghost use Rattle.std.specs.List.{list_all};
 ghost use Rattle.std.specs.Option.{is_some};
 ghost use Rattle.frag_chunks.specs.Gathers as spec;
 ghost use Rattle.frag_chunks.specs.Saying.{as_said, FewIn, FewPlaces};
-ghost use Rattle.frag_chunks.specs.declared.holding.Holding.TheVariants as Shape;
+ghost use Rattle.frag_chunks.specs.declared.holding.PartialMessage.TheVariants as Shape;
 ghost use Rattle.frag_chunks.specs.declared.gather.Added.TheVariants as Verdict;
 
 use crate::cutting::MOST_PART_BYTES;
 use crate::gather::{Added, Held};
 use crate::given::Given;
+use containers::Items;
 use plan_base::{Bytes, NoMemory};
-use plan_items::Items;
 use std::alloc::Global;
 
 /// The places of a message's parts, with the piece of those that came.
@@ -18,7 +18,7 @@ pub type Slots = Items<Option<Bytes>>;
 
 /// What is kept of one key.
 #[derive(Drop)]
-pub enum Holding {
+pub enum PartialMessage {
     /// Its notes are no parts of one message.
     Spoiled,
     /// A place for each part.
@@ -31,7 +31,7 @@ pub struct Entry {
     /// The key.
     pub key: i64,
     /// What is kept of it.
-    pub holding: Holding,
+    pub holding: PartialMessage,
 }
 
 /// The most parts of a message.
@@ -113,21 +113,26 @@ fn judged_new(given: Given<'_>) -> Added
 
 /// A part beside what is kept of its key.
 #[tactic(auto, using(crate::proofs::Judging::spoiled_part, crate::proofs::Judging::open_part, crate::proofs::Judging::no_part))]
-fn judge_part(holding: &Holding, given: Given<'_>) -> Added
+fn judge_part(holding: &PartialMessage, given: Given<'_>) -> Added
     ensures { result ≡ spec.judged_part (Some holding.now) (as_said given.entry) }
 {
     if !is_part(given) {
         return Added::Spoiled;
     }
     match holding {
-        Holding::Spoiled => Added::Spoiled,
-        Holding::Open(slots) => judged_open(slots, given.place(), given.places(), given.piece),
+        PartialMessage::Spoiled => Added::Spoiled,
+        PartialMessage::Open(slots) => judged_open(
+            slots,
+            given.place(),
+            given.places(),
+            given.piece,
+        ),
     }
 }
 
 /// Puts a part that was judged new into its place.
 #[tactic(auto, using(crate::proofs::Judging::kept_within, crate::proofs::Judging::kept_put, crate::proofs::Judging::kept_not_spoiled, std::proofs::lemmas::List::places))]
-fn put_part(alloc: Global, holding: &mut Holding, given: Given<'_>) -> Result<(), NoMemory>
+fn put_part(alloc: Global, holding: &mut PartialMessage, given: Given<'_>) -> Result<(), NoMemory>
     requires { spec.judged_part (Some holding.old) (as_said given) ≡ Verdict.Kept }
     ensures ok { OnOk result
         (holding.new ≡ spec.with_part (Some holding.old) (as_said given.entry)) }
@@ -135,18 +140,22 @@ fn put_part(alloc: Global, holding: &mut Holding, given: Given<'_>) -> Result<()
     ensures err { OnErr result (holding.new ≡ holding.old) }
 {
     match holding {
-        Holding::Open(slots) => {
+        PartialMessage::Open(slots) => {
             let piece = given.piece.copy(alloc)?;
             slots.set(given.place(), Some(piece));
             Ok(())
         }
-        Holding::Spoiled => Ok(()),
+        PartialMessage::Spoiled => Ok(()),
     }
 }
 
 /// Adds a part to what is kept of its key.
 #[tactic(auto, unfolding(crate::specs::Gathers::holding_after))]
-pub fn add_to(alloc: Global, holding: &mut Holding, given: Given<'_>) -> Result<Added, NoMemory>
+pub fn add_to(
+    alloc: Global,
+    holding: &mut PartialMessage,
+    given: Given<'_>,
+) -> Result<Added, NoMemory>
     ensures answer { IfOk result (λ a. a ≡ spec.judged_part (Some holding.old)
         (as_said given.entry)) }
     ensures holding { IfOk result
@@ -158,7 +167,7 @@ pub fn add_to(alloc: Global, holding: &mut Holding, given: Given<'_>) -> Result<
     let answer = judge_part(holding, given);
     match answer {
         Added::Kept => put_part(alloc, holding, given)?,
-        Added::Spoiled => *holding = Holding::Spoiled,
+        Added::Spoiled => *holding = PartialMessage::Spoiled,
         Added::Again | Added::Stranger | Added::Full => {}
     }
     Ok(answer)
@@ -166,7 +175,7 @@ pub fn add_to(alloc: Global, holding: &mut Holding, given: Given<'_>) -> Result<
 
 /// What is kept of a new key after its first part, which was judged new.
 #[tactic(auto, using(crate::proofs::Judging::new_within, crate::proofs::Judging::new_put))]
-fn first_part(alloc: Global, given: Given<'_>) -> Result<Holding, NoMemory>
+fn first_part(alloc: Global, given: Given<'_>) -> Result<PartialMessage, NoMemory>
     requires { spec.judged_part None (as_said given) ≡ Verdict.Kept }
     ensures part { IfOk result (λ h. h ≡ spec.with_part None (as_said given.entry)) }
     ensures few { IfOk result FewIn }
@@ -174,12 +183,12 @@ fn first_part(alloc: Global, given: Given<'_>) -> Result<Holding, NoMemory>
     let mut slots = places(alloc, given.places())?;
     let piece = given.piece.copy(alloc)?;
     slots.set(given.place(), Some(piece));
-    Ok(Holding::Open(slots))
+    Ok(PartialMessage::Open(slots))
 }
 
 /// A new key after its first note.
 #[tactic(auto, using(crate::proofs::Judging::after_kept, crate::proofs::Judging::after_other))]
-pub fn begin(alloc: Global, given: Given<'_>) -> Result<(Added, Holding), NoMemory>
+pub fn begin(alloc: Global, given: Given<'_>) -> Result<(Added, PartialMessage), NoMemory>
     ensures answer { IfOk result (λ r. r.0 ≡ spec.judged_part None (as_said given.entry)) }
     ensures holding { IfOk result
         (λ r. r.1 ≡ spec.holding_after r.0 None (as_said given.entry) Shape.Spoiled) }
@@ -187,7 +196,7 @@ pub fn begin(alloc: Global, given: Given<'_>) -> Result<(Added, Holding), NoMemo
 {
     match judged_new(given) {
         Added::Kept => Ok((Added::Kept, first_part(alloc, given)?)),
-        answer => Ok((answer, Holding::Spoiled)),
+        answer => Ok((answer, PartialMessage::Spoiled)),
     }
 }
 
@@ -225,8 +234,8 @@ pub fn held_of(alloc: Global, entry: &Entry) -> Result<Held, NoMemory>
     ensures { IfOk result (λ h. h ≡ spec.held_of entry.now.key entry.now.holding) }
 {
     match &entry.holding {
-        Holding::Spoiled => Ok(Held::Spoiled(entry.key)),
-        Holding::Open(slots) => {
+        PartialMessage::Spoiled => Ok(Held::Spoiled(entry.key)),
+        PartialMessage::Open(slots) => {
             let there = count_there(slots.as_slice());
             if there == slots.len() {
                 Ok(Held::Whole(entry.key, join_pieces(alloc, slots.as_slice())?))

@@ -7,6 +7,6 @@ mod given;
 mod holding;
 mod laws;
 
-pub use cutting::{Address, CutFault, Part, Parts, cut};
+pub use cutting::{CutFault, Part, PartId, Parts, cut};
 pub use gather::{Added, Gather, Held};
 pub use laws::messages_are_gathered;

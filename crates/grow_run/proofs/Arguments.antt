@@ -6,7 +6,7 @@ use Rattle.plan_base.specs.declared.tree.Value.{Value}
 use Rattle.plan_base.specs.declared.tree.Value.TheVariants as value
 use Rattle.plan_base.specs.WellFormed.{well_formed_value, typed_value_level, value_has_types, chunk_has_types}
 use Rattle.plan_base.proofs.FormLaws.{value_has_types_out}
-use Rattle.service_meaning.proofs.Leaves.{good_host}
+use Rattle.service_registry_spec.proofs.Leaves.{good_host}
 
 host_full : (h : Host) → value_has_types (value.Host h) ≡ true
 host_full h = value_has_types_out (value.Host h) ∙ ap (λ l. typed_value_level value_has_types chunk_has_types l) (value.outs-Host h)

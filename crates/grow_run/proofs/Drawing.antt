@@ -5,15 +5,15 @@ use Rattle.std.proofs.lemmas.Bool.{lt-ltb, le-ltb}
 use Rattle.rand_pcg.specs.Lcg.{Lcg}
 use Rattle.plan_base.specs.declared.ids.Host.{Host}
 use Rattle.plan_base.specs.declared.tree.Chunk.{Chunk}
-use Rattle.network_plan.specs.Hosts.{host_of}
-use Rattle.network_plan.specs.declared.event.WorldEvent.{WorldEvent}
-use Rattle.network_plan.specs.declared.event.WorldEvent.TheVariants.{Tick}
-use Rattle.world_model.specs.declared.lines.Wired.{Wired}
-use Rattle.world_model.specs.World.{WorldState}
-use Rattle.world_model.specs.Numbers.{lowest, highest}
+use Rattle.network_config.specs.Hosts.{host_of}
+use Rattle.network_config.specs.declared.event.WorldEvent.{WorldEvent}
+use Rattle.network_config.specs.declared.event.WorldEvent.TheVariants.{Tick}
+use Rattle.net_world_spec.specs.declared.lines.FrameOnWire.{FrameOnWire}
+use Rattle.net_world_spec.specs.World.{WorldState}
+use Rattle.net_world_spec.specs.Numbers.{lowest, highest}
 use Rattle.grow_run.specs.Grow.{event_of, drawn_choice, next_event}
-use Rattle.grow_run.specs.declared.choice.Choice.{Choice}
-use Rattle.grow_run.specs.declared.choice.Choice.TheVariants.{Deliver, Lose}
+use Rattle.grow_run.specs.declared.choice.RandomEvent.{RandomEvent}
+use Rattle.grow_run.specs.declared.choice.RandomEvent.TheVariants.{Deliver, Lose}
 use Rattle.grow_run.specs.Draws.{draw, choose_tick, choose_inject, choose_send, choose_by, choose}
 use Rattle.grow_run.specs.Events.{choice_fits, drawn_event}
 
@@ -33,17 +33,17 @@ choices_fit lowest highest g =
     let r = (draw 16 g).0 in
     by_number (draw 16 g).1 (unwrap_or lowest 1) (unwrap_or highest 1) (r == 0) (r == 1) (nat_lt r 4) (nat_lt r 10) (nat_lt r 14)
 
-pub choice_is : (lowest highest : Option ℕ) (g : Lcg) (choice : Choice) (after : Lcg) → (choice, after) ≡ choose lowest highest g → choice_fits choice
-choice_is lowest highest g choice after is = subst (λ (p : Choice × Lcg). choice_fits p.0) (sym is) (choices_fit lowest highest g)
+pub choice_is : (lowest highest : Option ℕ) (g : Lcg) (choice : RandomEvent) (after : Lcg) → (choice, after) ≡ choose lowest highest g → choice_fits choice
+choice_is lowest highest g choice after is = subst (λ (p : RandomEvent × Lcg). choice_fits p.0) (sym is) (choices_fit lowest highest g)
 
 -- ---- what happens next
 
 -- what was drawn for a network, from the ends of its wire
-pub drawn_is : (ping : Host → Host → Chunk) (g after : Lcg) (w : WorldState) (wire : List Wired) (low high : Option ℕ) (choice : Choice) (e : WorldEvent) → low ≡ lowest wire → high ≡ highest wire → wire ≡ w.wire
+pub drawn_is : (ping : Host → Host → Chunk) (g after : Lcg) (w : WorldState) (wire : List FrameOnWire) (low high : Option ℕ) (choice : RandomEvent) (e : WorldEvent) → low ≡ lowest wire → high ≡ highest wire → wire ≡ w.wire
     → (choice, after) ≡ choose low high g → e ≡ event_of ping choice → (e, after) ≡ drawn_event ping g w
 drawn_is ping g after w wire low high choice e l h same c is =
     let own : (choice, after) ≡ drawn_choice g w = c ∙ (λ i. choose ((l ∙ ap lowest same) i) ((h ∙ ap highest same) i) g) in
-    ap (λ x. (x, after)) is ∙ ap (λ (p : Choice × Lcg). (event_of ping p.0, p.1)) own
+    ap (λ x. (x, after)) is ∙ ap (λ (p : RandomEvent × Lcg). (event_of ping p.0, p.1)) own
 
 module _ (ping : Host → Host → Chunk) (g : Lcg) (w : WorldState) (made : ℕ) (same : made ≡ w.made) where
   by_made : (b : Bool) → nat_lt made 8 ≡ b → (if b then (Tick (host_of (made + 1)), g) else drawn_event ping g w) ≡ next_event ping g w

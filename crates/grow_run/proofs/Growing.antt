@@ -7,15 +7,15 @@ use Rattle.plan_base.specs.declared.ids.Host.{Host}
 use Rattle.plan_base.specs.declared.tree.Chunk.{Chunk}
 use Rattle.plan_base.specs.declared.tree.Program.{Program}
 use Rattle.service_api.specs.Services.{ServiceState}
-use Rattle.network_plan.specs.declared.event.WorldEvent.{WorldEvent}
-use Rattle.world_model.specs.World.{WorldState, happens, entries, world_after, history_of, opening}
-use Rattle.world_model.specs.Sound.{event_fits, EventsFit}
+use Rattle.network_config.specs.declared.event.WorldEvent.{WorldEvent}
+use Rattle.net_world_spec.specs.World.{WorldState, happens, entries, world_after, history_of, opening}
+use Rattle.net_world_spec.specs.Sound.{event_fits, EventsFit}
 use Rattle.plan_base.specs.declared.stamp.Version.TheVariants.{One}
-use Rattle.network_laws.proofs.Fitting.{run_version}
-use Rattle.network_laws.proofs.Handings.{opening_leaves}
-use Rattle.network_laws.proofs.Opening.{opening_version, opening_sound}
-use Rattle.run_ledger.specs.Stands.{Stands}
-use Rattle.run_ledger.proofs.Runs.{world_after-push, history_of-push, event_fits_ledger}
+use Rattle.net_world_spec.proofs.Fitting.{run_version}
+use Rattle.net_world_spec.proofs.Handings.{opening_leaves}
+use Rattle.net_world_spec.proofs.Opening.{opening_version, opening_sound}
+use Rattle.bound_ledger.specs.Stands.{Stands}
+use Rattle.bound_ledger.proofs.Runs.{world_after-push, history_of-push, event_fits_ledger}
 use Rattle.grow_run.specs.Grow.{ring, next_event, grown_events, Grow}
 use Rattle.grow_run.specs.Growths.{IsAtOpening, HasMade}
 use Rattle.grow_run.specs.Summaries.{HasRoom, summary_of, grown_text, GrowText}
@@ -26,14 +26,14 @@ use Rattle.net_world.specs.Running.{AllLeave, IsCountable}
 use Rattle.net_world.proofs.RunLaws.{opening_made}
 use Rattle.grow_run.specs.Pings.{ping as ping_of, OfGrown}
 use Rattle.node_io.specs.Sinks.{SinkState, Writes, FailsIn}
-use Rattle.grow_run.specs.declared.growth.Growth.{Growth}
+use Rattle.grow_run.specs.declared.growth.GrowingNetwork.{GrowingNetwork}
 
 -- a network before its first event
 abbrev start : WorldState
 start = opening ring
 
 -- some of n events were made, and the growth stands for what came of them
-pub record Grows {S : Type 0} (stands : S → ServiceState) (ping : Host → Host → Chunk) (n : ℕ) (first : Lcg) (made : ℕ) (g : Growth S) : Type 0 where
+pub record Grows {S : Type 0} (stands : S → ServiceState) (ping : Host → Host → Chunk) (n : ℕ) (first : Lcg) (made : ℕ) (g : GrowingNetwork S) : Type 0 where
   pub events : List WorldEvent
   pub all : events ++ grown_events ping (n - made) g.words (world_after events (opening ring)) ≡ grown_events ping n first (opening ring)
   pub many : length events ≡ made
@@ -61,7 +61,7 @@ unfolding world_after
 still_start = refl
 
 module _ {S : Type 0} (stands : S → ServiceState) (ping : Host → Host → Chunk) (n : ℕ) (first : Lcg) where
-  pub grows_none : (g : Growth S) → g.words ≡ first → IsAtOpening stands g → Grows stands ping n first 0 g
+  pub grows_none : (g : GrowingNetwork S) → g.words ≡ first → IsAtOpening stands g → Grows stands ping n first 0 g
   grows_none g words fresh = let all_left : n - 0 ≡ n = omega arith in let back = sym still_start in record {
     events = [];
     all = ap (λ k. grown_events ping k g.words (world_after [] start)) all_left ∙ (λ i. grown_events ping n (words i) (back i));
@@ -75,7 +75,7 @@ module _ {S : Type 0} (stands : S → ServiceState) (ping : Host → Host → Ch
   }
 
   -- the lines of the next event can be counted
-  pub grows_countable : (made : ℕ) (g : Growth S) (e : WorldEvent) → Grows stands ping n first made g → made < 50000 → event_fits One e → IsCountable stands g.world e g.ledger
+  pub grows_countable : (made : ℕ) (g : GrowingNetwork S) (e : WorldEvent) → Grows stands ping n first made g → made < 50000 → event_fits One e → IsCountable stands g.world e g.ledger
   grows_countable made g e grows few fits = record {
     state = world_after grows.events (opening ring);
     is = grows.world;
@@ -83,20 +83,20 @@ module _ {S : Type 0} (stands : S → ServiceState) (ping : Host → Host → Ch
   }
 
   -- there is room for the lines of the next event
-  pub grows_room : (made : ℕ) (g : Growth S) → Grows stands ping n first made g → made < 50000 → HasRoom (2 ^ 64) g.summary
+  pub grows_room : (made : ℕ) (g : GrowingNetwork S) → Grows stands ping n first made g → made < 50000 → HasRoom (2 ^ 64) g.summary
   grows_room made g grows few = room_less g.summary ((50000 - made) * 2 ^ 64) (2 ^ 64) (omega (arith, few)) grows.room
 
   -- what the next event leaves is what its lines leave by the wire
-  pub grows_leave : (made : ℕ) (g : Growth S) (e : WorldEvent) (grows : Grows stands ping n first made g) → AllLeave (history_of grows.events (opening ring)) (world_after grows.events (opening ring)) e
+  pub grows_leave : (made : ℕ) (g : GrowingNetwork S) (e : WorldEvent) (grows : Grows stands ping n first made g) → AllLeave (history_of grows.events (opening ring)) (world_after grows.events (opening ring)) e
   grows_leave made g e grows = λ f. opening_leaves f ring grows.events e ring_keeps grows.fits
 
   -- the network stays one of version 1
-  pub grows_version : (made : ℕ) (g : Growth S) → Grows stands ping n first made g → g.world.version ≡ One
+  pub grows_version : (made : ℕ) (g : GrowingNetwork S) → Grows stands ping n first made g → g.world.version ≡ One
   grows_version made g grows =
       let there : EventsFit (opening ring).version grows.events = subst (λ v. EventsFit v grows.events) (sym (opening_version ring)) grows.fits in
       grows.world.is.version ∙ run_version grows.events (opening ring) there (opening_sound ring ring_keeps) ∙ opening_version ring
 
-  pub grows_next : (made : ℕ) (g new : Growth S) (after : Lcg) (e : WorldEvent) (grows : Grows stands ping n first made g) → made < n → made < 50000
+  pub grows_next : (made : ℕ) (g new : GrowingNetwork S) (after : Lcg) (e : WorldEvent) (grows : Grows stands ping n first made g) → made < n → made < 50000
       → (e, after) ≡ next_event ping g.words (world_after grows.events (opening ring)) → new.words ≡ after → event_fits One e
       → WorldStands stands new.world (happens (world_after grows.events (opening ring)) e).world
       → new.world.made ≡ g.world.made + 1
@@ -124,13 +124,13 @@ module _ {S : Type 0} (stands : S → ServiceState) (ping : Host → Host → Ch
         room = room ((50000 - (made + 1)) * 2 ^ 64) (room_less g.summary ((50000 - made) * 2 ^ 64) ((50000 - (made + 1)) * 2 ^ 64 + 2 ^ 64) (omega (arith, few)) grows.room);
       }
 
-  all_made : (made : ℕ) (g : Growth S) (grows : Grows stands ping n first made g) → n ≤ made → grows.events ≡ grown_events ping n first (opening ring)
+  all_made : (made : ℕ) (g : GrowingNetwork S) (grows : Grows stands ping n first made g) → n ≤ made → grows.events ≡ grown_events ping n first (opening ring)
   all_made made g grows done =
       let none : n - made ≡ 0 = omega (arith, done) in
       sym (append-nil grows.events) ∙ ap (λ x. grows.events ++ x) (sym (none_left ping (n - made) g.words (world_after grows.events (opening ring)) none)) ∙ grows.all
 
   -- all of them were made
-  pub grows_all : (made : ℕ) (g : Growth S) → Grows stands ping n first made g → n ≤ made → HasMade ping n first g
+  pub grows_all : (made : ℕ) (g : GrowingNetwork S) → Grows stands ping n first made g → n ≤ made → HasMade ping n first g
   grows_all made g grows done = let all = all_made made g grows done in record {
     ledger = subst (λ es. Stands (history_of es (opening ring)) g.ledger) all grows.ledger;
     summary = grows.summary ∙ ap (λ es. summary_of (history_of es (opening ring))) all;

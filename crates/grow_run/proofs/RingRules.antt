@@ -2,10 +2,10 @@
 use Rattle.std.proofs.Common.{◌≡◌, ℕ, ◌<◌, true, List, [], ◌∷◌, refl, arith}
 use Rattle.std.specs.Prelude.{◌≢◌, All}
 use Rattle.std.proofs.lemmas.List.Elements.{All-nil, All-cons}
-use Rattle.network_plan.specs.declared.schedule.Cable.{Cable}
-use Rattle.network_plan.specs.Hosts.{host_of, has_host}
-use Rattle.network_plan.specs.Rules.{PackagesDiffer, KeepsLink, KeepsNetwork}
-use Rattle.network_plan.specs.declared.schedule.HostSpec.{HostSpec}
+use Rattle.network_config.specs.declared.schedule.Link.{Link}
+use Rattle.network_config.specs.Hosts.{host_of, has_host}
+use Rattle.network_config.specs.Rules.{PackagesDiffer, KeepsLink, KeepsNetwork}
+use Rattle.network_config.specs.declared.schedule.HostSpec.{HostSpec}
 use Rattle.grow_run.specs.Grow.{whole_host, ring_link, ring}
 
 -- the hosts from a number on
@@ -40,32 +40,32 @@ each_host P f = All-cons P (whole_host 1) hosts_2 (f 1 (omega arith)) (All-cons 
 link_keeps : (n m : ℕ) → has_host (host_of n) ring.hosts ≡ true → has_host (host_of m) ring.hosts ≡ true → m ≢ n → KeepsLink ring.hosts (ring_link n m)
 link_keeps n m a b c = record { from = a; to = b; apart = c; from_device = (omega arith, omega arith); to_device = (omega arith, omega arith) }
 
-abbrev Keeps : Cable → Type 0
+abbrev Keeps : Link → Type 0
 Keeps l = KeepsLink ring.hosts l
 
 -- the links from a host on
-abbrev links_8 : List Cable
+abbrev links_8 : List Link
 links_8 = ring_link 8 1 ∷ []
 
-abbrev links_7 : List Cable
+abbrev links_7 : List Link
 links_7 = ring_link 7 8 ∷ links_8
 
-abbrev links_6 : List Cable
+abbrev links_6 : List Link
 links_6 = ring_link 6 7 ∷ links_7
 
-abbrev links_5 : List Cable
+abbrev links_5 : List Link
 links_5 = ring_link 5 6 ∷ links_6
 
-abbrev links_4 : List Cable
+abbrev links_4 : List Link
 links_4 = ring_link 4 5 ∷ links_5
 
-abbrev links_3 : List Cable
+abbrev links_3 : List Link
 links_3 = ring_link 3 4 ∷ links_4
 
-abbrev links_2 : List Cable
+abbrev links_2 : List Link
 links_2 = ring_link 2 3 ∷ links_3
 
-abbrev links_1 : List Cable
+abbrev links_1 : List Link
 links_1 = ring_link 1 2 ∷ links_2
 
 links_keep : All Keeps ring.links

@@ -1,24 +1,24 @@
--- Sums over lines and over families.
+-- Totals over lines and over families.
 use Rattle.std.proofs.Common.{◌≡◌, ℕ, ◌+◌, ◌^◌, ◌≤◌, ◌<◌, List, [], ◌∷◌, ◌++◌, map, length, take, get_or, slice_get, Some, refl, sym, ap, ◌∙◌, append_assoc, subst, arith}
 use Rattle.std.specs.Prelude.{sum_by}
 use Rattle.std.proofs.lemmas.List.{append-nil, take_all, length-append, map-append}
-use Rattle.std.proofs.lemmas.List.Sums.{sum_by-cons, sum_by_push}
+use Rattle.std.proofs.lemmas.List.Totals.{sum_by-cons, sum_by_push}
 use Rattle.std.proofs.lemmas.Grind.{take_at_read}
 use Rattle.std.proofs.lemmas.Option.{get_or_from_slice_get}
 use Rattle.plan_base.specs.declared.ids.Family.{Family}
 use Rattle.bound_ledger.specs.declared.row.Row.{Row}
 use Rattle.bound_ledger.specs.Rows.{FamilyRow, OneEach, counts_of}
-use Rattle.world_model.specs.declared.lines.Line.{Line}
-use Rattle.world_model.specs.declared.lines.Entry.{Entry}
-use Rattle.world_model.specs.World.{WorldState, entry_at}
-use Rattle.world_model.specs.Counts.{Balanced, granted_sum, hops, evals, left_sum, live, tally}
-use Rattle.world_model.specs.Texts.{families}
-use Rattle.network_laws.proofs.CountLaws.{tally-nil, tally-cons, tally-append}
-use Rattle.run_ledger.specs.Stands.{Stands}
-use Rattle.run_ledger.proofs.ByFamily.{by_family, standing_rows}
+use Rattle.net_world_spec.specs.declared.lines.Line.{Line}
+use Rattle.net_world_spec.specs.declared.lines.Entry.{Entry}
+use Rattle.net_world_spec.specs.World.{WorldState, entry_at}
+use Rattle.net_world_spec.specs.Counts.{Balanced, granted_sum, hops, evals, left_sum, live, tally}
+use Rattle.net_world_spec.specs.Texts.{families}
+use Rattle.net_world_spec.proofs.CountLaws.{tally-nil, tally-cons, tally-append}
+use Rattle.bound_ledger.specs.Stands.{Stands}
+use Rattle.bound_ledger.proofs.ByFamily.{by_family, standing_rows}
 use Rattle.grow_run.specs.declared.summary.Summary.{Summary}
-use Rattle.grow_run.specs.declared.sums.Sums.{Sums}
-use Rattle.world_model.specs.Visits.{line_ends}
+use Rattle.grow_run.specs.declared.sums.Totals.{Totals}
+use Rattle.net_world_spec.specs.Visits.{line_ends}
 use Rattle.grow_run.specs.Summaries.{line_drops, line_lost, with_line, HasRoom, summary_of, plus, SumsHaveRoom, row_sums, all_sums, summary_text, grown_text}
 
 -- ---- lines
@@ -66,18 +66,18 @@ room_less s m n less r = (omega (arith, less, r.0), omega (arith, less, r.1), om
 pub room_first : (s : Summary) (n : ℕ) → n ≤ 2 ^ 127 → s ≡ summary_of [] → HasRoom n s
 room_first s n few is = subst (HasRoom n) (summary_none ∙ sym is) (omega (arith, few), omega (arith, few), omega (arith, few), omega (arith, few))
 
-pub sums_room_less : (s : Sums) (m n : ℕ) → n ≤ m → SumsHaveRoom m s → SumsHaveRoom n s
+pub sums_room_less : (s : Totals) (m n : ℕ) → n ≤ m → SumsHaveRoom m s → SumsHaveRoom n s
 sums_room_less s m n less r = (omega (arith, less, r.0), omega (arith, less, r.1), omega (arith, less, r.2), omega (arith, less, r.3), omega (arith, less, r.4))
 
 -- a row takes the room of a number of 64 bits
-pub sums_room_next : (s new : Sums) (row : Row) (m n : ℕ) → n + 2 ^ 64 ≤ m → row.granted < 2 ^ 64 → row.hops < 2 ^ 64 → row.evals < 2 ^ 64 → row.live < 2 ^ 64 → row.left < 2 ^ 64
+pub sums_room_next : (s new : Totals) (row : Row) (m n : ℕ) → n + 2 ^ 64 ≤ m → row.granted < 2 ^ 64 → row.hops < 2 ^ 64 → row.evals < 2 ^ 64 → row.live < 2 ^ 64 → row.left < 2 ^ 64
     → new ≡ plus s row → SumsHaveRoom m s → SumsHaveRoom n new
 sums_room_next s new row m n more a b c d e is r =
     subst (SumsHaveRoom n) (sym is) (omega (arith, more, a, r.0), omega (arith, more, b, r.1), omega (arith, more, c, r.2), omega (arith, more, d, r.3), omega (arith, more, e, r.4))
 
 -- ---- rows
 
-pub sums_none : (rows : List FamilyRow) → ◌≡◌ {A = Sums} (record { granted = 0; hops = 0; evals = 0; live = 0; left = 0 }) (row_sums (take 0 rows))
+pub sums_none : (rows : List FamilyRow) → ◌≡◌ {A = Totals} (record { granted = 0; hops = 0; evals = 0; live = 0; left = 0 }) (row_sums (take 0 rows))
 unfolding row_sums
 sums_none rows = refl
 
@@ -91,12 +91,12 @@ sums_push rows e = λ i. record {
   left = sym (sum_by_push (λ x. x.1.left) rows e) i;
 }
 
-pub sums_next : (rows : List FamilyRow) (i : ℕ) (e : FamilyRow) (now new : Sums) → i < length rows → slice_get rows i ≡ Some e → now ≡ row_sums (take i rows) → new ≡ plus now e.1 → new ≡ row_sums (take (i + 1) rows)
+pub sums_next : (rows : List FamilyRow) (i : ℕ) (e : FamilyRow) (now new : Totals) → i < length rows → slice_get rows i ≡ Some e → now ≡ row_sums (take i rows) → new ≡ plus now e.1 → new ≡ row_sums (take (i + 1) rows)
 sums_next rows i e now new within is s n =
     n ∙ ap (λ r. plus r e.1) s ∙ sums_push (take i rows) e
     ∙ ap row_sums (ap (λ x. take i rows ++ x ∷ []) (sym (get_or_from_slice_get rows i e e is)) ∙ sym (take_at_read rows i e within).1)
 
-pub sums_all : (rows : List FamilyRow) (i : ℕ) (sums : Sums) → length rows ≤ i → sums ≡ row_sums (take i rows) → sums ≡ row_sums rows
+pub sums_all : (rows : List FamilyRow) (i : ℕ) (sums : Totals) → length rows ≤ i → sums ≡ row_sums (take i rows) → sums ≡ row_sums rows
 sums_all rows i sums e h = h ∙ ap row_sums (take_all i rows e)
 
 -- ---- families
@@ -128,7 +128,7 @@ sums_are_counts h w rows d s law =
     }
 
 -- so a summary is that of the history
-pub summary_is : (seed n : ℕ) (h : List Entry) (w : WorldState) (rows : List FamilyRow) (summary : Summary) (sums : Sums) → OneEach rows → Stands h rows → ((f : Family) → Balanced f h w) → summary ≡ summary_of h → sums ≡ row_sums rows
+pub summary_is : (seed n : ℕ) (h : List Entry) (w : WorldState) (rows : List FamilyRow) (summary : Summary) (sums : Totals) → OneEach rows → Stands h rows → ((f : Family) → Balanced f h w) → summary ≡ summary_of h → sums ≡ row_sums rows
     → summary_text seed n summary sums ≡ grown_text seed n h w
 unfolding grown_text
 summary_is seed n h w rows summary sums d s law a b = λ i. summary_text seed n (a i) ((b ∙ sums_are_counts h w rows d s law) i)

@@ -4,8 +4,8 @@ use Rattle.rand_pcg.specs.Lcg.{Lcg, started, increment_of}
 use Rattle.rand_pcg.specs.Pcg.{multiplier_64, pcg32}
 use Rattle.plan_base.specs.declared.ids.Host.{Host}
 use Rattle.plan_base.specs.declared.ids.Dev.{Dev}
-use Rattle.grow_run.specs.declared.choice.Choice.{Choice}
-use Rattle.grow_run.specs.declared.choice.Choice.TheVariants.{Inject, Send, Deliver, Lose, Tick}
+use Rattle.grow_run.specs.declared.choice.RandomEvent.{RandomEvent}
+use Rattle.grow_run.specs.declared.choice.RandomEvent.TheVariants.{Inject, Send, Deliver, Lose, Tick}
 
 -- the generator of a seed
 abbrev pub seeded_generator : ℕ → Lcg
@@ -23,17 +23,17 @@ draw_host g = (record { 0 = 1 + (draw 8 g).0 }, (draw 8 g).1)
 abbrev pub draw_dev : Lcg → Dev × Lcg
 draw_dev g = (record { 0 = (draw 3 g).0 }, (draw 3 g).1)
 
-abbrev pub choose_tick : Lcg → Choice × Lcg
+abbrev pub choose_tick : Lcg → RandomEvent × Lcg
 choose_tick g = (Tick (draw_host g).0, (draw_host g).1)
 
-abbrev pub choose_inject : Lcg → Choice × Lcg
+abbrev pub choose_inject : Lcg → RandomEvent × Lcg
 choose_inject g = (Inject (draw_host g).0 (draw_host (draw_host g).1).0, (draw_host (draw_host g).1).1)
 
-abbrev pub choose_send : Lcg → Choice × Lcg
+abbrev pub choose_send : Lcg → RandomEvent × Lcg
 choose_send g = (Send (draw_host g).0 (draw_dev (draw_host g).1).0, (draw_dev (draw_host g).1).1)
 
 -- 0 loses the lowest frame, 1 ticks, 2 and 3 inject, 4 to 9 send, 10 to 13 deliver the lowest, and 14 and 15 the highest
-unfoldable pub choose_by : ℕ → ℕ → ℕ → Lcg → Choice × Lcg
+unfoldable pub choose_by : ℕ → ℕ → ℕ → Lcg → RandomEvent × Lcg
 choose_by r lowest highest g =
     if r == 0 then (Lose lowest, g)
     else if r == 1 then choose_tick g
@@ -43,5 +43,5 @@ choose_by r lowest highest g =
     else (Deliver highest, g)
 
 -- the next choice; where nothing is on the wire, number 1 stands for the lowest and the highest
-unfoldable pub choose : Option ℕ → Option ℕ → Lcg → Choice × Lcg
+unfoldable pub choose : Option ℕ → Option ℕ → Lcg → RandomEvent × Lcg
 choose lowest highest g = choose_by (draw 16 g).0 (unwrap_or lowest 1) (unwrap_or highest 1) (draw 16 g).1

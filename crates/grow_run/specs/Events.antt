@@ -3,15 +3,15 @@ use Rattle.std.specs.Prelude.{ℕ, ◌≤◌, List}
 use Rattle.rand_pcg.specs.Lcg.{Lcg}
 use Rattle.plan_base.specs.declared.ids.Host.{Host}
 use Rattle.plan_base.specs.declared.tree.Chunk.{Chunk}
-use Rattle.network_plan.specs.declared.event.WorldEvent.{WorldEvent}
-use Rattle.grow_run.specs.declared.choice.Choice.{Choice}
-use Rattle.grow_run.specs.declared.choice.Choice.TheVariants.{Send}
-use Rattle.world_model.specs.World.{WorldState, history_of, opening}
-use Rattle.world_model.specs.declared.lines.Entry.{Entry}
+use Rattle.network_config.specs.declared.event.WorldEvent.{WorldEvent}
+use Rattle.grow_run.specs.declared.choice.RandomEvent.{RandomEvent}
+use Rattle.grow_run.specs.declared.choice.RandomEvent.TheVariants.{Send}
+use Rattle.net_world_spec.specs.World.{WorldState, history_of, opening}
+use Rattle.net_world_spec.specs.declared.lines.Entry.{Entry}
 use Rattle.grow_run.specs.Grow.{event_of, drawn_choice, ring, grown_events}
 
 -- a device is at most 8
-abbrev pub choice_fits : Choice → Type 0
+abbrev pub choice_fits : RandomEvent → Type 0
 choice_fits (Send h d) = d.0 ≤ 8
 choice_fits _ = Unit {0}
 

@@ -4,24 +4,24 @@ use Rattle.plan_base.specs.declared.stamp.Version.TheVariants.{One}
 use Rattle.rand_pcg.specs.Lcg.{Lcg}
 use Rattle.plan_base.specs.declared.ids.Host.{Host}
 use Rattle.plan_base.specs.declared.tree.Chunk.{Chunk}
-use Rattle.network_plan.specs.declared.schedule.Cable.{Cable}
-use Rattle.network_plan.specs.Hosts.{host_of, dev_of}
-use Rattle.network_plan.specs.declared.schedule.HostSpec.{HostSpec}
-use Rattle.network_plan.specs.declared.schedule.Topology.{Topology}
-use Rattle.network_plan.specs.declared.event.WorldEvent.{WorldEvent}
-use Rattle.network_plan.specs.declared.event.WorldEvent.TheVariants as event
-use Rattle.grow_run.specs.declared.choice.Choice.{Choice}
-use Rattle.grow_run.specs.declared.choice.Choice.TheVariants as choice
+use Rattle.network_config.specs.declared.schedule.Link.{Link}
+use Rattle.network_config.specs.Hosts.{host_of, dev_of}
+use Rattle.network_config.specs.declared.schedule.HostSpec.{HostSpec}
+use Rattle.network_config.specs.declared.schedule.Topology.{Topology}
+use Rattle.network_config.specs.declared.event.WorldEvent.{WorldEvent}
+use Rattle.network_config.specs.declared.event.WorldEvent.TheVariants as event
+use Rattle.grow_run.specs.declared.choice.RandomEvent.{RandomEvent}
+use Rattle.grow_run.specs.declared.choice.RandomEvent.TheVariants as choice
 use Rattle.grow_run.specs.Draws.{seeded_generator, choose}
-use Rattle.world_model.specs.Numbers.{lowest, highest}
-use Rattle.world_model.specs.World.{WorldState, happens, opening}
+use Rattle.net_world_spec.specs.Numbers.{lowest, highest}
+use Rattle.net_world_spec.specs.World.{WorldState, happens, opening}
 
 -- a host with all packages
 abbrev pub whole_host : ℕ → HostSpec
 whole_host n = record { host = host_of n; missing = [] }
 
 -- device 1 of a host leads to device 2 of the next
-abbrev pub ring_link : ℕ → ℕ → Cable
+abbrev pub ring_link : ℕ → ℕ → Link
 ring_link n m = record { from = host_of n; from_dev = dev_of 1; to = host_of m; to_dev = dev_of 2 }
 
 -- eight hosts in a ring, of version 1
@@ -33,7 +33,7 @@ ring = record {
 }
 
 -- the event that was drawn; what is injected is the ping from one host to the other
-abbrev pub event_of : (Host → Host → Chunk) → Choice → WorldEvent
+abbrev pub event_of : (Host → Host → Chunk) → RandomEvent → WorldEvent
 event_of ping (choice.Inject h g) = event.Inject h (ping h g) 20 None
 event_of ping (choice.Send h d) = event.Send h d
 event_of ping (choice.Deliver n) = event.Deliver n
@@ -41,7 +41,7 @@ event_of ping (choice.Lose n) = event.Lose n
 event_of ping (choice.Tick h) = event.Tick h
 
 -- what is drawn for the next event of a network
-abbrev pub drawn_choice : Lcg → WorldState → Choice × Lcg
+abbrev pub drawn_choice : Lcg → WorldState → RandomEvent × Lcg
 drawn_choice g w = choose (lowest w.wire) (highest w.wire) g
 
 -- the next event, and the generator after it: first each host ticks once, in order, with nothing drawn

@@ -5,18 +5,18 @@ use Rattle.plan_base.specs.declared.ids.Host.{Host}
 use Rattle.plan_base.specs.declared.tree.Chunk.{Chunk}
 use Rattle.bound_ledger.specs.declared.row.Row.{Row}
 use Rattle.bound_ledger.specs.Rows.{FamilyRow}
-use Rattle.node_model.specs.declared.acts.Act.{Act}
-use Rattle.node_model.specs.declared.acts.Act.TheVariants.{Dropped, AdvertDropped}
-use Rattle.world_model.specs.declared.lines.Line.{Line}
-use Rattle.world_model.specs.declared.lines.Line.TheVariants.{At, Lost}
-use Rattle.world_model.specs.declared.lines.Entry.{Entry}
-use Rattle.world_model.specs.World.{WorldState, world_after, history_of, opening}
-use Rattle.world_model.specs.Counts as count
-use Rattle.world_model.specs.Counts.{tally}
-use Rattle.world_model.specs.Texts.{families}
-use Rattle.world_model.specs.Visits.{line_ends}
+use Rattle.node_core_spec.specs.declared.acts.Act.{Act}
+use Rattle.node_core_spec.specs.declared.acts.Act.TheVariants.{Dropped, AdvertDropped}
+use Rattle.net_world_spec.specs.declared.lines.Line.{Line}
+use Rattle.net_world_spec.specs.declared.lines.Line.TheVariants.{At, Lost}
+use Rattle.net_world_spec.specs.declared.lines.Entry.{Entry}
+use Rattle.net_world_spec.specs.World.{WorldState, world_after, history_of, opening}
+use Rattle.net_world_spec.specs.Counts as count
+use Rattle.net_world_spec.specs.Counts.{tally}
+use Rattle.net_world_spec.specs.Texts.{families}
+use Rattle.net_world_spec.specs.Visits.{line_ends}
 use Rattle.grow_run.specs.declared.summary.Summary.{Summary}
-use Rattle.grow_run.specs.declared.sums.Sums.{Sums}
+use Rattle.grow_run.specs.declared.sums.Totals.{Totals}
 use Rattle.grow_run.specs.Grow.{Grow, ring}
 
 -- ---- lines
@@ -56,15 +56,15 @@ summary_of h = record {
 -- ---- all families
 
 -- sums with those of one more row
-abbrev pub plus : Sums → Row → Sums
+abbrev pub plus : Totals → Row → Totals
 plus a b = record { granted = a.granted + b.granted; hops = a.hops + b.hops; evals = a.evals + b.evals; live = a.live + b.live; left = a.left + b.left }
 
 -- each sum stays below 2^128 with n more
-abbrev pub SumsHaveRoom : ℕ → Sums → Type 0
+abbrev pub SumsHaveRoom : ℕ → Totals → Type 0
 SumsHaveRoom n s = (s.granted + n < 2 ^ 128) × (s.hops + n < 2 ^ 128) × (s.evals + n < 2 ^ 128) × (s.live + n < 2 ^ 128) × (s.left + n < 2 ^ 128)
 
 -- the sums of the counts of all rows
-unfoldable pub row_sums : List FamilyRow → Sums
+unfoldable pub row_sums : List FamilyRow → Totals
 row_sums rows = record {
   granted = sum_by (λ e. e.1.granted) rows;
   hops = sum_by (λ e. e.1.hops) rows;
@@ -74,7 +74,7 @@ row_sums rows = record {
 }
 
 -- the sums of the counts of all families of a history, and of what they have in a network
-unfoldable pub all_sums : List Entry → WorldState → Sums
+unfoldable pub all_sums : List Entry → WorldState → Totals
 all_sums h w = record {
   granted = sum_by (λ f. count.granted_sum f h) (families h);
   hops = sum_by (λ f. count.hops f h) (families h);
@@ -98,11 +98,11 @@ abbrev pub happened_text : Summary → List ℕ
 happened_text s = (codes "lines " ++ decimal s.lines) ++ ((codes "\nvisits " ++ decimal s.visits) ++ ((codes " drops " ++ decimal s.drops) ++ ((codes " lost " ++ decimal s.lost) ++ codes "\n")))
 
 -- what the families were granted, paid, have and left
-abbrev pub sums_text : Sums → List ℕ
+abbrev pub sums_text : Totals → List ℕ
 sums_text r = (codes "granted " ++ decimal r.granted) ++ ((codes " hops " ++ decimal r.hops) ++ ((codes " evals " ++ decimal r.evals) ++ ((codes " live " ++ decimal r.live) ++ ((codes " left " ++ decimal r.left) ++ codes "\n"))))
 
 -- a summary
-unfoldable pub summary_text : ℕ → ℕ → Summary → Sums → List ℕ
+unfoldable pub summary_text : ℕ → ℕ → Summary → Totals → List ℕ
 summary_text seed n s r = asked_text seed n ++ (size_text n ++ (happened_text s ++ (sums_text r ++ codes "end\n")))
 
 -- the summary of a history

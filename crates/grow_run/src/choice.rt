@@ -2,7 +2,7 @@ use plan_base::{Dev, Host};
 
 /// What is to happen next.
 #[derive(Clone, Copy, PartialEq, Eq)]
-pub enum Choice {
+pub enum RandomEvent {
     /// The first host injects a ping to the second.
     Inject(Host, Host),
     /// A host sends the first frame queued on a device, from 0 to 2.

@@ -1,7 +1,7 @@
 ghost use Rattle.std.specs.Prelude.{◌≡◌, ◌<◌};
 ghost use Rattle.grow_run.specs.Draws as spec;
 
-use crate::choice::Choice;
+use crate::choice::RandomEvent;
 use plan_base::{Dev, Host};
 use rand_core::utils::NextWord;
 use rand_pcg::Lcg64Xsh32;
@@ -35,35 +35,35 @@ fn draw_dev(words: &mut Lcg64Xsh32) -> Dev
     Dev(draw(words, 3))
 }
 
-fn choose_tick(words: &mut Lcg64Xsh32) -> Choice
+fn choose_tick(words: &mut Lcg64Xsh32) -> RandomEvent
     ensures { (result, words.new) ≡ spec.choose_tick words.old }
 {
-    Choice::Tick(draw_host(words))
+    RandomEvent::Tick(draw_host(words))
 }
 
-fn choose_inject(words: &mut Lcg64Xsh32) -> Choice
+fn choose_inject(words: &mut Lcg64Xsh32) -> RandomEvent
     ensures { (result, words.new) ≡ spec.choose_inject words.old }
 {
     let from = draw_host(words);
     let to = draw_host(words);
-    Choice::Inject(from, to)
+    RandomEvent::Inject(from, to)
 }
 
-fn choose_send(words: &mut Lcg64Xsh32) -> Choice
+fn choose_send(words: &mut Lcg64Xsh32) -> RandomEvent
     ensures { (result, words.new) ≡ spec.choose_send words.old }
 {
     let host = draw_host(words);
     let dev = draw_dev(words);
-    Choice::Send(host, dev)
+    RandomEvent::Send(host, dev)
 }
 
 /// The choice after the first draw, which is below 16.
 #[tactic(auto, unfolding(crate::specs::Draws::choose_by))]
-fn choose_by(words: &mut Lcg64Xsh32, r: u32, lowest: u32, highest: u32) -> Choice
+fn choose_by(words: &mut Lcg64Xsh32, r: u32, lowest: u32, highest: u32) -> RandomEvent
     ensures { (result, words.new) ≡ spec.choose_by r lowest highest words.old }
 {
     if r == 0 {
-        Choice::Lose(lowest)
+        RandomEvent::Lose(lowest)
     } else if r == 1 {
         choose_tick(words)
     } else if r < 4 {
@@ -71,16 +71,16 @@ fn choose_by(words: &mut Lcg64Xsh32, r: u32, lowest: u32, highest: u32) -> Choic
     } else if r < 10 {
         choose_send(words)
     } else if r < 14 {
-        Choice::Deliver(lowest)
+        RandomEvent::Deliver(lowest)
     } else {
-        Choice::Deliver(highest)
+        RandomEvent::Deliver(highest)
     }
 }
 
 /// The next choice, where these are the lowest and the highest number on the wire. Where nothing is on the
 /// wire, number 1 stands for both.
 #[tactic(auto, unfolding(crate::specs::Draws::choose))]
-pub fn choose(words: &mut Lcg64Xsh32, lowest: Option<u32>, highest: Option<u32>) -> Choice
+pub fn choose(words: &mut Lcg64Xsh32, lowest: Option<u32>, highest: Option<u32>) -> RandomEvent
     ensures { (result, words.new) ≡ spec.choose lowest highest words.old }
 {
     let r = draw(words, 16);

@@ -1,17 +1,18 @@
 ghost use Rattle.std.specs.Prelude.{◌≡◌, ◌≤◌, IfOk};
-ghost use Rattle.world_model.specs.World.{WorldState};
-ghost use Rattle.world_model.specs.Sound.{event_fits};
+ghost use Rattle.net_world_spec.specs.World.{WorldState};
+ghost use Rattle.net_world_spec.specs.Sound.{event_fits};
 ghost use Rattle.plan_base.specs.declared.stamp.Version.TheVariants.{One};
 ghost use Rattle.grow_run.specs.Grow as grow;
 ghost use Rattle.net_world.specs.Stands.{WorldStands};
 ghost use Rattle.grow_run.specs.Pings as spec;
 ghost use Rattle.grow_run.specs.Events.{choice_fits, drawn_event};
 
+use crate::choice::RandomEvent;
+use crate::draws::choose;
 use crate::pings::ping;
-use crate::{Choice, choose};
 use checked_chunks::Checked;
 use net_world::World;
-use network_plan::WorldEvent;
+use network_config::WorldEvent;
 use plan_base::{Host, NoMemory};
 use rand_pcg::Lcg64Xsh32;
 use service_api::Services;
@@ -24,20 +25,20 @@ const PING_BOUND: u32 = 20;
 const HOSTS: u32 = 8;
 
 /// The event that was drawn.
-fn event_of(alloc: Global, code: &Checked, choice: Choice) -> Result<WorldEvent, NoMemory>
+fn event_of(alloc: Global, code: &Checked, choice: RandomEvent) -> Result<WorldEvent, NoMemory>
     requires { choice_fits choice }
     ensures event { IfOk result (λ e. e ≡ grow.event_of (spec.ping code.now) choice) }
     ensures fits { IfOk result (event_fits One) }
 {
     match choice {
-        Choice::Inject(from, to) => {
+        RandomEvent::Inject(from, to) => {
             let chunk = ping(alloc, code, from, to)?;
             Ok(WorldEvent::Inject(from, chunk, PING_BOUND, None))
         }
-        Choice::Send(host, dev) => Ok(WorldEvent::Send(host, dev)),
-        Choice::Deliver(number) => Ok(WorldEvent::Deliver(number)),
-        Choice::Lose(number) => Ok(WorldEvent::Lose(number)),
-        Choice::Tick(host) => Ok(WorldEvent::Tick(host)),
+        RandomEvent::Send(host, dev) => Ok(WorldEvent::Send(host, dev)),
+        RandomEvent::Deliver(number) => Ok(WorldEvent::Deliver(number)),
+        RandomEvent::Lose(number) => Ok(WorldEvent::Lose(number)),
+        RandomEvent::Tick(host) => Ok(WorldEvent::Tick(host)),
     }
 }
 

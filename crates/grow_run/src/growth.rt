@@ -1,31 +1,34 @@
 ghost use Rattle.std.specs.Prelude.{◌≡◌, ◌≤◌, List, map, IfOk, OnOk};
 ghost use Rattle.plan_base.specs.declared.ids.Family.{Family};
 ghost use Rattle.grow_run.specs.Draws.{seeded_generator};
-ghost use Rattle.world_model.specs.declared.lines.Entry.{Entry};
-ghost use Rattle.world_model.specs.World.{WorldState, opening, opening_services};
-ghost use Rattle.world_model.specs.Counts.{Balanced};
-ghost use Rattle.run_ledger.specs.Stands.{Stands};
+ghost use Rattle.net_world_spec.specs.declared.lines.Entry.{Entry};
+ghost use Rattle.net_world_spec.specs.World.{WorldState, opening, opening_services};
+ghost use Rattle.net_world_spec.specs.Counts.{Balanced};
+ghost use Rattle.bound_ledger.specs.Stands.{Stands};
 ghost use Rattle.net_world.specs.Stands.{WorldStands};
 ghost use Rattle.grow_run.specs.Grow as grow;
 ghost use Rattle.grow_run.specs.Growths.{IsAtOpening, CanMake, MakesEvent, HasMade};
 ghost use Rattle.grow_run.specs.Summaries.{summary_of, grown_text};
 ghost use Rattle.grow_run.specs.Pings as spec;
 
+use crate::draws::begin;
 use crate::events::next_event;
-use crate::{Summary, begin, put_summary, ring, totals};
-use bound_ledger::Ledger;
+use crate::summary::Summary;
+use crate::sums::totals;
+use crate::text::put_summary;
+use crate::topology::ring;
+use bound_ledger::{Ledger, count_lines};
 use checked_chunks::Checked;
+use containers::Items;
 use net_world::World;
-use network_plan::WorldEvent;
+use network_config::WorldEvent;
 use plan_base::{Bytes, NoMemory};
-use plan_items::Items;
 use rand_pcg::Lcg64Xsh32;
-use run_ledger::count_lines;
 use service_api::Services;
 use std::alloc::Global;
 
 /// A network while it grows, and what is counted of it.
-pub struct Growth<S: Services> {
+pub struct GrowingNetwork<S: Services> {
     world: World<S>,
     words: Lcg64Xsh32,
     ledger: Ledger,
@@ -33,9 +36,9 @@ pub struct Growth<S: Services> {
 }
 
 // (with a drop of its own, so that what lets one go need not prove again how its parts are dropped)
-impl<S: Services + Drop> Drop for Growth<S> {
+impl<S: Services + Drop> Drop for GrowingNetwork<S> {
     fn drop(self) {
-        let Growth {
+        let GrowingNetwork {
             world: _world,
             words: _words,
             ledger: _ledger,
@@ -53,16 +56,20 @@ fn ring_world<S: Services + Drop>(alloc: Global, services: Items<S>) -> Result<W
     World::new(alloc, &topology, services)
 }
 
-impl<S: Services + Drop> Growth<S> {
+impl<S: Services + Drop> GrowingNetwork<S> {
     /// The network of a seed before its first event. `services`: one for each host, in the order of hosts.
-    pub fn begin(alloc: Global, seed: u64, services: Items<S>) -> Result<Growth<S>, NoMemory>
+    pub fn begin(
+        alloc: Global,
+        seed: u64,
+        services: Items<S>,
+    ) -> Result<GrowingNetwork<S>, NoMemory>
         requires services { map S.stands services ≡ map opening_services grow.ring.hosts }
         ensures fresh { IfOk result (λ g. IsAtOpening S.stands g) }
         ensures words { IfOk result (λ g. g.words ≡ seeded_generator seed) }
     {
         let ledger = Ledger::new(alloc)?;
         let world = ring_world(alloc, services)?;
-        Ok(Growth {
+        Ok(GrowingNetwork {
             world,
             words: begin(seed),
             ledger,
@@ -71,7 +78,7 @@ impl<S: Services + Drop> Growth<S> {
     }
 }
 
-impl<S: Services> Growth<S> {
+impl<S: Services> GrowingNetwork<S> {
     /// Makes an event and counts its lines.
     fn make(&mut self, alloc: Global, event: WorldEvent) -> Result<(), NoMemory>
         requires { CanMake S.stands self.old event }

@@ -1,11 +1,11 @@
 ghost use Rattle.std.specs.Prelude.{◌≡◌, ℕ, List};
 ghost use Rattle.plan_base.specs.declared.ids.Family.{Family};
 ghost use Rattle.bound_ledger.specs.Rows.{FamilyRow, OneEach};
-ghost use Rattle.world_model.specs.declared.lines.Entry.{Entry};
-ghost use Rattle.world_model.specs.World.{WorldState};
-ghost use Rattle.world_model.specs.Counts.{Balanced};
-ghost use Rattle.run_ledger.specs.Stands.{Stands};
-ghost use Rattle.network_plan.specs.Rules.{KeepsNetwork};
+ghost use Rattle.net_world_spec.specs.declared.lines.Entry.{Entry};
+ghost use Rattle.net_world_spec.specs.World.{WorldState};
+ghost use Rattle.net_world_spec.specs.Counts.{Balanced};
+ghost use Rattle.bound_ledger.specs.Stands.{Stands};
+ghost use Rattle.network_config.specs.Rules.{KeepsNetwork};
 ghost use Rattle.grow_run.specs.Grow.{ring};
 ghost use Rattle.grow_run.specs.Summaries.{summary_of, row_sums, summary_text, grown_text};
 

@@ -14,10 +14,10 @@ mod sums;
 mod text;
 mod topology;
 
-pub use choice::Choice;
+pub use choice::RandomEvent;
 pub use draws::{begin, choose};
 pub use run::grow;
 pub use summary::Summary;
-pub use sums::{Sums, totals};
+pub use sums::{Totals, totals};
 pub use text::put_summary;
 pub use topology::ring;

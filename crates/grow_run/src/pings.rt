@@ -7,9 +7,9 @@ ghost use Rattle.program_text.specs.Texts.{program_of};
 ghost use Rattle.grow_run.specs.Pings as spec;
 
 use checked_chunks::{Checked, CheckedChunk};
-use chunk_types::chunk_of;
+use containers::Items;
 use plan_base::{Host, Name, NoMemory, Value, Values};
-use plan_items::Items;
+use plan_types_chunks::chunk_of;
 use program_text::read_program;
 use std::alloc::Global;
 

@@ -1,14 +1,14 @@
 ghost use Rattle.std.specs.Prelude.{◌≡◌, ◌≤◌, map, IfOk};
-ghost use Rattle.world_model.specs.World.{opening_services};
+ghost use Rattle.net_world_spec.specs.World.{opening_services};
 ghost use Rattle.grow_run.specs.Grow.{ring};
 ghost use Rattle.grow_run.specs.Pings.{OfGrown, Grows};
 
-use crate::growth::Growth;
+use crate::growth::GrowingNetwork;
 use crate::pings::ping_program;
+use containers::Items;
 use net_world::RunFault;
 use node_io::{Sink, put_all};
 use plan_base::{Bytes, NoMemory};
-use plan_items::Items;
 use service_api::Services;
 use std::alloc::Global;
 
@@ -24,7 +24,7 @@ fn grown_bytes<S: Services + Drop>(
     ensures { IfOk result (λ text. OfGrown seed events (λ whole. text ≡ whole)) }
 {
     let code = ping_program(alloc)?;
-    let mut growth = Growth::begin(alloc, seed, services)?;
+    let mut growth = GrowingNetwork::begin(alloc, seed, services)?;
     growth.grow(alloc, &code, events)?;
     growth.text(alloc, seed, events)
 }

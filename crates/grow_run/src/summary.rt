@@ -1,11 +1,11 @@
 ghost use Rattle.std.specs.Prelude.{◌≡◌, ◌≤◌, ◌+◌, ◌++◌, ℕ, List, [], length, map};
-ghost use Rattle.world_model.specs.declared.lines.Entry.{Entry};
-ghost use Rattle.world_model.specs.World.{entry_at};
-ghost use Rattle.world_model.specs.Visits.{line_ends};
+ghost use Rattle.net_world_spec.specs.declared.lines.Entry.{Entry};
+ghost use Rattle.net_world_spec.specs.World.{entry_at};
+ghost use Rattle.net_world_spec.specs.Visits.{line_ends};
 ghost use Rattle.grow_run.specs.Summaries as spec;
 
-use node_model::Act;
-use world_model::Line;
+use net_world_spec::Line;
+use node_core_spec::Act;
 
 /// What happened in a network so far.
 #[derive(Clone, Copy, PartialEq, Eq)]

@@ -6,7 +6,7 @@ use bound_ledger::{Ledger, Row};
 
 /// The sums of the counts of some rows.
 #[derive(Clone, Copy, PartialEq, Eq)]
-pub struct Sums {
+pub struct Totals {
     /// What they were granted.
     pub granted: u128,
     /// What they paid for hops.
@@ -20,11 +20,11 @@ pub struct Sums {
 }
 
 /// The sums with those of one more row. Condition: each has room for a number of 64 bits.
-fn plus(sums: Sums, row: Row) -> Sums
+fn plus(sums: Totals, row: Row) -> Totals
     requires { spec.SumsHaveRoom (2 ^ 64) sums }
     ensures { result ≡ spec.plus sums row }
 {
-    Sums {
+    Totals {
         granted: sums.granted + u128::from(row.granted),
         hops: sums.hops + u128::from(row.hops),
         evals: sums.evals + u128::from(row.evals),
@@ -34,11 +34,11 @@ fn plus(sums: Sums, row: Row) -> Sums
 }
 
 /// The sums of all rows.
-pub fn totals(ledger: &Ledger) -> Sums
+pub fn totals(ledger: &Ledger) -> Totals
     ensures sums { result ≡ spec.row_sums ledger.now }
     ensures once { OneEach ledger.now }
 {
-    let mut sums = Sums {
+    let mut sums = Totals {
         granted: 0,
         hops: 0,
         evals: 0,

@@ -3,7 +3,7 @@ ghost use Rattle.std.specs.Fmt.{decimal};
 ghost use Rattle.grow_run.specs.Summaries as spec;
 
 use crate::summary::Summary;
-use crate::sums::Sums;
+use crate::sums::Totals;
 use itoa::Buffer;
 use plan_base::{Bytes, NoMemory};
 use std::alloc::Global;
@@ -46,7 +46,7 @@ fn put_happened(out: &mut Bytes, summary: Summary) -> Result<(), NoMemory>
     Ok(())
 }
 
-fn put_sums(out: &mut Bytes, sums: Sums) -> Result<(), NoMemory>
+fn put_sums(out: &mut Bytes, sums: Totals) -> Result<(), NoMemory>
     ensures { OnOk result (out.new ≡ out.old ++ spec.sums_text sums) }
 {
     put_count(out, b"granted ", sums.granted)?;
@@ -65,7 +65,7 @@ fn put_summary_text(
     seed: u64,
     events: u64,
     summary: Summary,
-    sums: Sums,
+    sums: Totals,
 ) -> Result<(), NoMemory>
     ensures { OnOk result (out.new ≡ out.old ++ spec.summary_text seed events summary sums) }
 {
@@ -85,7 +85,7 @@ pub fn put_summary(
     seed: u64,
     events: u64,
     summary: Summary,
-    sums: Sums,
+    sums: Totals,
 ) -> Result<(), NoMemory>
     ensures whole { OnOk result
         (out.new ≡ out.old ++ spec.summary_text seed events summary sums) }

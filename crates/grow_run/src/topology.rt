@@ -1,9 +1,9 @@
 ghost use Rattle.std.specs.Prelude.{◌≡◌, ◌++◌, ◌∷◌, [], IfOk, OnOk};
 ghost use Rattle.grow_run.specs.Grow as spec;
 
+use containers::Items;
+use network_config::{HostSpec, HostSpecs, Link, Links, Topology};
 use plan_base::{Dev, Host, NoMemory, Version};
-use network_plan::{Cable, HostSpec, HostSpecs, Links, Topology};
-use plan_items::Items;
 use std::alloc::Global;
 
 /// Adds a host that lacks no package.
@@ -21,7 +21,7 @@ fn add_host(alloc: Global, hosts: &mut HostSpecs, n: u32) -> Result<(), NoMemory
 fn add_link(links: &mut Links, n: u32, m: u32) -> Result<(), NoMemory>
     ensures { OnOk result (links.new ≡ links.old ++ spec.ring_link n m ∷ []) }
 {
-    let link = Cable {
+    let link = Link {
         from: Host(n),
         from_dev: Dev(1),
         to: Host(m),

@@ -10,18 +10,18 @@ use Rattle.packet_frame.specs.declared.frame.PlainStamped.{PlainStamped}
 use Rattle.packet_frame.specs.Stamped.{stamped_bytes}
 use Rattle.packet_frame.specs.Decoding.{read_by}
 use Rattle.packet_frame.proofs.Versions.{found_by}
-use Rattle.network_plan.specs.declared.event.Event.{Event}
-use Rattle.network_plan.specs.declared.event.Event.TheVariants as event
-use Rattle.network_plan.specs.declared.event.LogEvent.{LogEvent}
-use Rattle.network_plan.specs.declared.event.LogEvent.TheVariants.{Step, Lost}
-use Rattle.node_model.specs.declared.acts.Act.{Act}
-use Rattle.node_model.specs.State.{NodeState, no_queues}
-use Rattle.node_model.specs.Node.{node_step}
-use Rattle.node_model.specs.Counts.{act_sum, act_granted, act_hops, act_evals, act_left, node_live, frame_live, taken_sum, if_fresh, bytes_came, came, queues_sum, queue_sum}
-use Rattle.node_model.proofs.NodeBalance.{step_balances}
-use Rattle.node_model.proofs.CountLaws.{act_sum-append}
-use Rattle.serve_model.specs.Runs.{acts_of, node_by, node_after}
-use Rattle.world_model.specs.World.{Cables}
+use Rattle.network_config.specs.declared.event.Event.{Event}
+use Rattle.network_config.specs.declared.event.Event.TheVariants as event
+use Rattle.network_config.specs.declared.event.LogEvent.{LogEvent}
+use Rattle.network_config.specs.declared.event.LogEvent.TheVariants.{Step, Lost}
+use Rattle.node_core_spec.specs.declared.acts.Act.{Act}
+use Rattle.node_core_spec.specs.State.{NodeState, no_queues}
+use Rattle.node_core_spec.specs.Node.{node_step}
+use Rattle.node_core_spec.specs.Counts.{act_sum, act_granted, act_hops, act_evals, act_left, node_live, frame_live, taken_sum, if_fresh, bytes_came, came, queues_sum, queue_sum}
+use Rattle.node_core_spec.proofs.NodeBalance.{step_balances}
+use Rattle.node_core_spec.proofs.CountLaws.{act_sum-append}
+use Rattle.node_log.specs.Runs.{acts_of, node_by, node_after}
+use Rattle.net_world_spec.specs.World.{Cables}
 use Rattle.ledger_audit.specs.Crossings.{Crossing, Arrival, crossings, AtMost}
 use Rattle.ledger_audit.specs.Runs.{is_accepted, accepts, sends_frame, sends, numbered_arrivals, accepted_in, sent_in, acts_in, crossing_to, crossing_from}
 use Rattle.ledger_audit.specs.Audits.{Logged, all_accepted, all_sent, read_live, crossing_live, granted_sum, hops, evals, left_sum, queued_sum, AddsUp}

@@ -10,7 +10,7 @@ use Rattle.packet_frame.specs.declared.frame.PlainStamped.{PlainStamped}
 use Rattle.packet_frame.specs.declared.fault.FrameFault.{FrameFault}
 use Rattle.packet_frame.specs.Stamped.{stamped_bytes}
 use Rattle.packet_frame.specs.Decoding.{read_by}
-use Rattle.node_model.specs.Numbers.{link_in, numbers_in, Ascend}
+use Rattle.node_core_spec.specs.Numbers.{link_in, numbers_in, Ascend}
 use Rattle.ledger_audit.specs.Audits.{version_in}
 use Rattle.ledger_audit.proofs.Takings.{IsStamped, Reads}
 

@@ -1,3 +1,12 @@
+pub mod LookUps
+pub mod TallyLaws
+pub mod ActLaws
+pub mod PastLaws
+pub mod JudgeLaws
+pub mod VerdictLaws
+pub mod TextLaws
+pub mod Injecting
+pub mod Ordering
 pub mod Takings
 pub mod Counting
 pub mod Sendings

@@ -6,8 +6,8 @@ use Rattle.std.proofs.lemmas.Slice.Eq.{bytes_eq-Decides}
 use Rattle.std.proofs.lemmas.Bool.{eqb-true}
 use Rattle.std.proofs.lemmas.List.Sums.{sum_by-cons}
 use Rattle.std.proofs.lemmas.Bool.Decides.{nat_tests}
-use Rattle.plan_items.proofs.Bools.{both_true}
-use Rattle.world_model.specs.declared.lines.LinkEnd.{LinkEnd}
+use Rattle.containers.proofs.Bools.{both_true}
+use Rattle.net_world_spec.specs.declared.lines.LinkEnd.{LinkEnd}
 use Rattle.ledger_audit.specs.Crossings.{Crossing, same_end, same_crossing, times, Arrival, first_over, crossings, AtMost, less_one, less_each}
 
 -- ---- the test

@@ -9,10 +9,10 @@ use Rattle.packet_frame.specs.declared.frame.PlainFrame.{PlainFrame}
 use Rattle.packet_frame.specs.declared.fault.FrameFault.{FrameFault}
 use Rattle.packet_frame.specs.declared.frame.PlainStamped.{PlainStamped}
 use Rattle.packet_frame.specs.Decoding.{read_by}
-use Rattle.spelled_frame.specs.Spelled.{IsOnItsWay}
+use Rattle.packet_frame.specs.Spelled.{IsOnItsWay}
 use Rattle.plan_base.specs.declared.stamp.Stamp.{Stamp}
-use Rattle.link_window.specs.declared.window.Took.{Took}
-use Rattle.link_window.specs.declared.window.Took.TheVariants.{Fresh, Repeated, TooOld}
+use Rattle.replay_window.specs.declared.window.Took.{Took}
+use Rattle.replay_window.specs.declared.window.Took.TheVariants.{Fresh, Repeated, TooOld}
 use Rattle.plan_base.specs.declared.name.Name.{Name}
 use Rattle.service_api.specs.declared.answer.Note.{Note}
 use Rattle.service_api.specs.declared.router.Hop.{Hop}
@@ -21,18 +21,18 @@ use Rattle.service_api.specs.Routes.{hop}
 use Rattle.dv_routing.specs.Routing.{all_routes}
 use Rattle.service_api.specs.declared.advert.Advert.{Advert}
 use Rattle.plan_meaning.specs.declared.sent.Sent.{Sent}
-use Rattle.network_plan.specs.declared.event.Event.{Event}
-use Rattle.network_plan.specs.declared.event.Event.TheVariants as event
-use Rattle.node_model.specs.declared.acts.Act.{Act}
-use Rattle.node_model.specs.declared.acts.Act.TheVariants.{Arrived, Noted, Ended, Dropped, Asked}
-use Rattle.node_model.specs.declared.acts.Reason.TheVariants as reason
-use Rattle.node_model.specs.declared.acts.Lane.{Lane}
-use Rattle.node_model.specs.State.{Queues, NodeState, routing_of, is_host}
-use Rattle.settled_visit.specs.declared.settling.Settled.{Settled}
-use Rattle.node_model.specs.Visits.{visit_at, settled_at}
-use Rattle.node_model.specs.Node.{node_step, arrive_step, arrived_read, asked_plain, asked_read, drop_act, lane_room, mark, takes_as, stamped_as, stamped_step, control_step, packet_step, forward_step, forward_by, frame_step, visit_step, handled_acts, visit_acts, visit_sends, sends_acts, send_act, send_queues, has_room, packet_sending}
-use Rattle.node_model.proofs.Staying.{inject_frame, arrive_frame, tick_frame}
-use Rattle.node_model.specs.Counts.{came, frame_live, if_fresh, bytes_came}
+use Rattle.network_config.specs.declared.event.Event.{Event}
+use Rattle.network_config.specs.declared.event.Event.TheVariants as event
+use Rattle.node_core_spec.specs.declared.acts.Act.{Act}
+use Rattle.node_core_spec.specs.declared.acts.Act.TheVariants.{Arrived, Noted, Ended, Dropped, Asked}
+use Rattle.node_core_spec.specs.declared.acts.Reason.TheVariants as reason
+use Rattle.node_core_spec.specs.declared.acts.TxQueue.{TxQueue}
+use Rattle.node_core_spec.specs.State.{Queues, NodeState, routing_of, is_host}
+use Rattle.plan_eval_settle.specs.declared.settling.Settled.{Settled}
+use Rattle.node_core_spec.specs.Visits.{visit_at, settled_at}
+use Rattle.node_core_spec.specs.Node.{node_step, arrive_step, arrived_read, asked_plain, asked_read, drop_act, lane_room, mark, takes_as, stamped_as, stamped_step, control_step, packet_step, forward_step, forward_by, frame_step, visit_step, handled_acts, visit_acts, visit_sends, sends_acts, send_act, send_queues, has_room, packet_sending}
+use Rattle.node_core_spec.proofs.Staying.{inject_frame, arrive_frame, tick_frame}
+use Rattle.node_core_spec.specs.Counts.{came, frame_live, if_fresh, bytes_came}
 use Rattle.ledger_audit.specs.Runs.{is_refusal, is_accepted}
 
 abbrev Clean : List Act → Type 0
@@ -62,11 +62,11 @@ clean_send m queues s = by (has_room queues (packet_sending m s).dev (packet_sen
     full true = refl
     full false = refl
 
-    unsent : (o : Option Lane) → is_refusal (drop_act o (packet_sending m s)) ≡ false
+    unsent : (o : Option TxQueue) → is_refusal (drop_act o (packet_sending m s)) ≡ false
     unsent None = refl
     unsent (Some lane) = full (lane_room lane)
 
-    by : (t : Bool) (o : Option Lane) → is_refusal (if t then (packet_sending m s).queued else drop_act o (packet_sending m s)) ≡ false
+    by : (t : Bool) (o : Option TxQueue) → is_refusal (if t then (packet_sending m s).queued else drop_act o (packet_sending m s)) ≡ false
     by true o = refl
     by false o = unsent o
 

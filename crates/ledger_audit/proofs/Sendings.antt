@@ -10,22 +10,21 @@ use Rattle.plan_base.specs.declared.ids.Host.{Host}
 use Rattle.plan_base.specs.declared.ids.Dev.{Dev}
 use Rattle.packet_frame.specs.declared.frame.PlainStamped.{PlainStamped}
 use Rattle.packet_frame.specs.Stamped.{stamped_bytes}
-use Rattle.network_plan.specs.declared.event.Event.TheVariants as event
-use Rattle.network_plan.specs.declared.event.LogEvent.{LogEvent}
-use Rattle.network_plan.specs.declared.event.LogEvent.TheVariants.{Step, Lost}
-use Rattle.node_model.specs.declared.acts.Lane.{Lane}
-use Rattle.node_model.specs.State.{NodeState, Queues, no_lane, no_queues}
-use Rattle.node_model.specs.Node.{node_step}
-use Rattle.node_model.specs.Numbers.{NumbersFit, FitsAt}
-use Rattle.serve_model.specs.Runs.{node_by}
-use Rattle.world_model.specs.declared.lines.LinkEnd.{LinkEnd}
-use Rattle.world_model.specs.World.{Cables}
+use Rattle.network_config.specs.declared.event.Event.TheVariants as event
+use Rattle.network_config.specs.declared.event.LogEvent.{LogEvent}
+use Rattle.network_config.specs.declared.event.LogEvent.TheVariants.{Step, Lost}
+use Rattle.node_core_spec.specs.declared.acts.TxQueue.{TxQueue}
+use Rattle.node_core_spec.specs.State.{NodeState, Queues, no_lane, no_queues}
+use Rattle.node_core_spec.specs.Node.{node_step}
+use Rattle.node_core_spec.specs.Numbers.{NumbersFit, FitsAt}
+use Rattle.net_world_spec.specs.declared.lines.LinkEnd.{LinkEnd}
+use Rattle.net_world_spec.specs.World.{Cables}
 use Rattle.ledger_audit.specs.Crossings.{Crossing, same_crossing, times, crossings}
 use Rattle.ledger_audit.specs.Runs.{crossing_from, sends_frame, sends, sent_in}
 use Rattle.ledger_audit.specs.Audits.{Logged, misfit, all_accepted, all_sent}
 use Rattle.ledger_audit.proofs.Multisets.{crossing_is, verdict_only}
 use Rattle.ledger_audit.specs.Once.{IsOfTwo, HostsApart}
-use Rattle.ledger_audit.proofs.Takings.{as_list, frames_by, frames_from, frames_rise, frames_read, frames_stamped, step_same}
+use Rattle.ledger_audit.proofs.Takings.{as_list, frames_from, frames_rise, frames_read, frames_stamped, step_same}
 use Rattle.ledger_audit.proofs.Counting.{count, counted_once}
 
 times-append : (c : Crossing) (xs ys : List Crossing) → times c (xs ++ ys) ≡ times c xs + times c ys
@@ -120,7 +119,7 @@ module _ (c : Crossing) (h : Host) (d : Dev) (from : c.from ≡ end h d) where
       frame_here s.here e (node_step s (event.Take e)).frame (sent_in (node_step s (event.Take e)).node es) (frames_from d (node_step s (event.Take e)).node es) (sent_here (node_step s (event.Take e)).node es)
 
 -- nothing is queued at first
-lane_is : (n link d : ℕ) (lane : Lane) → slice_get (replicate n (no_lane link)) d ≡ Some lane → no_lane link ≡ lane
+lane_is : (n link d : ℕ) (lane : TxQueue) → slice_get (replicate n (no_lane link)) d ≡ Some lane → no_lane link ≡ lane
 lane_is zero link d lane e = absurd (cc)
 lane_is (suc n) link zero lane e = cc
 lane_is (suc n) link (suc d) lane e = lane_is n link d lane e

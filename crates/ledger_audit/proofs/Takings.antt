@@ -14,22 +14,22 @@ use Rattle.packet_frame.specs.declared.frame.PlainFrame.{PlainFrame}
 use Rattle.packet_frame.specs.declared.frame.PlainStamped.{PlainStamped}
 use Rattle.packet_frame.specs.declared.fault.FrameFault.{FrameFault}
 use Rattle.packet_frame.specs.Decoding.{read_by}
-use Rattle.network_plan.specs.declared.event.Event.{Event}
-use Rattle.network_plan.specs.declared.event.Event.TheVariants as event
-use Rattle.network_plan.specs.declared.event.LogEvent.{LogEvent}
-use Rattle.network_plan.specs.declared.event.LogEvent.TheVariants.{Step, Lost}
-use Rattle.node_model.specs.declared.acts.Act.{Act}
-use Rattle.node_model.specs.declared.acts.Act.TheVariants.{Injected, Asked}
-use Rattle.node_model.specs.declared.acts.Lane.{Lane}
-use Rattle.node_model.specs.State.{Queues, NodeState}
-use Rattle.node_model.specs.Node.{NodeStep as Stepped, take_first, take_from, take_step, next_serial, injected_packet, inject_step, visit_step, asked_plain, asked_read, control_step, node_step}
-use Rattle.node_model.specs.Numbers.{link_in, numbers_in, Ascend, NumbersFit, FitsAt}
-use Rattle.node_model.specs.Fits.{IsMarked, NodeFits, comes_fit}
-use Rattle.node_model.proofs.Numbers.{taken_fits, event_rises}
-use Rattle.node_model.proofs.Staying.{visited_stays, arrive_stays, tick_stays, take_stays, inject_stays}
-use Rattle.node_model.proofs.Fitting.{FrameTaken, step_fits}
-use Rattle.serve_model.specs.Runs.{node_by}
-use Rattle.ledger_audit.specs.Spelling.{FrameReads, EntryReads, EntriesRead}
+use Rattle.network_config.specs.declared.event.Event.{Event}
+use Rattle.network_config.specs.declared.event.Event.TheVariants as event
+use Rattle.network_config.specs.declared.event.LogEvent.{LogEvent}
+use Rattle.network_config.specs.declared.event.LogEvent.TheVariants.{Step, Lost}
+use Rattle.node_core_spec.specs.declared.acts.Act.{Act}
+use Rattle.node_core_spec.specs.declared.acts.Act.TheVariants.{Injected, Asked}
+use Rattle.node_core_spec.specs.declared.acts.TxQueue.{TxQueue}
+use Rattle.node_core_spec.specs.State.{Queues, NodeState}
+use Rattle.node_core_spec.specs.Node.{NodeStep as Stepped, take_first, take_from, take_step, next_serial, injected_packet, inject_step, visit_step, asked_plain, asked_read, control_step, node_step}
+use Rattle.node_core_spec.specs.Numbers.{link_in, numbers_in, Ascend, NumbersFit, FitsAt}
+use Rattle.node_core_spec.specs.Fits.{IsMarked, NodeFits, comes_fit}
+use Rattle.node_core_spec.proofs.Numbers.{taken_fits, event_rises}
+use Rattle.node_core_spec.proofs.Staying.{visited_stays, arrive_stays, tick_stays, take_stays, inject_stays}
+use Rattle.node_core_spec.proofs.Fitting.{FrameTaken, step_fits}
+use Rattle.node_log.specs.Runs.{node_by}
+use Rattle.ledger_audit.specs.Spelling.{FrameReads, EntriesRead}
 use Rattle.ledger_audit.specs.Once.{EntriesFit}
 
 -- ---- what is taken from a device
@@ -48,14 +48,14 @@ frames_from d s (e ∷ es) = frames_by d s e ++ frames_from d (node_by s e) es
 
 -- ---- numbers
 
-get_set_other : (queues : Queues) (at d : ℕ) (new : Lane) → at ≢ d → slice_get (slice_set queues at new) d ≡ slice_get queues d
+get_set_other : (queues : Queues) (at d : ℕ) (new : TxQueue) → at ≢ d → slice_get (slice_set queues at new) d ≡ slice_get queues d
 get_set_other [] at d new n = refl
 get_set_other (l ∷ queues) zero zero new n = absurd (n refl)
 get_set_other (l ∷ queues) zero (suc d) new n = refl
 get_set_other (l ∷ queues) (suc at) zero new n = refl
 get_set_other (l ∷ queues) (suc at) (suc d) new n = get_set_other queues at d new (λ e. n (ap suc e))
 
-get_set_same : (queues : Queues) (at : ℕ) (old new : Lane) → slice_get queues at ≡ Some old → slice_get (slice_set queues at new) at ≡ Some new
+get_set_same : (queues : Queues) (at : ℕ) (old new : TxQueue) → slice_get queues at ≡ Some old → slice_get (slice_set queues at new) at ≡ Some new
 get_set_same [] at old new e = absurd (cc)
 get_set_same (l ∷ queues) zero old new e = refl
 get_set_same (l ∷ queues) (suc at) old new e = get_set_same queues at old new e
@@ -90,9 +90,9 @@ module _ (before : List ℕ) (d : Dev) (s : NodeState) (f : FitsAt before d.0 s.
         ascend = subst Ascend same (ascend_left (before ++ link_in x.stamp) (numbers_in queue) rest.ascend);
       }
     where
-      is_new : (l : Lane) → slice_get (slice_set s.queues e.0 (record { frames = queue; number = n })) d.0 ≡ Some l → ◌≡◌ {A = Lane} (record { frames = queue; number = n }) l
+      is_new : (l : TxQueue) → slice_get (slice_set s.queues e.0 (record { frames = queue; number = n })) d.0 ≡ Some l → ◌≡◌ {A = TxQueue} (record { frames = queue; number = n }) l
       is_new l h =
-          let e : ◌≡◌ {A = Option Lane} (Some (record { frames = queue; number = n })) (Some l) =
+          let e : ◌≡◌ {A = Option TxQueue} (Some (record { frames = queue; number = n })) (Some l) =
           sym (get_set_same s.queues e.0 (record { frames = x ∷ queue; number = n }) (record { frames = queue; number = n }) there)
           ∙ ap (slice_get (slice_set s.queues e.0 (record { frames = queue; number = n }))) is ∙ h in
           cc
@@ -104,11 +104,11 @@ module _ (before : List ℕ) (d : Dev) (s : NodeState) (f : FitsAt before d.0 s.
       none_more before d.0 (slice_set s.queues e.0 (record { frames = queue; number = n }))
       (λ l h. f l (sym (get_set_other s.queues e.0 d.0 (record { frames = queue; number = n }) apart) ∙ h)) a
 
-  lane_same : (e : Dev) (o : Option Lane) → slice_get s.queues e.0 ≡ o → e.0 ≡ d.0 → Rises before d.0 (as_list (take_from s e o).frame) (take_from s e o).node.queues
+  lane_same : (e : Dev) (o : Option TxQueue) → slice_get s.queues e.0 ≡ o → e.0 ≡ d.0 → Rises before d.0 (as_list (take_from s e o).frame) (take_from s e o).node.queues
   lane_same e None there is = none_more before d.0 s.queues f a
   lane_same e (Some lane) there is = first_same e lane.number lane.frames there is
 
-  lane_other : (e : Dev) (o : Option Lane) → e.0 ≢ d.0 → Rises before d.0 [] (take_from s e o).node.queues
+  lane_other : (e : Dev) (o : Option TxQueue) → e.0 ≢ d.0 → Rises before d.0 [] (take_from s e o).node.queues
   lane_other e None apart = none_more before d.0 s.queues f a
   lane_other e (Some lane) apart = first_other e lane.number lane.frames apart
 

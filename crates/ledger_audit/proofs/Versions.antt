@@ -8,7 +8,7 @@ use Rattle.packet_frame.specs.Bytes.{frame_bytes}
 use Rattle.packet_frame.specs.declared.frame.PlainFrame.{PlainFrame}
 use Rattle.packet_frame.specs.declared.frame.PlainStamped.{PlainStamped}
 use Rattle.packet_frame.specs.Stamped.{packet_with, bytes_with, stamped_bytes, IsReadBy, AcceptsBy}
-use Rattle.spelled_frame.specs.Spelled.{IsOnItsWay}
+use Rattle.packet_frame.specs.Spelled.{IsOnItsWay}
 use Rattle.ledger_audit.specs.Audits.{version_in}
 
 pub told_plain : (x : PlainFrame) → version_in (frame_bytes x) ≡ One

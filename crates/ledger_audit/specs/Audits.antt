@@ -7,11 +7,11 @@ use Rattle.plan_base.specs.declared.stamp.Version.TheVariants.{One, Two}
 use Rattle.packet_frame.specs.declared.frame.PlainStamped.{PlainStamped}
 use Rattle.packet_frame.specs.declared.fault.FrameFault.{FrameFault}
 use Rattle.packet_frame.specs.Decoding.{read_by}
-use Rattle.network_plan.specs.declared.event.LogEvent.{LogEvent}
-use Rattle.node_model.specs.State.{NodeState}
-use Rattle.node_model.specs.Counts.{act_sum, act_granted, act_hops, act_evals, act_left, node_live, frame_live}
-use Rattle.serve_model.specs.Runs.{node_after}
-use Rattle.world_model.specs.World.{Cables}
+use Rattle.network_config.specs.declared.event.LogEvent.{LogEvent}
+use Rattle.node_core_spec.specs.State.{NodeState}
+use Rattle.node_core_spec.specs.Counts.{act_sum, act_granted, act_hops, act_evals, act_left, node_live, frame_live}
+use Rattle.node_log.specs.Runs.{node_after}
+use Rattle.net_world_spec.specs.World.{Cables}
 use Rattle.bound_ledger.specs.declared.row.Row.{Row}
 use Rattle.ledger_audit.specs.Crossings.{Crossing, Arrival, Over, first_over, crossings, less_each}
 use Rattle.ledger_audit.specs.Runs.{accepted_in, sent_in, acts_in}

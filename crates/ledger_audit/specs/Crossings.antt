@@ -1,7 +1,7 @@
 -- Frames as they cross from one end of a link to the other.
 use Rattle.std.specs.Prelude.{ℕ, suc, ◌≤◌, Bool, true, false, ◌==◌, ◌&&◌, if◌then◌else◌, nat_lt, List, [], ◌∷◌, map, Option, Some, None}
 use Rattle.std.specs.Str.{bytes_eq}
-use Rattle.world_model.specs.declared.lines.LinkEnd.{LinkEnd}
+use Rattle.net_world_spec.specs.declared.lines.LinkEnd.{LinkEnd}
 
 -- the end that sends a frame, where a link or the node itself leads from it, and the frame's bytes
 pub record Crossing : Type 0 where

@@ -1,3 +1,10 @@
+pub mod Keys
+pub mod Tallies
+pub mod Books
+pub mod Pasts
+pub mod Ledgers
+pub mod Texts
+pub mod Order
 pub mod Once
 pub mod Crossings
 pub mod Runs

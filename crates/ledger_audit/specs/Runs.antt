@@ -5,15 +5,15 @@ use Rattle.plan_base.specs.declared.ids.Host.{Host}
 use Rattle.plan_base.specs.declared.ids.Dev.{Dev}
 use Rattle.packet_frame.specs.declared.frame.PlainStamped.{PlainStamped}
 use Rattle.packet_frame.specs.Stamped.{stamped_bytes}
-use Rattle.network_plan.specs.declared.event.Event.TheVariants as event
-use Rattle.network_plan.specs.declared.event.LogEvent.{LogEvent}
-use Rattle.network_plan.specs.declared.event.LogEvent.TheVariants.{Step}
-use Rattle.node_model.specs.declared.acts.Act.{Act}
-use Rattle.node_model.specs.declared.acts.Act.TheVariants.{Bad, Misplaced, Stale}
-use Rattle.node_model.specs.State.{NodeState}
-use Rattle.node_model.specs.Node.{node_step}
-use Rattle.serve_model.specs.Runs.{acts_of, node_by}
-use Rattle.world_model.specs.World.{Cables, far_end}
+use Rattle.network_config.specs.declared.event.Event.TheVariants as event
+use Rattle.network_config.specs.declared.event.LogEvent.{LogEvent}
+use Rattle.network_config.specs.declared.event.LogEvent.TheVariants.{Step}
+use Rattle.node_core_spec.specs.declared.acts.Act.{Act}
+use Rattle.node_core_spec.specs.declared.acts.Act.TheVariants.{Bad, Misplaced, Stale}
+use Rattle.node_core_spec.specs.State.{NodeState}
+use Rattle.node_core_spec.specs.Node.{node_step}
+use Rattle.node_log.specs.Runs.{acts_of, node_by}
+use Rattle.net_world_spec.specs.World.{Cables, far_end}
 use Rattle.ledger_audit.specs.Crossings.{Crossing, Arrival}
 
 -- whether an act refuses the frame that arrived

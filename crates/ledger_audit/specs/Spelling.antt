@@ -4,13 +4,13 @@ use Rattle.wire_bytes.specs.Fields.{IsBytes}
 use Rattle.packet_frame.specs.declared.frame.PlainStamped.{PlainStamped}
 use Rattle.packet_frame.specs.Stamped.{stamped_bytes}
 use Rattle.packet_frame.specs.Decoding.{read_by}
-use Rattle.network_plan.specs.declared.event.Event.{Event}
-use Rattle.network_plan.specs.declared.event.Event.TheVariants as event
-use Rattle.network_plan.specs.declared.event.LogEvent.{LogEvent}
-use Rattle.network_plan.specs.declared.event.LogEvent.TheVariants.{Step, Lost}
-use Rattle.node_model.specs.State.{NodeState, no_queues}
-use Rattle.node_model.specs.Node.{node_step}
-use Rattle.serve_model.specs.Runs.{node_by}
+use Rattle.network_config.specs.declared.event.Event.{Event}
+use Rattle.network_config.specs.declared.event.Event.TheVariants as event
+use Rattle.network_config.specs.declared.event.LogEvent.{LogEvent}
+use Rattle.network_config.specs.declared.event.LogEvent.TheVariants.{Step, Lost}
+use Rattle.node_core_spec.specs.State.{NodeState, no_queues}
+use Rattle.node_core_spec.specs.Node.{node_step}
+use Rattle.node_log.specs.Runs.{node_by}
 use Rattle.ledger_audit.specs.Audits.{Logged, version_in}
 
 -- nothing is queued at first

@@ -1,7 +1,7 @@
 ghost use Rattle.std.specs.Prelude.{◌≡◌, ◌↔◌, List, None};
 ghost use Rattle.std.specs.List.{AllByRecursion};
 ghost use Rattle.plan_base.specs.declared.ids.Family.{Family};
-ghost use Rattle.world_model.specs.World.{Cables};
+ghost use Rattle.net_world_spec.specs.World.{Cables};
 ghost use Rattle.ledger_audit.specs.Crossings.{AtMost, crossings};
 ghost use Rattle.ledger_audit.specs.Audits.{Logged, misfit, all_accepted, all_sent, AddsUp};
 ghost use Rattle.ledger_audit.specs.Spelling.{Begins, ReadsAgain};

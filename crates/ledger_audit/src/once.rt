@@ -1,6 +1,6 @@
 ghost use Rattle.std.specs.Prelude.{◌≡◌, ◌≤◌, List, None};
 ghost use Rattle.std.specs.List.{AllByRecursion};
-ghost use Rattle.world_model.specs.World.{Cables};
+ghost use Rattle.net_world_spec.specs.World.{Cables};
 ghost use Rattle.ledger_audit.specs.Crossings.{Crossing, times, crossings};
 ghost use Rattle.ledger_audit.specs.Audits.{Logged, misfit, all_accepted, all_sent};
 ghost use Rattle.ledger_audit.specs.Once.{IsOfTwo, HostsApart};

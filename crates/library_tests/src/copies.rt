@@ -2,8 +2,8 @@
 
 use crate::texts::{draft, program, value};
 use plan_base::{Draft, Name, Program, Value};
-use plan_copies::Copied;
-use plan_equality::Same;
+use plan_base_copy::TryClone;
+use plan_base_eq::SameAs;
 use std::alloc::Global;
 
 fn equals_its_copy(alloc: Global, program: &Program) -> bool {

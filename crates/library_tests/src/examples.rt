@@ -4,9 +4,9 @@ ghost use Rattle.std.specs.Prelude.{◌≡◌, ◌≤◌, length, IfSome};
 ghost use Rattle.node_core.specs.Turns.{IsResting};
 
 use checked_chunks::CheckedPacket;
+use containers::Items;
 use example_services::{ExampleServices, packet_of, visit_once};
 use plan_base::{Bytes, Host, Name, Value};
-use plan_items::Items;
 use plan_meaning::{Outcome, Visit};
 use plan_printer::print_value;
 use service_api::{Ctx, Note, Router, Services};

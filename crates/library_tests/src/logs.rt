@@ -1,6 +1,6 @@
 // Logs are written again as they were read.
 
-use network_plan::{Log, LogEvent};
+use network_config::{Log, LogEvent};
 use node_files::{put_log_head, put_log_line, put_lost_line, read_log};
 use plan_base::Bytes;
 use std::alloc::Global;

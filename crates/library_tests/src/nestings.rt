@@ -3,11 +3,11 @@
 
 use crate::texts::{add, program};
 use checked_chunks::{Checked, CheckedChunk};
-use chunk_types::chunk_of;
+use containers::Items;
 use packet_frame::{Frame, get_frame, put_ask};
 use plan_base::{Bytes, Name};
-use plan_items::Items;
 use plan_printer::print_program;
+use plan_types_chunks::chunk_of;
 use std::alloc::Global;
 
 /// What stands before all and how often; before and behind each level; inside the last; behind all.

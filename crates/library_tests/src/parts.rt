@@ -1,8 +1,8 @@
 // A message of 8,193 zero bytes: it is cut from a purse, and gathered note by note.
 
+use containers::Items;
 use frag_chunks::{Added, CutFault, Gather, Held, Part, cut};
 use plan_base::{Bytes, Host, Value};
-use plan_items::Items;
 use remote_calls::Purse;
 use service_api::Note;
 use std::alloc::Global;

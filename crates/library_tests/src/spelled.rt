@@ -1,11 +1,12 @@
 // Spellings: where the reading of one stops, how large what was read is, and that its copy is equal to it.
 
-use chunk_codec::{SpellFault, get_chunk, get_name, get_type, get_value};
-use chunk_writer::{put_name, put_type, put_value};
+use chunk_codec::{
+    SpellFault, get_chunk, get_name, get_type, get_value, put_name, put_type, put_value,
+};
 use plan_base::{Chunk, Family, Host, Limit, Name, Packet, Ty, Value};
-use plan_copies::Copied;
-use plan_equality::Same;
-use plan_sizes::{Deep, chunk_nesting, chunk_weight, nesting, type_size, weight};
+use plan_base_copy::TryClone;
+use plan_base_eq::SameAs;
+use plan_base_size::{HasDepth, chunk_nesting, chunk_weight, nesting, type_size, weight};
 use std::alloc::Global;
 use wire_bytes::{Cursor, Out};
 
@@ -192,7 +193,7 @@ fn names(rt: HostRuntime) {
 }
 
 // Whether a name, a type and a value, one behind the other, are these bytes.
-#[tactic(auto, using(chunk_writer::proofs::Puts::types, chunk_writer::proofs::Puts::values))]
+#[tactic(auto, using(chunk_codec::proofs::Puts::types, chunk_codec::proofs::Puts::values))]
 fn are_written(alloc: Global, name: &Name, wanted: &[u8]) -> bool {
     if name.as_slice().len() > 32 {
         return false;

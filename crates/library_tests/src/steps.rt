@@ -2,17 +2,17 @@
 
 ghost use Rattle.std.specs.Prelude.{◌≡◌, true};
 ghost use Rattle.plan_base.specs.declared.stamp.Version.{Version};
-ghost use Rattle.node_model.specs.Fits.{comes_within};
+ghost use Rattle.node_core_spec.specs.Fits.{comes_within};
 
-use act_text::put_act;
-use network_plan::{Event, LogEvent, NodeConfig};
+use containers::Items;
+use network_config::{Event, LogEvent, NodeConfig};
 use node_core::{Node, Version};
+use node_core_spec::Act;
 use node_files::read_log;
-use node_model::Act;
 use plan_base::{Bytes, Dev, Host};
-use plan_items::Items;
 use service_registry::Registry;
 use std::alloc::Global;
+use trace_text::put_act;
 
 /// Three injections of a function that gives unit, with bound 5.
 const INJECTIONS: &[u8] =

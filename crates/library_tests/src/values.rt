@@ -2,9 +2,9 @@
 
 use crate::texts::{add, value};
 use plan_base::{Limit, Ty, Value};
-use plan_grammar::{ParseFault, Wanted};
 use plan_lexer::{LexFault, Symbol};
 use plan_parser::{ValueFault, parse_args, parse_value};
+use plan_parser_exprs::{ParseFault, Wanted};
 use program_text::read_args;
 use std::alloc::Global;
 

@@ -7,17 +7,17 @@ use Rattle.plan_base.specs.declared.ids.Dev.{Dev}
 use Rattle.packet_frame.specs.declared.frame.PlainStamped.{PlainStamped}
 use Rattle.packet_frame.specs.Stamped.{stamped_bytes}
 use Rattle.service_api.specs.Services.{ServiceState}
-use Rattle.spelled_frame.specs.Spelled.{what_of}
-use Rattle.node_model.specs.declared.acts.Acts.{Acts}
-use Rattle.node_model.specs.State.{NodeState}
-use Rattle.node_model.specs.Node.{NodeStep, stamped_step, take_step}
+use Rattle.packet_frame.specs.Spelled.{what_of}
+use Rattle.node_core_spec.specs.declared.acts.Acts.{Acts}
+use Rattle.node_core_spec.specs.State.{NodeState}
+use Rattle.node_core_spec.specs.Node.{NodeStep, stamped_step, take_step}
 use Rattle.node_core.specs.declared.node.Node.{Node}
-use Rattle.world_model.specs.declared.lines.Line.{Line}
-use Rattle.world_model.specs.declared.lines.Line.TheVariants.{Wire, Off, Lost, Nothing}
-use Rattle.world_model.specs.declared.lines.LinkEnd.{LinkEnd}
-use Rattle.world_model.specs.declared.lines.Wired.{Wired}
-use Rattle.world_model.specs.declared.lines.Handing.{Handing}
-use Rattle.world_model.specs.World.{WorldState, EventResult, nothing, lines_at, place_of, step_at, step_place, steps, steps_at, far_end, wire_place, send_taken, send_at, send_over, send_place, sends, without_frame, with_wire, hand_line, wire_after, hand_at, hand_to, hand_frame, hand_place, hands, lose_frame, lose_place, loses}
+use Rattle.net_world_spec.specs.declared.lines.Line.{Line}
+use Rattle.net_world_spec.specs.declared.lines.Line.TheVariants.{Wire, Off, Lost, Nothing}
+use Rattle.net_world_spec.specs.declared.lines.LinkEnd.{LinkEnd}
+use Rattle.net_world_spec.specs.declared.lines.FrameOnWire.{FrameOnWire}
+use Rattle.net_world_spec.specs.declared.lines.Delivery.{Delivery}
+use Rattle.net_world_spec.specs.World.{WorldState, EventResult, nothing, lines_at, place_of, step_at, step_place, steps, steps_at, far_end, wire_place, send_taken, send_at, send_over, send_place, sends, without_frame, with_wire, hand_line, wire_after, hand_at, hand_to, hand_frame, hand_place, hands, lose_frame, lose_place, loses}
 use Rattle.net_world.specs.declared.network.Network.{Network}
 use Rattle.net_world.specs.Stands.{AllStand, NetworkStands, IsActed, StepsAt}
 
@@ -160,20 +160,20 @@ module _ {S : Type 0} (stands : S → ServiceState) where
 
   -- ---- handings and losses
 
-  no_frame : (w : WorldState) (how : Handing) (number : ℕ) → wire_place w.wire number ≡ None → hands w how number ≡ nothing w
+  no_frame : (w : WorldState) (how : Delivery) (number : ℕ) → wire_place w.wire number ≡ None → hands w how number ≡ nothing w
   unfolding hands hand_place
   no_frame w how number e = ap (hand_place w how) e
 
-  some_frame : (w : WorldState) (how : Handing) (number place : ℕ) (x : Wired) → wire_place w.wire number ≡ Some place → slice_get w.wire place ≡ Some x
+  some_frame : (w : WorldState) (how : Delivery) (number place : ℕ) (x : FrameOnWire) → wire_place w.wire number ≡ Some place → slice_get w.wire place ≡ Some x
       → hands w how number ≡ hand_to w how place x (place_of w.nodes x.to.host)
   unfolding hands hand_place hand_frame
   some_frame w how number place x e f = ap (hand_place w how) e ∙ ap (hand_frame w how place) f
 
-  no_receiver : (w : WorldState) (how : Handing) (place : ℕ) (x : Wired) (o : Option ℕ) → o ≡ None → hand_to w how place x o ≡ nothing w
+  no_receiver : (w : WorldState) (how : Delivery) (place : ℕ) (x : FrameOnWire) (o : Option ℕ) → o ≡ None → hand_to w how place x o ≡ nothing w
   unfolding hand_to
   no_receiver w how place x o e = ap (hand_to w how place x) e
 
-  some_receiver : (w : WorldState) (how : Handing) (place : ℕ) (x : Wired) (o : Option ℕ) (at : ℕ) (node : NodeState) → o ≡ Some at → slice_get w.nodes at ≡ Some node
+  some_receiver : (w : WorldState) (how : Delivery) (place : ℕ) (x : FrameOnWire) (o : Option ℕ) (at : ℕ) (node : NodeState) → o ≡ Some at → slice_get w.nodes at ≡ Some node
       → hand_to w how place x o ≡ steps_at (with_wire w (wire_after how w.wire place x)) x.to.host at (hand_line how x.number ∷ []) (stamped_step node x.to.dev x.frame)
   unfolding hand_to hand_at
   some_receiver w how place x o at node e f = ap (hand_to w how place x) e ∙ ap (hand_at w how place x at) f
@@ -182,7 +182,7 @@ module _ {S : Type 0} (stands : S → ServiceState) where
   unfolding loses lose_place
   no_loss w number e = ap (lose_place w) e
 
-  some_loss : (w : WorldState) (number place : ℕ) (x : Wired) → wire_place w.wire number ≡ Some place → slice_get w.wire place ≡ Some x
+  some_loss : (w : WorldState) (number place : ℕ) (x : FrameOnWire) → wire_place w.wire number ≡ Some place → slice_get w.wire place ≡ Some x
       → loses w number ≡ record { lines = Off x.number ∷ Lost (what_of x.frame.frame) ∷ []; world = without_frame w place }
   unfolding loses lose_place lose_frame
   some_loss w number place x e f = ap (lose_place w) e ∙ ap (lose_frame w place) f
@@ -191,18 +191,18 @@ module _ {S : Type 0} (stands : S → ServiceState) where
     place_there : (o : Option ℕ) → o ≡ wire_place old.wire number → wire_place w.wire number ≡ o
     place_there o e = ap (λ x. wire_place x number) (sym h.wire) ∙ sym e
 
-    frame_there : (place : ℕ) (x : Wired) → slice_get old.wire place ≡ Some x → slice_get w.wire place ≡ Some x
+    frame_there : (place : ℕ) (x : FrameOnWire) → slice_get old.wire place ≡ Some x → slice_get w.wire place ≡ Some x
     frame_there place x e = ap (λ y. slice_get y place) (sym h.wire) ∙ e
 
-    pub none_handed : (how : Handing) → None ≡ wire_place old.wire number → lines ≡ Nothing ∷ [] → IsActed stands (hands w how number) lines old
+    pub none_handed : (how : Delivery) → None ≡ wire_place old.wire number → lines ≡ Nothing ∷ [] → IsActed stands (hands w how number) lines old
     none_handed how e l = as_event _ (nothing w) lines old (no_frame w how number (place_there None e)) (nothing_happens old w lines h l)
 
-    pub none_there : (how : Handing) (place : ℕ) (x : Wired) → Some place ≡ wire_place old.wire number → slice_get old.wire place ≡ Some x → None ≡ place_of w.nodes x.to.host → lines ≡ Nothing ∷ []
+    pub none_there : (how : Delivery) (place : ℕ) (x : FrameOnWire) → Some place ≡ wire_place old.wire number → slice_get old.wire place ≡ Some x → None ≡ place_of w.nodes x.to.host → lines ≡ Nothing ∷ []
         → IsActed stands (hands w how number) lines old
     none_there how place x e f g l =
         as_event _ (nothing w) lines old (some_frame w how number place x (place_there (Some place) e) (frame_there place x f) ∙ no_receiver w how place x (place_of w.nodes x.to.host) (sym g)) (nothing_happens old w lines h l)
 
-    pub one_handed : (how : Handing) (new : Network S) (place : ℕ) (x : Wired) (at : ℕ) (acts : Acts) (nodes : List (Node S)) → Some place ≡ wire_place old.wire number → slice_get old.wire place ≡ Some x
+    pub one_handed : (how : Delivery) (new : Network S) (place : ℕ) (x : FrameOnWire) (at : ℕ) (acts : Acts) (nodes : List (Node S)) → Some place ≡ wire_place old.wire number → slice_get old.wire place ≡ Some x
         → Some at ≡ place_of w.nodes x.to.host → StepsAt stands (λ node. stamped_step node x.to.dev x.frame) w.nodes at acts nodes → lines ≡ (hand_line how x.number ∷ []) ++ lines_at x.to.host acts.list
         → new.nodes.items ≡ nodes → new.links ≡ old.links → new.wire ≡ wire_after how old.wire place x → new.«next» ≡ old.«next» → new.made ≡ old.made → new.version ≡ old.version
         → IsActed stands (hands w how number) lines new
@@ -224,7 +224,7 @@ module _ {S : Type 0} (stands : S → ServiceState) where
     pub none_lost : None ≡ wire_place old.wire number → lines ≡ Nothing ∷ [] → IsActed stands (loses w number) lines old
     none_lost e l = as_event _ (nothing w) lines old (no_loss w number (place_there None e)) (nothing_happens old w lines h l)
 
-    pub one_lost : (new : Network S) (place : ℕ) (x : Wired) → Some place ≡ wire_place old.wire number → slice_get old.wire place ≡ Some x → lines ≡ Off x.number ∷ Lost (what_of x.frame.frame) ∷ []
+    pub one_lost : (new : Network S) (place : ℕ) (x : FrameOnWire) → Some place ≡ wire_place old.wire number → slice_get old.wire place ≡ Some x → lines ≡ Off x.number ∷ Lost (what_of x.frame.frame) ∷ []
         → new.nodes.items ≡ old.nodes.items → new.links ≡ old.links → new.wire ≡ remove old.wire place → new.«next» ≡ old.«next» → new.made ≡ old.made → new.version ≡ old.version → IsActed stands (loses w number) lines new
     one_lost new place x e f l a b c n m v =
         as_event _ _ lines new (some_loss w number place x (place_there (Some place) e) (frame_there place x f)) (record {

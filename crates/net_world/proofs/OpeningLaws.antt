@@ -4,17 +4,17 @@ use Rattle.std.specs.Prelude.{map, slice_get, Some}
 use Rattle.std.proofs.lemmas.List.{map-append, length_push}
 use Rattle.std.proofs.lemmas.Option.{slice_get_within}
 use Rattle.service_api.specs.Services.{ServiceState}
-use Rattle.network_plan.specs.Rules.{KeepsNetwork}
-use Rattle.network_plan.specs.declared.node.NodeConfig.{NodeConfig}
-use Rattle.network_plan.specs.declared.schedule.HostSpec.{HostSpec}
-use Rattle.network_plan.specs.declared.schedule.Topology.{Topology}
-use Rattle.node_model.specs.State.{new_node}
-use Rattle.node_model.specs.Fits.{ConfigFits}
+use Rattle.network_config.specs.Rules.{KeepsNetwork}
+use Rattle.network_config.specs.declared.node.NodeConfig.{NodeConfig}
+use Rattle.network_config.specs.declared.schedule.HostSpec.{HostSpec}
+use Rattle.network_config.specs.declared.schedule.Topology.{Topology}
+use Rattle.node_core_spec.specs.State.{new_node}
+use Rattle.node_core_spec.specs.Fits.{ConfigFits}
 use Rattle.node_core.specs.declared.node.Node.{Node}
 use Rattle.node_core.specs.Stands.{NodeStands}
 use Rattle.node_core.specs.Turns.{IsResting}
-use Rattle.world_model.specs.World.{opening_services, config_of, opening_node}
-use Rattle.network_laws.proofs.Opening.{config_fits}
+use Rattle.net_world_spec.specs.World.{opening_services, config_of, opening_node}
+use Rattle.net_world_spec.proofs.Opening.{config_fits}
 use Rattle.net_world.specs.Stands.{AllStand}
 use Rattle.net_world.proofs.StandLaws.{one_more}
 

@@ -8,32 +8,32 @@ use Rattle.std.proofs.lemmas.Grind.{take_at_read}
 use Rattle.plan_base.specs.declared.ids.Family.{Family}
 use Rattle.service_api.specs.Services.{ServiceState}
 use Rattle.plan_base.specs.declared.stamp.Version.{Version}
-use Rattle.network_plan.specs.declared.event.WorldEvent.{WorldEvent}
-use Rattle.network_plan.specs.declared.event.WorldEvent.TheVariants.{Inject, Send, Deliver, Repeat, Lose, Tick, Raw}
-use Rattle.network_plan.specs.declared.schedule.HostSpec.{HostSpec}
-use Rattle.network_plan.specs.declared.schedule.Schedule.{Schedule}
-use Rattle.network_plan.specs.declared.schedule.Topology.{Topology}
-use Rattle.network_plan.specs.Rules.{KeepsEvent, KeepsRules}
-use Rattle.node_io.specs.Sinks.{SinkState, Writes, WritesPrefix, FailsIn}
+use Rattle.network_config.specs.declared.event.WorldEvent.{WorldEvent}
+use Rattle.network_config.specs.declared.event.WorldEvent.TheVariants.{Inject, Send, Deliver, Repeat, Lose, Tick, Raw}
+use Rattle.network_config.specs.declared.schedule.HostSpec.{HostSpec}
+use Rattle.network_config.specs.declared.schedule.Schedule.{Schedule}
+use Rattle.network_config.specs.declared.schedule.Topology.{Topology}
+use Rattle.network_config.specs.Rules.{KeepsEvent, KeepsRules}
+use Rattle.node_io.specs.Sinks.{SinkState, Writes, FailsIn}
 use Rattle.node_io.proofs.SinkLaws.{writes_none, writes_both, writes_as, fails_as, fails_longer, fails_more, prefix_as, prefix_longer, prefix_more}
 use Rattle.bound_ledger.specs.Rows.{FamilyRow, OneEach}
-use Rattle.world_model.specs.declared.lines.Line.{Line}
-use Rattle.world_model.specs.declared.lines.Entry.{Entry}
-use Rattle.world_model.specs.World.{WorldState, happens, entry_at, entries, world_after, history_of, opening}
-use Rattle.world_model.specs.Texts.{entry_text, entries_text, trace_text, ledger_text, run_text}
-use Rattle.world_model.specs.Counts.{line_left, line_sum, left_sum, is_late, Balanced, IsBounded, IsGranted}
-use Rattle.world_model.specs.Sound.{IsSound, event_fits, EventsFit}
-use Rattle.world_model.specs.Visits.{EndsWell, visits_after}
-use Rattle.network_laws.proofs.Fitting.{run_sound, run_version}
-use Rattle.network_laws.proofs.Handings.{opening_leaves, opening_balances}
-use Rattle.network_laws.proofs.Giving.{opening_bounded, opening_grants}
-use Rattle.network_laws.proofs.Opening.{opening_version, opening_sound}
-use Rattle.network_laws.proofs.Visits.{run_ends}
-use Rattle.run_ledger.specs.Counting.{LinesFit, Leaves}
-use Rattle.run_ledger.specs.Stands.{Stands}
-use Rattle.run_text.specs.Printed.{printed_row, all_printed}
-use Rattle.run_text.proofs.Printing.{printed_none, printed_next, ledger_put}
-use Rattle.run_ledger.proofs.Runs.{event_fits_at, history_of-push, world_after-push}
+use Rattle.net_world_spec.specs.declared.lines.Line.{Line}
+use Rattle.net_world_spec.specs.declared.lines.Entry.{Entry}
+use Rattle.net_world_spec.specs.World.{WorldState, happens, entry_at, entries, world_after, history_of, opening}
+use Rattle.net_world_spec.specs.Texts.{entry_text, entries_text, trace_text, ledger_text, run_text}
+use Rattle.net_world_spec.specs.Counts.{line_left, line_sum, left_sum, is_late, Balanced, IsBounded, IsGranted}
+use Rattle.net_world_spec.specs.Sound.{IsSound, event_fits, EventsFit}
+use Rattle.net_world_spec.specs.Visits.{EndsWell, visits_after}
+use Rattle.net_world_spec.proofs.Fitting.{run_sound, run_version}
+use Rattle.net_world_spec.proofs.Handings.{opening_leaves, opening_balances}
+use Rattle.net_world_spec.proofs.Giving.{opening_bounded, opening_grants}
+use Rattle.net_world_spec.proofs.Opening.{opening_version, opening_sound}
+use Rattle.net_world_spec.proofs.Visits.{run_ends}
+use Rattle.bound_ledger.specs.Counting.{LinesFit, Leaves}
+use Rattle.bound_ledger.specs.Stands.{Stands}
+use Rattle.trace_text.specs.Printed.{printed_row, all_printed}
+use Rattle.trace_text.proofs.Printing.{printed_none, printed_next, ledger_put}
+use Rattle.bound_ledger.proofs.Runs.{event_fits_at, history_of-push, world_after-push}
 use Rattle.net_world.specs.declared.network.Network.{Network}
 use Rattle.net_world.specs.Stands.{WorldStands}
 use Rattle.net_world.specs.Running.{AllLeave, IsCountable}

@@ -11,30 +11,30 @@ use Rattle.plan_base.specs.declared.ids.Dev.{Dev}
 use Rattle.plan_base.specs.declared.memory.NoMemory.{NoMemory}
 use Rattle.plan_base.specs.declared.name.Name.{Name}
 use Rattle.plan_base.specs.declared.tree.Chunk.{Chunk}
-use Rattle.typing_rules.specs.Handlers.{MayHandle}
+use Rattle.plan_types_spec.specs.Handlers.{MayHandle}
 use Rattle.plan_base.specs.declared.stamp.Version.{Version}
 use Rattle.plan_base.specs.declared.stamp.Version.TheVariants.{One, Two}
 use Rattle.packet_frame.specs.declared.fault.FrameFault.{FrameFault}
 use Rattle.packet_frame.specs.declared.fault.FrameFault.TheVariants.{NoMemory as Lacking}
 use Rattle.packet_frame.specs.declared.frame.PlainStamped.{PlainStamped}
-use Rattle.network_plan.specs.Rules.{MayName}
+use Rattle.network_config.specs.Rules.{MayName}
 use Rattle.service_api.specs.Services.{ServiceState}
-use Rattle.node_model.specs.declared.acts.Act.{Act}
-use Rattle.node_model.specs.declared.acts.Acts.{Acts}
-use Rattle.node_model.specs.declared.acts.Lane.{Lane}
-use Rattle.node_model.specs.State.{NodeState, is_host}
-use Rattle.node_model.specs.Node.{NodeStep, inject_step, take_first, take_from, take_step}
-use Rattle.node_model.specs.Fits.{IsMarked}
+use Rattle.node_core_spec.specs.declared.acts.Act.{Act}
+use Rattle.node_core_spec.specs.declared.acts.Acts.{Acts}
+use Rattle.node_core_spec.specs.declared.acts.TxQueue.{TxQueue}
+use Rattle.node_core_spec.specs.State.{NodeState, is_host}
+use Rattle.node_core_spec.specs.Node.{NodeStep, inject_step, take_first, take_from, take_step}
+use Rattle.node_core_spec.specs.Fits.{IsMarked}
 use Rattle.node_core.specs.declared.node.Node.{Node}
 use Rattle.node_core.specs.Stands.{NodeStands, IsStep}
-use Rattle.world_model.specs.declared.lines.Line.{Line}
-use Rattle.world_model.specs.declared.lines.Line.TheVariants.{At}
-use Rattle.world_model.specs.World.{Cables, WorldState, forged_lines, place_of, lines_at, peer_of, neighbour_at, neighbours_to}
-use Rattle.world_model.specs.declared.lines.Wired.{Wired}
-use Rattle.network_plan.specs.declared.event.WorldEvent.{WorldEvent}
-use Rattle.network_plan.specs.declared.event.WorldEvent.TheVariants.{Inject, Send, Deliver, Repeat, Lose, Tick, Raw}
-use Rattle.world_model.specs.Sound.{DevicesFit, event_fits, event_within, event_typed}
-use Rattle.network_laws.proofs.Fitting.{at_place, wired_of}
+use Rattle.net_world_spec.specs.declared.lines.Line.{Line}
+use Rattle.net_world_spec.specs.declared.lines.Line.TheVariants.{At}
+use Rattle.net_world_spec.specs.World.{Cables, WorldState, forged_lines, place_of, lines_at, peer_of, neighbour_at, neighbours_to}
+use Rattle.net_world_spec.specs.declared.lines.FrameOnWire.{FrameOnWire}
+use Rattle.network_config.specs.declared.event.WorldEvent.{WorldEvent}
+use Rattle.network_config.specs.declared.event.WorldEvent.TheVariants.{Inject, Send, Deliver, Repeat, Lose, Tick, Raw}
+use Rattle.net_world_spec.specs.Sound.{DevicesFit, event_fits, event_within, event_typed}
+use Rattle.net_world_spec.proofs.Fitting.{at_place, wired_of}
 use Rattle.net_world.specs.declared.network.Network.{Network}
 use Rattle.net_world.specs.Stands.{AllStand, WorldStands, StepsAt, MayNameAt, IsMarkedAt}
 
@@ -71,7 +71,7 @@ take_first_nothing : (node : NodeState) (d : Dev) (n : ℕ) (frames : List Plain
 take_first_nothing node d n [] e = refl
 take_first_nothing node d n (x ∷ queue) e = cc
 
-take_from_nothing : (node : NodeState) (d : Dev) (o : Option Lane) → (take_from node d o).frame ≡ None → (take_from node d o).node ≡ node
+take_from_nothing : (node : NodeState) (d : Dev) (o : Option TxQueue) → (take_from node d o).frame ≡ None → (take_from node d o).node ≡ node
 take_from_nothing node d None e = refl
 take_from_nothing node d (Some lane) e = take_first_nothing node d lane.number lane.frames e
 
@@ -231,7 +231,7 @@ module _ {S : Type 0} (stands : S → ServiceState) where
       subst (λ v. MayName v chunk handler) (h.is.version ∙ sym (at_place (DevicesFit w.version) w.nodes at s e h.sound.devices).version) m
 
   -- a frame on the wire is one of each node's version
-  pub marked_there : (n : Network S) (w : WorldState) (place : ℕ) (x : Wired) → WorldStands stands n w → slice_get n.wire place ≡ Some x → (at : ℕ) → IsMarkedAt w.nodes at x.frame.stamp
+  pub marked_there : (n : Network S) (w : WorldState) (place : ℕ) (x : FrameOnWire) → WorldStands stands n w → slice_get n.wire place ≡ Some x → (at : ℕ) → IsMarkedAt w.nodes at x.frame.stamp
   marked_there n w place x h there at s e =
       let on = wired_of w.version w.«next» w.wire place x (ap (λ wire. slice_get wire place) (sym h.is.wire) ∙ there) h.sound.wire in
       subst (λ v. IsMarked v x.frame.stamp) (sym (at_place (DevicesFit w.version) w.nodes at s e h.sound.devices).version) on.frame.mark

@@ -1,15 +1,15 @@
 -- What every run keeps.
 use Rattle.std.specs.Prelude.{ℕ, List, take, All}
 use Rattle.plan_base.specs.declared.ids.Family.{Family}
-use Rattle.network_plan.specs.declared.schedule.Schedule.{Schedule}
-use Rattle.world_model.specs.declared.lines.Entry.{Entry}
-use Rattle.world_model.specs.World.{WorldState, opening, world_after, history_of}
-use Rattle.world_model.specs.Counts.{Balanced, IsBounded, IsGranted}
-use Rattle.world_model.specs.Sound.{IsSound}
-use Rattle.world_model.specs.Wires.{IsOnce, WireLeads}
-use Rattle.world_model.specs.Visits.{EndsWell, visits_after}
-use Rattle.network_laws.specs.Roads.{BringsNone}
-use Rattle.network_laws.specs.Routes.{RunKeepsRoutes}
+use Rattle.network_config.specs.declared.schedule.Schedule.{Schedule}
+use Rattle.net_world_spec.specs.declared.lines.Entry.{Entry}
+use Rattle.net_world_spec.specs.World.{WorldState, opening, world_after, history_of}
+use Rattle.net_world_spec.specs.Counts.{Balanced, IsBounded, IsGranted}
+use Rattle.net_world_spec.specs.Sound.{IsSound}
+use Rattle.net_world_spec.specs.Wires.{IsOnce, WireLeads}
+use Rattle.net_world_spec.specs.Visits.{EndsWell, visits_after}
+use Rattle.net_world_spec.specs.Roads.{BringsNone}
+use Rattle.net_world_spec.specs.Routes.{RunKeepsRoutes}
 
 -- the history of a schedule's first events, and the network after them
 abbrev pub history_at : Schedule → ℕ → List Entry

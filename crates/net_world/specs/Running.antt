@@ -2,14 +2,14 @@
 use Rattle.std.specs.Prelude.{◌≡◌, List, map}
 use Rattle.plan_base.specs.declared.ids.Family.{Family}
 use Rattle.service_api.specs.Services.{ServiceState}
-use Rattle.network_plan.specs.declared.event.WorldEvent.{WorldEvent}
-use Rattle.network_plan.specs.declared.schedule.Schedule.{Schedule}
-use Rattle.network_plan.specs.Rules.{KeepsRules}
+use Rattle.network_config.specs.declared.event.WorldEvent.{WorldEvent}
+use Rattle.network_config.specs.declared.schedule.Schedule.{Schedule}
+use Rattle.network_config.specs.Rules.{KeepsRules}
 use Rattle.bound_ledger.specs.Rows.{FamilyRow}
-use Rattle.run_ledger.specs.Counting.{LinesFit}
-use Rattle.world_model.specs.declared.lines.Entry.{Entry}
-use Rattle.world_model.specs.World.{WorldState, happens, opening_services}
-use Rattle.world_model.specs.Counts.{is_late, LeavesByWire}
+use Rattle.bound_ledger.specs.Counting.{LinesFit}
+use Rattle.net_world_spec.specs.declared.lines.Entry.{Entry}
+use Rattle.net_world_spec.specs.World.{WorldState, happens, opening_services}
+use Rattle.net_world_spec.specs.Counts.{is_late, LeavesByWire}
 use Rattle.net_world.specs.declared.network.Network.{Network}
 use Rattle.net_world.specs.Stands.{WorldStands}
 

@@ -3,17 +3,17 @@ use Rattle.std.specs.Prelude.{◌≡◌, List, [], ◌∷◌, slice_get, slice_s
 use Rattle.plan_base.specs.declared.stamp.Stamp.{Stamp}
 use Rattle.plan_base.specs.declared.name.Name.{Name}
 use Rattle.plan_base.specs.declared.tree.Chunk.{Chunk}
-use Rattle.network_plan.specs.Rules.{MayName}
+use Rattle.network_config.specs.Rules.{MayName}
 use Rattle.service_api.specs.Services.{ServiceState}
-use Rattle.node_model.specs.declared.acts.Acts.{Acts}
-use Rattle.node_model.specs.State.{NodeState}
-use Rattle.node_model.specs.Node.{NodeStep}
-use Rattle.node_model.specs.Fits.{IsMarked}
+use Rattle.node_core_spec.specs.declared.acts.Acts.{Acts}
+use Rattle.node_core_spec.specs.State.{NodeState}
+use Rattle.node_core_spec.specs.Node.{NodeStep}
+use Rattle.node_core_spec.specs.Fits.{IsMarked}
 use Rattle.node_core.specs.declared.node.Node.{Node}
 use Rattle.node_core.specs.Stands.{NodeStands}
-use Rattle.world_model.specs.declared.lines.Line.{Line}
-use Rattle.world_model.specs.World.{WorldState, EventResult}
-use Rattle.world_model.specs.Sound.{IsSound}
+use Rattle.net_world_spec.specs.declared.lines.Line.{Line}
+use Rattle.net_world_spec.specs.World.{WorldState, EventResult}
+use Rattle.net_world_spec.specs.Sound.{IsSound}
 use Rattle.net_world.specs.declared.network.Network.{Network}
 
 -- each node stands for the state at its place

@@ -1,15 +1,15 @@
 ghost use Rattle.std.specs.Prelude.{◌≡◌, ◌++◌, ◌<◌, length, slice_get, slice_set, Some, IfOk, IfSome, OnOk};
-ghost use Rattle.world_model.specs.declared.lines.Wired.{Wired as WiredOf};
-ghost use Rattle.world_model.specs.Counts.{late_at};
-ghost use Rattle.world_model.specs.World as spec;
+ghost use Rattle.net_world_spec.specs.declared.lines.FrameOnWire.{FrameOnWire as WiredOf};
+ghost use Rattle.net_world_spec.specs.Counts.{late_at};
+ghost use Rattle.net_world_spec.specs.World as spec;
 
-use network_plan::Cable;
+use containers::Items;
+use net_world_spec::{Delivery, FrameOnWire, Wire, peer_of};
+use network_config::Link;
 use plan_base::{Dev, Host, NoMemory};
-use plan_items::Items;
 use service_api::Neighbours;
 use std::alloc::Global;
 use std::mem;
-use world_model::{Handing, Wire, Wired, peer_of};
 
 /// The number of devices of a node that links may use.
 const LINK_DEVICES: u32 = 8;
@@ -17,7 +17,7 @@ const LINK_DEVICES: u32 = 8;
 /// Adds the neighbour on a device, where there is one.
 fn add_neighbour(
     neighbours: &mut Neighbours,
-    links: &[Cable],
+    links: &[Link],
     host: Host,
     dev: Dev,
 ) -> Result<(), NoMemory>
@@ -32,7 +32,7 @@ fn add_neighbour(
 
 /// The neighbours of a host, by device.
 #[tactic(auto, using(crate::proofs::StandLaws::neighbours_none, crate::proofs::StandLaws::neighbours_more))]
-pub fn neighbours_of(alloc: Global, links: &[Cable], host: Host) -> Result<Neighbours, NoMemory>
+pub fn neighbours_of(alloc: Global, links: &[Link], host: Host) -> Result<Neighbours, NoMemory>
     ensures { IfOk result (λ neighbours. neighbours ≡ spec.neighbours_to links.now host 8) }
 {
     let mut neighbours = Items::new(alloc);
@@ -54,21 +54,21 @@ fn mark_handed(alloc: Global, wire: &mut Wire, place: usize)
 }
 
 /// Takes a frame that is handed off the wire, or leaves it there as one that was handed. Takes no memory.
-pub fn hand_off(alloc: Global, wire: &mut Wire, how: Handing, place: usize)
+pub fn hand_off(alloc: Global, wire: &mut Wire, how: Delivery, place: usize)
     requires { place < length wire.old }
     ensures { (x : WiredOf) → slice_get wire.old place ≡ Some x
         → wire.new ≡ spec.wire_after how wire.old place x }
 {
     match how {
-        Handing::Taking => {
+        Delivery::Taking => {
             let _taken = wire.remove(place);
         }
-        Handing::Leaving => mark_handed(alloc, wire, place),
+        Delivery::Leaving => mark_handed(alloc, wire, place),
     }
 }
 
 /// Whether the frame of a number is on the wire and was handed before. Takes no memory.
-pub fn was_handed(wire: &[Wired], number: u32) -> bool
+pub fn was_handed(wire: &[FrameOnWire], number: u32) -> bool
     ensures { result ≡ late_at wire.now (spec.wire_place wire.now number) }
 {
     let Some(place) = wire_place(wire, number) else {
@@ -78,7 +78,7 @@ pub fn was_handed(wire: &[Wired], number: u32) -> bool
 }
 
 /// The place of a frame number on the wire.
-pub fn wire_place(wire: &[Wired], number: u32) -> Option<usize>
+pub fn wire_place(wire: &[FrameOnWire], number: u32) -> Option<usize>
     ensures place { result ≡ spec.wire_place wire.now number }
     ensures within { IfSome result (λ at. at < length wire.now) }
 {

@@ -3,18 +3,17 @@ ghost use Rattle.packet_frame.specs.declared.fault.FrameFault.TheVariants as ref
 ghost use Rattle.packet_frame.specs.Typed.{plain_of};
 ghost use Rattle.packet_frame.specs.Stamped.{stamped_bytes};
 ghost use Rattle.packet_frame.specs.Decoding.{read_by};
-ghost use Rattle.world_model.specs.World as spec;
-ghost use Rattle.world_model.specs.declared.lines.Line.TheVariants as line;
+ghost use Rattle.net_world_spec.specs.World as spec;
+ghost use Rattle.net_world_spec.specs.declared.lines.Line.TheVariants as line;
 
+use containers::Items;
+use net_world_spec::{Delivery, Line, Lines};
 use node_core::Version;
-use node_model::ActList;
-use node_parts::read_as;
-use packet_frame::{Frame, FrameFault};
+use node_core_parts::read_as;
+use node_core_spec::ActList;
+use packet_frame::{EncodedFrame, Frame, FrameFault};
 use plan_base::{Bytes, Host, NoMemory};
-use plan_items::Items;
-use spelled_frame::SpelledFrame;
 use std::alloc::Global;
-use world_model::{Handing, Line, Lines};
 
 /// No lines.
 pub fn no_lines(alloc: Global) -> Lines
@@ -81,7 +80,7 @@ pub fn forged_lines(
 }
 
 /// The bytes of a frame.
-fn bytes_of(alloc: Global, frame: &SpelledFrame) -> Result<Bytes, NoMemory>
+fn bytes_of(alloc: Global, frame: &EncodedFrame) -> Result<Bytes, NoMemory>
     ensures { IfOk result (λ bytes. bytes ≡ stamped_bytes frame.now) }
 {
     let mut bytes = Bytes::new(alloc);
@@ -94,7 +93,7 @@ fn with_wire(
     alloc: Global,
     before: Lines,
     number: u32,
-    frame: &SpelledFrame,
+    frame: &EncodedFrame,
 ) -> Result<Lines, NoMemory>
     ensures { IfOk result
         (λ lines. lines ≡ before ++ line.Wire number (stamped_bytes frame.now) ∷ []) }
@@ -111,7 +110,7 @@ pub fn sent_lines(
     host: Host,
     acts: ActList,
     number: u32,
-    frame: &SpelledFrame,
+    frame: &EncodedFrame,
 ) -> Result<Lines, NoMemory>
     ensures { IfOk result (λ lines. lines
         ≡ spec.lines_at host acts ++ line.Wire number (stamped_bytes frame.now) ∷ []) }
@@ -121,11 +120,11 @@ pub fn sent_lines(
 }
 
 /// The line of a frame that is handed to its receiving end.
-pub fn hand_line(how: Handing, number: u32) -> Line
+pub fn hand_line(how: Delivery, number: u32) -> Line
     ensures { result ≡ spec.hand_line how number }
 {
     match how {
-        Handing::Taking => Line::Off(number),
-        Handing::Leaving => Line::Again(number),
+        Delivery::Taking => Line::Off(number),
+        Delivery::Leaving => Line::Again(number),
     }
 }

@@ -1,11 +1,11 @@
 ghost use Rattle.std.specs.Prelude.{◌≡◌, ◌≤◌, ◌<◌, ◌+◌, ◌-◌, ◌^◌, ◌∷◌, [], map, IfOk, OnErr};
-ghost use Rattle.network_plan.specs.Rules.{KeepsNetwork, MayName};
-ghost use Rattle.world_model.specs.World as spec;
-ghost use Rattle.world_model.specs.World.{WorldState};
-ghost use Rattle.world_model.specs.Sound.{event_fits};
-ghost use Rattle.world_model.specs.Counts.{late_in};
-ghost use Rattle.world_model.specs.declared.lines.Line.TheVariants as line;
-ghost use Rattle.world_model.specs.Numbers as numbers;
+ghost use Rattle.network_config.specs.Rules.{KeepsNetwork, MayName};
+ghost use Rattle.net_world_spec.specs.World as spec;
+ghost use Rattle.net_world_spec.specs.World.{WorldState};
+ghost use Rattle.net_world_spec.specs.Sound.{event_fits};
+ghost use Rattle.net_world_spec.specs.Counts.{late_in};
+ghost use Rattle.net_world_spec.specs.declared.lines.Line.TheVariants as line;
+ghost use Rattle.net_world_spec.specs.Numbers as numbers;
 ghost use Rattle.net_world.specs.Stands.{NetworkStands, WorldStands, IsActed};
 
 use crate::ends::{hand_off, was_handed, wire_place};
@@ -13,15 +13,15 @@ use crate::lines::{forged_lines, hand_line, no_lines, one_line, sent_lines, with
 use crate::nodes::{arrive_at, hand_to, inject_at, node_place, take_at, tick_at, version_at};
 use crate::opening::open_nodes;
 use checked_chunks::CheckedChunk;
-use network_plan::{Links, Topology, WorldEvent};
+use containers::Items;
+use net_world_spec::{Delivery, FrameOnWire, Line, Lines, LinkEnd, Wire, far_end, highest, lowest};
+use network_config::{Links, Topology, WorldEvent};
 use node_core::{Node, Version};
-use node_model::Acts;
+use node_core_spec::Acts;
+use packet_frame::EncodedFrame;
 use plan_base::{Dev, Host, Name, NoMemory};
-use plan_items::Items;
 use service_api::Services;
-use spelled_frame::SpelledFrame;
 use std::alloc::Global;
-use world_model::{Handing, Line, Lines, LinkEnd, Wire, Wired, far_end, highest, lowest};
 
 /// The number of frames that the wire holds.
 const MOST_ON_WIRE: usize = 4096;
@@ -48,7 +48,7 @@ fn nothing(alloc: Global) -> Result<Lines, NoMemory>
 impl<S: Services + Drop> Network<S> {
     /// The network of a topology, in which nothing has happened. `services`: one for each host, in the
     /// order of hosts.
-    #[tactic(auto, unfolding(world_model::specs::World::opening))]
+    #[tactic(auto, unfolding(net_world_spec::specs::World::opening))]
     pub fn open(
         alloc: Global,
         topology: &Topology,
@@ -148,7 +148,7 @@ impl<S: Services> Network<S> {
         let number = self.next;
         let lines = sent_lines(alloc, host, list, number, &frame)?;
         let from = LinkEnd { host, dev };
-        self.wire.add(Wired {
+        self.wire.add(FrameOnWire {
             number,
             from,
             to,
@@ -159,7 +159,7 @@ impl<S: Services> Network<S> {
         Ok(lines)
     }
 
-    fn hand(&mut self, alloc: Global, how: Handing, number: u32) -> Result<Lines, NoMemory>
+    fn hand(&mut self, alloc: Global, how: Delivery, number: u32) -> Result<Lines, NoMemory>
         ensures ok { (w : WorldState) → WorldStands S.stands self.old w
             → IfOk result (λ lines. IsActed S.stands (spec.hands w how number) lines self.new) }
         ensures next { self.new.next ≡ self.old.next }
@@ -210,8 +210,8 @@ impl<S: Services> Network<S> {
                 self.inject(alloc, host, chunk, bound, handler)
             }
             WorldEvent::Send(host, dev) => self.send(alloc, host, dev),
-            WorldEvent::Deliver(number) => self.hand(alloc, Handing::Taking, number),
-            WorldEvent::Repeat(number) => self.hand(alloc, Handing::Leaving, number),
+            WorldEvent::Deliver(number) => self.hand(alloc, Delivery::Taking, number),
+            WorldEvent::Repeat(number) => self.hand(alloc, Delivery::Leaving, number),
             WorldEvent::Lose(number) => self.lose(alloc, number),
             WorldEvent::Tick(host) => self.tick(alloc, host),
             WorldEvent::Raw(host, dev, bytes) => self.raw(alloc, host, dev, bytes.as_slice()),

@@ -1,20 +1,20 @@
 ghost use Rattle.std.specs.Prelude.{◌≡◌, ◌≤◌, ◌<◌, [], List, length, IfOk, IfSome, None};
 ghost use Rattle.std.specs.List.{position_from};
 ghost use Rattle.std.specs.Prelude.{slice_get, Some};
-ghost use Rattle.typing_rules.specs.Handlers.{MayHandle};
-ghost use Rattle.network_plan.specs.Rules.{MayName};
-ghost use Rattle.node_model.specs.State.{NodeState, is_host};
-ghost use Rattle.node_model.specs.Node.{inject_step, stamped_step, arrive_step, tick_step, take_step};
+ghost use Rattle.plan_types_spec.specs.Handlers.{MayHandle};
+ghost use Rattle.network_config.specs.Rules.{MayName};
+ghost use Rattle.node_core_spec.specs.State.{NodeState, is_host};
+ghost use Rattle.node_core_spec.specs.Node.{inject_step, stamped_step, arrive_step, tick_step, take_step};
 ghost use Rattle.node_core.specs.Stands.{NodeStands, IsStep};
-ghost use Rattle.world_model.specs.World as spec;
+ghost use Rattle.net_world_spec.specs.World as spec;
 ghost use Rattle.net_world.specs.Stands.{AllStand, StepsAt, MayNameAt, IsMarkedAt};
 
 use checked_chunks::CheckedChunk;
 use node_core::{Node, Version};
-use node_model::Acts;
+use node_core_spec::Acts;
+use packet_frame::EncodedFrame;
 use plan_base::{Dev, Host, Name, NoMemory};
 use service_api::Services;
-use spelled_frame::SpelledFrame;
 use std::alloc::Global;
 
 /// The place of the first node of a host.
@@ -113,7 +113,7 @@ pub fn hand_to<S: Services>(
     nodes: &mut [Node<S>],
     at: usize,
     dev: Dev,
-    frame: &SpelledFrame,
+    frame: &EncodedFrame,
 ) -> Result<Acts, NoMemory>
     requires { at < length nodes.old }
     ensures { (states : List NodeState) → AllStand S.stands nodes.old states

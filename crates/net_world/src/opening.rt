@@ -1,14 +1,14 @@
 ghost use Rattle.std.specs.Prelude.{◌≡◌, map, IfOk};
-ghost use Rattle.network_plan.specs.Rules.{KeepsNetwork};
+ghost use Rattle.network_config.specs.Rules.{KeepsNetwork};
 ghost use Rattle.node_core.specs.Stands.{NodeStands};
-ghost use Rattle.world_model.specs.World as spec;
+ghost use Rattle.net_world_spec.specs.World as spec;
 ghost use Rattle.net_world.specs.Stands.{AllStand};
 
 use crate::ends::neighbours_of;
-use network_plan::{HostSpec, Hosts, NodeConfig, Topology};
+use containers::Items;
+use network_config::{HostSpec, Hosts, NodeConfig, Topology};
 use node_core::{Node, Version};
 use plan_base::NoMemory;
-use plan_items::Items;
 use service_api::Services;
 use std::alloc::Global;
 
@@ -51,7 +51,7 @@ fn config_of(alloc: Global, topology: &Topology, host: &HostSpec) -> Result<Node
 }
 
 /// The node of a host at the beginning, with its services.
-#[tactic(auto, unfolding(world_model::specs::World::opening_node))]
+#[tactic(auto, unfolding(net_world_spec::specs::World::opening_node))]
 fn open_node<S: Services + Drop>(
     alloc: Global,
     topology: &Topology,

@@ -1,30 +1,29 @@
 ghost use Rattle.std.specs.Prelude.{◌≡◌, ◌++◌, ◌+◌, ◌<◌, ◌-◌, ◌^◌, [], List, codes, map, OnOk};
 ghost use Rattle.plan_base.specs.declared.ids.Family.{Family as FamilyOf};
-ghost use Rattle.network_plan.specs.Rules.{KeepsRules};
-ghost use Rattle.world_model.specs.World as spec;
-ghost use Rattle.world_model.specs.World.{WorldState, opening};
-ghost use Rattle.world_model.specs.declared.lines.Entry.{Entry as EntryOf};
-ghost use Rattle.world_model.specs.Texts.{entries_text, ledger_text, run_text};
-ghost use Rattle.run_ledger.specs.Stands.{Stands};
+ghost use Rattle.network_config.specs.Rules.{KeepsRules};
+ghost use Rattle.net_world_spec.specs.World as spec;
+ghost use Rattle.net_world_spec.specs.World.{WorldState, opening};
+ghost use Rattle.net_world_spec.specs.declared.lines.Entry.{Entry as EntryOf};
+ghost use Rattle.net_world_spec.specs.Texts.{entries_text, ledger_text, run_text};
+ghost use Rattle.bound_ledger.specs.Stands.{Stands};
 ghost use Rattle.bound_ledger.specs.Rows.{OneEach};
-ghost use Rattle.run_text.specs.Printed.{printed_row, all_printed};
+ghost use Rattle.trace_text.specs.Printed.{printed_row, all_printed};
 ghost use Rattle.net_world.specs.Stands.{WorldStands};
-ghost use Rattle.world_model.specs.Counts.{Balanced};
-ghost use Rattle.world_model.specs.Sound.{event_fits};
+ghost use Rattle.net_world_spec.specs.Counts.{Balanced};
+ghost use Rattle.net_world_spec.specs.Sound.{event_fits};
 ghost use Rattle.net_world.specs.Running.{AllLeave, CanRun, IsCountable};
 ghost use Rattle.net_world.specs.Printing.{Prints, WaitsFor, PutsPiece};
 ghost use Rattle.net_world.specs.Keeping.{KeepsRun};
 
 use crate::world::World;
-use bound_ledger::{Ledger, Row};
-use network_plan::{Schedule, WorldEvent};
+use bound_ledger::{Ledger, Row, count_lines};
+use containers::Items;
+use network_config::{Schedule, WorldEvent};
 use node_io::{Failed, Sink, put_all};
 use plan_base::{Bytes, Family, NoMemory};
-use plan_items::Items;
-use run_ledger::count_lines;
-use run_text::{put_all_lines, put_row};
 use service_api::Services;
 use std::alloc::Global;
+use trace_text::{put_all_lines, put_row};
 
 /// The bytes of text that are written at once.
 const PIECE: usize = 8_192;

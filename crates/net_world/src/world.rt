@@ -1,25 +1,25 @@
 ghost use Rattle.std.specs.Prelude.{◌≡◌, ◌+◌, ◌-◌, ◌<◌, ◌^◌, map, IfOk, OnOk, All};
 ghost use Rattle.plan_base.specs.declared.ids.Family.{Family};
-ghost use Rattle.network_plan.specs.Rules.{KeepsNetwork};
-ghost use Rattle.world_model.specs.World as spec;
-ghost use Rattle.world_model.specs.World.{WorldState};
-ghost use Rattle.world_model.specs.Counts.{late_in, EventInBalance};
-ghost use Rattle.world_model.specs.Sound.{IsSound, event_within, event_typed};
-ghost use Rattle.world_model.specs.Visits.{EndsWell, event_visits};
-ghost use Rattle.network_laws.specs.Roads.{BringsNone};
-ghost use Rattle.network_laws.specs.Routes.{Reached, KeepsRoutes};
-ghost use Rattle.world_model.specs.Numbers as numbers;
+ghost use Rattle.network_config.specs.Rules.{KeepsNetwork};
+ghost use Rattle.net_world_spec.specs.World as spec;
+ghost use Rattle.net_world_spec.specs.World.{WorldState};
+ghost use Rattle.net_world_spec.specs.Counts.{late_in, EventInBalance};
+ghost use Rattle.net_world_spec.specs.Sound.{IsSound, event_within, event_typed};
+ghost use Rattle.net_world_spec.specs.Visits.{EndsWell, event_visits};
+ghost use Rattle.net_world_spec.specs.Roads.{BringsNone};
+ghost use Rattle.net_world_spec.specs.Routes.{Reached, KeepsRoutes};
+ghost use Rattle.net_world_spec.specs.Numbers as numbers;
 ghost use Rattle.net_world.specs.Stands.{WorldStands, IsHappened};
 
 use crate::network::Network;
-use network_plan::{Topology, WorldEvent};
-use node_parts::are_bytes;
+use containers::Items;
+use net_world_spec::Lines;
+use network_config::{Topology, WorldEvent};
+use node_core_parts::are_bytes;
 use plan_base::NoMemory;
-use plan_items::Items;
 use service_api::Services;
 use std::alloc::Global;
 use std::marker::Model;
-use world_model::Lines;
 
 /// A network of nodes of one version, which contracts see as its nodes, its links, the frames on the wire, the
 /// number of the next frame, the number of events so far and its version. An event sends one frame at most.

@@ -8,14 +8,14 @@ use Rattle.plan_base.specs.declared.ids.Host.{Host}
 use Rattle.plan_base.specs.declared.name.Name.{Name}
 use Rattle.plan_base.specs.declared.tree.Chunk.{Chunk}
 use Rattle.plan_base.specs.declared.tree.Packet.{Packet}
-use Rattle.typing_rules.specs.Handlers.{MayHandle}
+use Rattle.plan_types_spec.specs.Handlers.{MayHandle}
 use Rattle.plan_base.specs.declared.stamp.Stamp.{Stamp}
 use Rattle.plan_base.specs.declared.stamp.Version.{Version}
 use Rattle.plan_base.specs.declared.stamp.Version.TheVariants.{One, Two}
-use Rattle.link_window.specs.declared.window.Window.{Window}
-use Rattle.link_window.specs.Seen.{Seen}
-use Rattle.link_window.specs.declared.window.Took.{Took}
-use Rattle.link_window.specs.declared.window.Took.TheVariants.{Fresh}
+use Rattle.replay_window.specs.declared.window.Window.{Window}
+use Rattle.replay_window.specs.Seen.{Seen}
+use Rattle.replay_window.specs.declared.window.Took.{Took}
+use Rattle.replay_window.specs.declared.window.Took.TheVariants.{Fresh}
 use Rattle.packet_frame.specs.Decoding.{read_by}
 use Rattle.packet_frame.specs.declared.fault.FrameFault.{FrameFault}
 use Rattle.packet_frame.specs.declared.fault.FrameFault.TheVariants as faults
@@ -23,27 +23,27 @@ use Rattle.packet_frame.specs.declared.frame.PlainFrame.{PlainFrame}
 use Rattle.packet_frame.specs.declared.frame.PlainStamped.{PlainStamped}
 use Rattle.packet_frame.specs.Stamped.{AcceptsBy}
 use Rattle.packet_frame.proofs.Versions.{accepted_by}
-use Rattle.spelled_frame.specs.Spelled.{what_of, MayCarry, version_of}
+use Rattle.packet_frame.specs.Spelled.{what_of, MayCarry, version_of}
 use Rattle.service_api.specs.declared.ctx.Ctx.{Ctx}
 use Rattle.service_api.specs.declared.router.RouteRow.{RouteRow}
 use Rattle.service_api.specs.Services.{ServiceState, begun_now}
 use Rattle.dv_routing.specs.Stands.{Stands}
 use Rattle.plan_base.specs.declared.memory.NoMemory.{NoMemory}
-use Rattle.network_plan.specs.Rules.{MayName}
-use Rattle.node_model.specs.declared.acts.Act.{Act}
-use Rattle.node_model.specs.declared.acts.Act.TheVariants.{Injected, Arrived, Asked, Bad, Stale, SerialsSpent}
-use Rattle.node_model.specs.declared.acts.Acts.{Acts}
-use Rattle.node_model.specs.State.{NodeState, Queues, routing_of}
-use Rattle.node_model.specs.Visits.{around, visit_of, services_after}
-use Rattle.node_model.specs.Node.{NodeStep, next_serial, injected_packet, visit_acts, visit_sends, sends_queues, visit_step, inject_step, stepped_node, mark_of, mark, takes_as, seen_then, with_seen, frame_step, only_acts, stamped_as, stamped_step, arrived_read, arrive_step, asked_read, control_step}
-use Rattle.node_model.specs.Fits.{IsMarked}
-use Rattle.node_model.proofs.Staying.{frame_stays}
-use Rattle.node_parts.proofs.ReadingLaws.{goes_on}
+use Rattle.network_config.specs.Rules.{MayName}
+use Rattle.node_core_spec.specs.declared.acts.Act.{Act}
+use Rattle.node_core_spec.specs.declared.acts.Act.TheVariants.{Injected, Arrived, Asked, Bad, Stale, SerialsSpent}
+use Rattle.node_core_spec.specs.declared.acts.Acts.{Acts}
+use Rattle.node_core_spec.specs.State.{NodeState, Queues, routing_of}
+use Rattle.node_core_spec.specs.Visits.{around, visit_of, services_after}
+use Rattle.node_core_spec.specs.Node.{NodeStep, next_serial, injected_packet, visit_acts, visit_sends, sends_queues, visit_step, inject_step, stepped_node, mark_of, mark, takes_as, seen_then, with_seen, frame_step, only_acts, stamped_as, stamped_step, arrived_read, arrive_step, asked_read, control_step}
+use Rattle.node_core_spec.specs.Fits.{IsMarked}
+use Rattle.node_core_spec.proofs.Staying.{frame_stays}
+use Rattle.node_core_parts.proofs.ReadingLaws.{goes_on}
 use Rattle.node_core.specs.Stands.{NodeStands, IsStep, mark_on, own_family, own_packet, around_at}
-use Rattle.node_parts.specs.Carried.{MayBear, MayGoOn}
-use Rattle.node_parts.specs.Heard.{TellsAll}
-use Rattle.node_parts.specs.Windows.{AllSeen, SeenUnder}
-use Rattle.settled_visit.specs.Settles.{visit_settled}
+use Rattle.node_core_parts.specs.Carried.{MayBear, MayGoOn}
+use Rattle.node_core_parts.specs.Heard.{TellsAll}
+use Rattle.node_core_parts.specs.Windows.{AllSeen, SeenUnder}
+use Rattle.plan_eval_settle.specs.Settles.{visit_settled}
 use Rattle.node_core.specs.declared.node.Node.{Node}
 
 -- ---- what a call's result was

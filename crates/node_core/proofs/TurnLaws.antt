@@ -10,15 +10,15 @@ use Rattle.service_api.specs.Services.{Rows, ServiceState, begun_now, made_ready
 use Rattle.plan_meaning.specs.declared.stop.EvalStop.TheVariants.{Raised, WorkSpent, Wrong, NoMemory}
 use Rattle.plan_meaning.specs.declared.outcome.Visit.{Visit}
 use Rattle.plan_meaning.specs.declared.sent.Sent.{Sent}
-use Rattle.spelled_frame.specs.Spelled.{MayCarry}
+use Rattle.packet_frame.specs.Spelled.{MayCarry}
 use Rattle.plan_meaning.specs.Run.{After, gave, stopped}
 use Rattle.plan_meaning.specs.Meaning.{meaning, visited_chunk}
 use Rattle.plan_meaning.specs.Visit.{IsVisit, Ends, allowance, begun_state}
-use Rattle.node_model.specs.Visits.{evaluated_packet, visit_end, visit_of, services_end, services_after}
-use Rattle.settled_visit.specs.Settles.{visit_settled}
-use Rattle.settled_visit.proofs.Sends.{settled_plain}
+use Rattle.node_core_spec.specs.Visits.{evaluated_packet, visit_end, visit_of, services_end, services_after}
+use Rattle.plan_eval_settle.specs.Settles.{visit_settled}
+use Rattle.plan_eval_settle.proofs.Sends.{settled_plain}
 use Rattle.node_core.specs.Turns.{closed_services, is_spent, IsResting}
-use Rattle.node_parts.specs.Carried.{Carries}
+use Rattle.node_core_parts.specs.Carried.{Carries}
 
 visit_is : (bound : ℕ) (a : After Value) (r : Visit) (new : ServiceState) → Ends allowance bound a r new → r ≡ visit_end bound a
 visit_is bound (gave v s) r new e = e.0

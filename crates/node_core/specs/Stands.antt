@@ -15,10 +15,10 @@ use Rattle.service_api.specs.declared.router.RouteRow.{RouteRow}
 use Rattle.service_api.specs.Routes.{default_route}
 use Rattle.service_api.specs.Services.{ServiceState}
 use Rattle.dv_routing.specs.Stands.{Stands}
-use Rattle.node_model.specs.declared.acts.Acts.{Acts}
-use Rattle.node_model.specs.State.{NodeState, routing_of}
-use Rattle.node_model.specs.Node.{NodeStep, mark_of}
-use Rattle.node_parts.specs.Windows.{SeenUnder}
+use Rattle.node_core_spec.specs.declared.acts.Acts.{Acts}
+use Rattle.node_core_spec.specs.State.{NodeState, routing_of}
+use Rattle.node_core_spec.specs.Node.{NodeStep, mark_of}
+use Rattle.node_core_parts.specs.Windows.{SeenUnder}
 use Rattle.node_core.specs.declared.node.Node.{Node}
 
 -- the version of a node

@@ -5,10 +5,10 @@ use Rattle.plan_base.specs.declared.tree.Packet.{Packet}
 use Rattle.service_api.specs.Services.{ServiceState, kept_services, abandoned_services}
 use Rattle.plan_meaning.specs.declared.outcome.Outcome.{Outcome}
 use Rattle.plan_meaning.specs.declared.outcome.Outcome.TheVariants.{WorkSpent}
-use Rattle.node_model.specs.declared.acts.Act.{Act}
-use Rattle.node_model.specs.declared.acts.Act.TheVariants.{Noted, Ended}
-use Rattle.node_model.specs.Node.{handled_acts, visit_sends}
-use Rattle.settled_visit.specs.declared.settling.Settled.{Settled}
+use Rattle.node_core_spec.specs.declared.acts.Act.{Act}
+use Rattle.node_core_spec.specs.declared.acts.Act.TheVariants.{Noted, Ended}
+use Rattle.node_core_spec.specs.Node.{handled_acts, visit_sends}
+use Rattle.plan_eval_settle.specs.declared.settling.Settled.{Settled}
 use Rattle.node_core.specs.declared.idle_services.Turn.{Turn}
 
 -- no visit is open

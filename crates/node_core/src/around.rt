@@ -1,6 +1,6 @@
 //! What stands around a visit, and the node's time.
 ghost use Rattle.std.specs.Prelude.{◌≡◌, ◌≤◌, length};
-ghost use Rattle.node_model.specs.Node as spec;
+ghost use Rattle.node_core_spec.specs.Node as spec;
 ghost use Rattle.node_core.specs.Stands.{around_at};
 
 use checked_chunks::CheckedPacket;

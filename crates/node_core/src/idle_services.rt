@@ -1,40 +1,40 @@
 ghost use Rattle.std.specs.Prelude.{◌≡◌, ◌≤◌, ◌+◌, ◌∷◌, ◌++◌, map, All, length, vec_len, vec_capacity, IfOk, OnOk, OnErr, IsSome, IsTrue, None, false};
 ghost use Rattle.std.specs.Option.{option_to_list};
 ghost use Rattle.service_api.specs.Services.{AreGoodRows, ServiceState, begun_now, made_ready, unexpired_services};
-ghost use Rattle.node_model.specs.Visits.{visit_of, services_after};
-ghost use Rattle.node_model.specs.Node as spec;
-ghost use Rattle.node_model.specs.declared.acts.Act.TheVariants.{Noted, Ended};
-ghost use Rattle.spelled_frame.specs.Spelled.{MayCarry};
-ghost use Rattle.settled_visit.specs.Settles as settles;
+ghost use Rattle.node_core_spec.specs.Visits.{visit_of, services_after};
+ghost use Rattle.node_core_spec.specs.Node as spec;
+ghost use Rattle.node_core_spec.specs.declared.acts.Act.TheVariants.{Noted, Ended};
+ghost use Rattle.packet_frame.specs.Spelled.{MayCarry};
+ghost use Rattle.plan_eval_settle.specs.Settles as settles;
 ghost use Rattle.node_core.specs.Turns.{IsOpen, IsResting, closed_services, is_spent as spent};
-ghost use Rattle.node_parts.specs.Carried.{Carries};
+ghost use Rattle.node_core_parts.specs.Carried.{Carries};
 
 use checked_chunks::CheckedPacket;
+use containers::Items;
+use node_core_parts::{Leavings, begin_acts, send_all, visit_sendings};
+use node_core_spec::{Act, ActList, TxQueue};
 use plan_base::{Family, Name, NoMemory, Stamp};
-use node_model::{Act, ActList, Lane};
-use node_parts::{Leavings, begin_acts, send_all, visit_sendings};
 use plan_eval::visit;
-use plan_items::Items;
+use plan_eval_settle::{Settled, settle};
 use plan_meaning::{Outbox, Outcome, Visit};
 use service_api::{Ctx, Notes, Services};
-use settled_visit::{Settled, settle};
 use std::alloc::{AllocError, Global};
 use std::marker::Model;
 
 /// The services of a node between its visits, which contracts see as those services: no `begin` is open.
-pub struct IdleServices<S: Services> {
+pub struct QuiescentServices<S: Services> {
     services: S,
 }
 
-impl<S: Services + Drop> Drop for IdleServices<S> {
+impl<S: Services + Drop> Drop for QuiescentServices<S> {
     fn drop(self) {
-        let IdleServices {
+        let QuiescentServices {
             services: _services,
         } = self;
     }
 }
 
-impl<S: Services> Model for IdleServices<S> {
+impl<S: Services> Model for QuiescentServices<S> {
     ghost use Rattle.node_core.specs.Turns.{IsResting};
 
     ghost Value = { S };
@@ -66,7 +66,7 @@ impl Drop for Turn {
 
 impl Turn {
     /// Its acts, with its sends queued. Condition: there is room for their acts. Takes no memory.
-    fn end(self, lanes: &mut [Lane]) -> ActList
+    fn end(self, lanes: &mut [TxQueue]) -> ActList
         requires { vec_len self.acts + length self.sends ≤ vec_capacity self.acts }
         ensures acts { result ≡ self.acts.items ++ spec.sends_acts lanes.old self.sends }
         ensures lanes { lanes.new ≡ spec.sends_queues lanes.old self.sends }
@@ -179,7 +179,7 @@ fn listing_of(settled: Settled, before: ActList) -> (Listing, Outbox)
 
 /// What a settled visit lists and sends, with all the room that it needs. Condition: without a mark nothing that it sends has a
 /// handler.
-#[tactic(auto, unfolding(node_model::specs::Node::visit_sends))]
+#[tactic(auto, unfolding(node_core_spec::specs::Node::visit_sends))]
 fn turn_of(
     alloc: Global,
     mark: Option<Stamp>,
@@ -203,7 +203,7 @@ fn turn_of(
 
 /// Visits a packet and settles the visit, of which nothing stands yet: gives it with what was left before and with whether its
 /// work was spent.
-#[tactic(auto, using(settled_visit::proofs::Sends::sent_plain))]
+#[tactic(auto, using(plan_eval_settle::proofs::Sends::sent_plain))]
 fn settled_of<S: Services>(
     alloc: Global,
     services: &mut S,
@@ -285,13 +285,13 @@ fn close<S: Services>(services: &mut S, is_spent: bool)
 
 /// The visit of a packet, after some acts: its acts, with its sends queued. Where memory is refused, the
 /// lanes and the services stay.
-#[tactic(auto, unfolding(node_model::specs::Node::visit_acts), using(crate::proofs::TurnLaws::undone, crate::proofs::TurnLaws::rests_closed, crate::proofs::TurnLaws::rests_abandoned))]
+#[tactic(auto, unfolding(node_core_spec::specs::Node::visit_acts), using(crate::proofs::TurnLaws::undone, crate::proofs::TurnLaws::rests_closed, crate::proofs::TurnLaws::rests_abandoned))]
 fn visit_turn<S: Services>(
     alloc: Global,
     services: &mut S,
     ctx: &Ctx,
     mark: Option<Stamp>,
-    lanes: &mut [Lane],
+    lanes: &mut [TxQueue],
     before: ActList,
     packet: &CheckedPacket,
 ) -> Result<ActList, NoMemory>
@@ -326,13 +326,13 @@ fn visit_turn<S: Services>(
     }
 }
 
-impl<S: Services> IdleServices<S> {
+impl<S: Services> QuiescentServices<S> {
     /// These services. Condition: no `begin` is open.
-    pub fn of(services: S) -> IdleServices<S>
+    pub fn of(services: S) -> QuiescentServices<S>
         requires { IsResting (S.stands services) }
         ensures { result ≡ services }
     {
-        IdleServices { services }
+        QuiescentServices { services }
     }
 
     /// The visit of a packet, after some acts: its acts, with its sends queued. Where memory is refused, the
@@ -342,7 +342,7 @@ impl<S: Services> IdleServices<S> {
         alloc: Global,
         ctx: &Ctx,
         mark: Option<Stamp>,
-        lanes: &mut [Lane],
+        lanes: &mut [TxQueue],
         before: ActList,
         packet: &CheckedPacket,
     ) -> Result<ActList, NoMemory>

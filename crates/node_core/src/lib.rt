@@ -9,6 +9,6 @@ mod opening;
 mod own;
 mod step_acts;
 
-pub use link_window::{Took, Window};
-pub use plan_base::{Stamp, Version};
 pub use node::Node;
+pub use plan_base::{Stamp, Version};
+pub use replay_window::{Took, Window};

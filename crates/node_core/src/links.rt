@@ -1,6 +1,6 @@
 //! The neighbours of a node by device.
 ghost use Rattle.std.specs.Prelude.{◌≡◌};
-ghost use Rattle.node_model.specs.State.{neighbour_on, leads_to};
+ghost use Rattle.node_core_spec.specs.State.{neighbour_on, leads_to};
 
 use plan_base::{Dev, Host};
 

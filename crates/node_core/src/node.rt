@@ -1,26 +1,26 @@
 ghost use Rattle.std.specs.Prelude.{◌≡◌, ◌≤◌, ◌<◌, IfOk, OnErr, [], ◌∷◌, slice_get, None};
-ghost use Rattle.node_model.specs.State.{NodeState, new_node, leads_to, routing_of};
-ghost use Rattle.node_model.specs.declared.acts.Act.TheVariants as act;
-ghost use Rattle.node_model.specs.Node as spec;
+ghost use Rattle.node_core_spec.specs.State.{NodeState, new_node, leads_to, routing_of};
+ghost use Rattle.node_core_spec.specs.declared.acts.Act.TheVariants as act;
+ghost use Rattle.node_core_spec.specs.Node as spec;
 ghost use Rattle.plan_base.specs.declared.ids.Family.{Family as FamilyOf};
-ghost use Rattle.link_window.specs.declared.window.Took.TheVariants.{Fresh as FreshOne};
-ghost use Rattle.network_plan.specs.Rules.{MayName};
-ghost use Rattle.spelled_frame.specs.Spelled as spelled;
-ghost use Rattle.spelled_frame.specs.Spelled.{MayCarry};
-ghost use Rattle.node_model.specs.Counts.{came, stale, StepBalances};
-ghost use Rattle.node_model.specs.Fits.{ConfigFits, NodeFits, IsMarked, comes_fit, comes_within};
-ghost use Rattle.node_parts.specs.Queued.{queued_at};
-ghost use Rattle.node_parts.specs.Heard.{TellsAll};
+ghost use Rattle.replay_window.specs.declared.window.Took.TheVariants.{Fresh as FreshOne};
+ghost use Rattle.network_config.specs.Rules.{MayName};
+ghost use Rattle.packet_frame.specs.Spelled as spelled;
+ghost use Rattle.packet_frame.specs.Spelled.{MayCarry};
+ghost use Rattle.node_core_spec.specs.Counts.{came, stale, StepBalances};
+ghost use Rattle.node_core_spec.specs.Fits.{ConfigFits, NodeFits, IsMarked, comes_fit, comes_within};
+ghost use Rattle.node_core_parts.specs.Queued.{queued_at};
+ghost use Rattle.node_core_parts.specs.Heard.{TellsAll};
 ghost use Rattle.packet_frame.specs.Stamped.{stamped_plain};
 ghost use Rattle.packet_frame.specs.Typed.{plain_of};
 ghost use Rattle.dv_routing.specs.Routing.{all_routes};
 ghost use Rattle.service_api.specs.Routes.{hop};
 ghost use Rattle.node_core.specs.Turns.{IsResting};
 ghost use Rattle.node_core.specs.Stands.{NodeStands, IsStep, version_of, mark_on, with_stamp};
-ghost use Rattle.node_parts.specs.Carried.{MayBear, MayGoOn, asks_within};
+ghost use Rattle.node_core_parts.specs.Carried.{MayBear, MayGoOn, asks_within};
 
 use crate::around::{around, next_tick};
-use crate::idle_services::IdleServices;
+use crate::idle_services::QuiescentServices;
 use crate::links::leads_to;
 use crate::opening::open_parts;
 use crate::own::{own_family, own_packet};
@@ -29,19 +29,18 @@ use crate::step_acts::{
     with_act,
 };
 use checked_chunks::{Checked, CheckedChunk, CheckedPacket};
-use link_window::{Took, Window};
-use plan_base::{Dev, Host, Name, NoMemory, Stamp, Version};
-use network_plan::{Event, NodeConfig};
-use node_model::{Act, ActList, Acts, Lane, Reason};
-use node_parts::{
+use containers::Items;
+use network_config::{Event, NodeConfig};
+use node_core_parts::{
     Leavings, NeighbourList, Routes, advert_sendings, code_of, count_frames, has_frame, judge,
     note, packet_sending, read_as, send_all, send_one, take_first, what_of,
 };
-use packet_frame::{Frame, Stamped};
-use plan_copies::copy_handler;
-use plan_items::Items;
+use node_core_spec::{Act, ActList, Acts, Reason, TxQueue};
+use packet_frame::{EncodedFrame, Frame, Stamped};
+use plan_base::{Dev, Host, Name, NoMemory, Stamp, Version};
+use plan_base_copy::copy_handler;
+use replay_window::{Took, Window};
 use service_api::{Advert, Ctx, Hop, Router, Services};
-use spelled_frame::SpelledFrame;
 use std::alloc::Global;
 
 /// A node: its host, its version, the moment at which it began, its neighbours by device, its routes, its services, for each
@@ -53,8 +52,8 @@ pub struct Node<S: Services> {
     boot: u64,
     neighbours: NeighbourList<(Host, Dev)>,
     routes: Routes,
-    services: IdleServices<S>,
-    lanes: Vec<Lane>,
+    services: QuiescentServices<S>,
+    lanes: Vec<TxQueue>,
     windows: Vec<Window>,
     serial: u64,
     time: u64,
@@ -82,7 +81,7 @@ impl<S: Services + Drop> Drop for Node<S> {
 impl<S: Services + Drop> Node<S> {
     /// A node at its beginning: it has heard nothing, nothing is queued, nothing was taken, and its time is 0. Conditions: at
     /// most 32 hosts, none twice; neighbours on devices from 1 to 8, each once, in order; no `begin` of the services is open.
-    #[tactic(auto, unfolding(node_model::specs::State::new_node), using(node_model::proofs::Contexts::near_by_devices))]
+    #[tactic(auto, unfolding(node_core_spec::specs::State::new_node), using(node_core_spec::proofs::Contexts::near_by_devices))]
     pub fn new(alloc: Global, config: NodeConfig, services: S) -> Result<Node<S>, NoMemory>
         requires config { ConfigFits config }
         requires services { IsResting (S.stands services) }
@@ -107,7 +106,7 @@ impl<S: Services + Drop> Node<S> {
             boot,
             neighbours: NeighbourList::of(neighbours),
             routes,
-            services: IdleServices::of(services),
+            services: QuiescentServices::of(services),
             lanes,
             windows,
             serial,
@@ -176,7 +175,7 @@ impl<S: Services> Node<S> {
 
     /// The settled visit of a packet, after some acts, with the routes that were handed out. Conditions: under version 1 the
     /// packet has no handler, and the routes are those of the node.
-    #[tactic(auto, unfolding(node_model::specs::Node::visit_step))]
+    #[tactic(auto, unfolding(node_core_spec::specs::Node::visit_step))]
     fn visit_with(
         &mut self,
         alloc: Global,
@@ -339,7 +338,7 @@ impl<S: Services> Node<S> {
     }
 
     /// A packet that goes on by a hop. Condition: under version 1 it has no handler.
-    #[tactic(auto, unfolding(node_model::specs::Node::forward_by))]
+    #[tactic(auto, unfolding(node_core_spec::specs::Node::forward_by))]
     fn forward_by(
         &mut self,
         alloc: Global,
@@ -375,7 +374,7 @@ impl<S: Services> Node<S> {
     }
 
     /// A packet for another host. Condition: under version 1 it has no handler.
-    #[tactic(auto, unfolding(node_model::specs::Node::forward_step))]
+    #[tactic(auto, unfolding(node_core_spec::specs::Node::forward_step))]
     fn forward(&mut self, alloc: Global, dev: Dev, packet: &CheckedPacket) -> Result<Acts, NoMemory>
         requires carried { MayCarry (mark_on self.old) packet.now.handler }
         ensures ok { (s : NodeState) → NodeStands S.stands self.old s → IfOk result
@@ -394,7 +393,7 @@ impl<S: Services> Node<S> {
     }
 
     /// A packet arrives: one for this host is visited. Condition: under version 1 it has no handler.
-    #[tactic(auto, unfolding(node_model::specs::Node::packet_step))]
+    #[tactic(auto, unfolding(node_core_spec::specs::Node::packet_step))]
     fn take_in(&mut self, alloc: Global, dev: Dev, packet: &CheckedPacket) -> Result<Acts, NoMemory>
         requires carried { MayCarry (mark_on self.old) packet.now.handler }
         ensures ok { (s : NodeState) → NodeStands S.stands self.old s → IfOk result
@@ -428,7 +427,7 @@ impl<S: Services> Node<S> {
     }
 
     /// An advert arrives: it is heard where it comes from the neighbour on its device.
-    #[tactic(auto, unfolding(node_model::specs::Node::advert_step))]
+    #[tactic(auto, unfolding(node_core_spec::specs::Node::advert_step))]
     fn hear(&mut self, alloc: Global, dev: Dev, advert: &Advert) -> Result<Acts, NoMemory>
         ensures ok { (s : NodeState) → NodeStands S.stands self.old s → IfOk result
             (λ acts. IsStep S.stands (spec.advert_step s dev advert.now) acts self.new) }
@@ -464,7 +463,7 @@ impl<S: Services> Node<S> {
     }
 
     /// What a device takes a frame with this stamp as. Condition: under version 1 it has none. Takes no memory.
-    #[tactic(auto, unfolding(node_model::specs::Node::takes_as), using(crate::proofs::StepLaws::stamp_seen))]
+    #[tactic(auto, unfolding(node_core_spec::specs::Node::takes_as), using(crate::proofs::StepLaws::stamp_seen))]
     fn judge(&self, dev: Dev, stamp: Option<Stamp>) -> Took
         requires { MayBear (version_of self.now) stamp }
         ensures { (s : NodeState) → NodeStands S.stands self.now s → result ≡ spec.takes_as
@@ -477,7 +476,7 @@ impl<S: Services> Node<S> {
     }
 
     /// Takes a fresh stamp on a device. Condition: under version 1 there is none. Takes no memory.
-    #[tactic(auto, unfolding(node_model::specs::Node::takes_as, node_model::specs::Node::seen_then), using(crate::proofs::StepLaws::stamp_seen, crate::proofs::StepLaws::stamp_noted))]
+    #[tactic(auto, unfolding(node_core_spec::specs::Node::takes_as, node_core_spec::specs::Node::seen_then), using(crate::proofs::StepLaws::stamp_seen, crate::proofs::StepLaws::stamp_noted))]
     fn note(&mut self, dev: Dev, stamp: Option<Stamp>)
         requires { MayBear (version_of self.old) stamp }
         ensures stands { (s : NodeState) → NodeStands S.stands self.old s → spec.takes_as s.seen dev
@@ -533,7 +532,7 @@ impl<S: Services> Node<S> {
 
     /// A frame with its stamp arrives: it is stale where its stamp isn't fresh on its device. Conditions: under version 1 it has
     /// none, and a packet has no handler.
-    #[tactic(auto, unfolding(node_model::specs::Node::stamped_step))]
+    #[tactic(auto, unfolding(node_core_spec::specs::Node::stamped_step))]
     fn arrive_stamped(
         &mut self,
         alloc: Global,
@@ -586,7 +585,7 @@ impl<S: Services> Node<S> {
     }
 
     /// The step of bytes that arrive over a device.
-    #[tactic(auto, unfolding(node_model::specs::Node::arrive_step))]
+    #[tactic(auto, unfolding(node_core_spec::specs::Node::arrive_step))]
     pub fn arrive(&mut self, alloc: Global, dev: Dev, bytes: &[u8]) -> Result<Acts, NoMemory>
         ensures ok { (s : NodeState) → NodeStands S.stands self.old s → IfOk result
             (λ acts. IsStep S.stands (spec.arrive_step s dev bytes.now) acts self.new) }
@@ -606,7 +605,7 @@ impl<S: Services> Node<S> {
         &mut self,
         alloc: Global,
         dev: Dev,
-        frame: &SpelledFrame,
+        frame: &EncodedFrame,
     ) -> Result<Acts, NoMemory>
         ensures ok { (s : NodeState) → NodeStands S.stands self.old s → IsMarked s.version
             frame.now.stamp → IfOk result (λ acts. IsStep S.stands
@@ -660,7 +659,7 @@ impl<S: Services> Node<S> {
     }
 
     /// Bytes arrive from the owner: an ask is an injection.
-    #[tactic(auto, unfolding(node_model::specs::Node::control_step))]
+    #[tactic(auto, unfolding(node_core_spec::specs::Node::control_step))]
     fn control(&mut self, alloc: Global, bytes: &[u8]) -> Result<Acts, NoMemory>
         ensures ok { (s : NodeState) → NodeStands S.stands self.old s → IfOk result
             (λ acts. IsStep S.stands (spec.control_step s bytes.now) acts self.new) }
@@ -675,7 +674,7 @@ impl<S: Services> Node<S> {
     }
 
     /// The advert for each neighbour.
-    #[tactic(auto, unfolding(node_model::specs::Node::tick_sends))]
+    #[tactic(auto, unfolding(node_core_spec::specs::Node::tick_sends))]
     fn adverts(&self, alloc: Global) -> Result<Leavings, NoMemory>
         ensures { (s : NodeState) → NodeStands S.stands self.now s → IfOk result
             (λ sends. sends ≡ spec.tick_sends s) }
@@ -686,7 +685,7 @@ impl<S: Services> Node<S> {
     }
 
     /// The step of a tick: rows that have expired go, and the advert is queued for each neighbour.
-    #[tactic(auto, unfolding(node_model::specs::Node::tick_step))]
+    #[tactic(auto, unfolding(node_core_spec::specs::Node::tick_step))]
     pub fn tick(&mut self, alloc: Global) -> Result<Acts, NoMemory>
         ensures ok { (s : NodeState) → NodeStands S.stands self.old s → IfOk result
             (λ acts. IsStep S.stands (spec.tick_step s) acts self.new) }
@@ -707,7 +706,7 @@ impl<S: Services> Node<S> {
     }
 
     /// The step that takes the first frame of a device.
-    #[tactic(auto, unfolding(node_model::specs::Node::take_step))]
+    #[tactic(auto, unfolding(node_core_spec::specs::Node::take_step))]
     pub fn take(&mut self, alloc: Global, dev: Dev) -> Result<Acts, NoMemory>
         ensures ok { (s : NodeState) → NodeStands S.stands self.old s → IfOk result
             (λ acts. IsStep S.stands (spec.take_step s dev) acts self.new) }

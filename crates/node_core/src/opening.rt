@@ -3,20 +3,20 @@ ghost use Rattle.std.specs.Prelude.{◌≡◌, [], IfOk};
 ghost use Rattle.dv_routing.specs.Routing.{opening_routing};
 ghost use Rattle.dv_routing.specs.Sorted.{sorted_into};
 ghost use Rattle.dv_routing.specs.Stands.{Stands};
-ghost use Rattle.node_model.specs.Fits.{NetworkFits};
-ghost use Rattle.node_model.specs.State.{no_queues, none_seen};
-ghost use Rattle.node_parts.specs.Windows.{SeenUnder};
+ghost use Rattle.node_core_spec.specs.Fits.{NetworkFits};
+ghost use Rattle.node_core_spec.specs.State.{no_queues, none_seen};
+ghost use Rattle.node_core_parts.specs.Windows.{SeenUnder};
 
-use link_window::Window;
+use network_config::NodeConfig;
+use node_core_parts::{Routes, open_lanes, open_windows};
+use node_core_spec::TxQueue;
 use plan_base::{NoMemory, Version};
-use network_plan::NodeConfig;
-use node_model::Lane;
-use node_parts::{Routes, open_lanes, open_windows};
+use replay_window::Window;
 use std::alloc::Global;
 
 /// The devices of a node at its beginning: the queue and the window of each.
 pub(crate) struct Devices {
-    pub(crate) lanes: Vec<Lane>,
+    pub(crate) lanes: Vec<TxQueue>,
     pub(crate) windows: Vec<Window>,
 }
 
@@ -31,7 +31,7 @@ impl Drop for Devices {
 
 impl Devices {
     /// The queues and the windows.
-    pub(crate) fn into_parts(self) -> (Vec<Lane>, Vec<Window>)
+    pub(crate) fn into_parts(self) -> (Vec<TxQueue>, Vec<Window>)
         ensures lanes { result.0 ≡ self.lanes }
         ensures windows { result.1 ≡ self.windows }
     {

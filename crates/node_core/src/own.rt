@@ -1,12 +1,12 @@
 //! The packet of an injection.
 ghost use Rattle.std.specs.Prelude.{◌≡◌, ◌≤◌, IfOk};
 ghost use Rattle.node_core.specs.Stands.{own_family, own_packet};
-ghost use Rattle.typing_rules.specs.Handlers.{MayHandle};
+ghost use Rattle.plan_types_spec.specs.Handlers.{MayHandle};
 
 use checked_chunks::{CheckedChunk, CheckedPacket};
+use packet_frame::with_handler;
 use plan_base::{Family, Host, Name, NoMemory};
 use remote_calls::default_route;
-use spelled_frame::with_handler;
 use std::alloc::Global;
 
 /// The family of the injection at a host with this serial number.

@@ -1,14 +1,13 @@
 //! The lists of what a step does.
 ghost use Rattle.std.specs.Prelude.{◌≡◌, ◌++◌, ◌+◌, ◌≤◌, IfOk, IsErr, [], ◌∷◌, None, Some, vec_len, vec_capacity};
-ghost use Rattle.node_model.specs.declared.acts.Act.TheVariants as act;
+ghost use Rattle.node_core_spec.specs.declared.acts.Act.TheVariants as act;
 ghost use Rattle.packet_frame.specs.declared.fault.FrameFault.TheVariants as faults;
-ghost use Rattle.spelled_frame.specs.Spelled as spelled;
+ghost use Rattle.packet_frame.specs.Spelled as spelled;
 
-use node_model::{Act, ActList, Acts};
-use packet_frame::FrameFault;
+use containers::Items;
+use node_core_spec::{Act, ActList, Acts};
+use packet_frame::{EncodedFrame, FrameFault};
 use plan_base::{Dev, NoMemory};
-use plan_items::Items;
-use spelled_frame::SpelledFrame;
 use std::alloc::{AllocError, Global};
 
 /// The acts of most steps are no more than these.
@@ -108,7 +107,7 @@ pub(crate) fn ticked(alloc: Global, now: u64, sends: usize) -> Result<Vec<Act>, 
 }
 
 /// What a step gives that takes a frame of a device. Condition: there is room for an act.
-pub(crate) fn taken(room: Vec<Act>, dev: Dev, frame: SpelledFrame) -> Acts
+pub(crate) fn taken(room: Vec<Act>, dev: Dev, frame: EncodedFrame) -> Acts
     requires none { room.items ≡ [] }
     requires room { vec_len room + 1 ≤ vec_capacity room }
     ensures list { result.list ≡ act.Taken dev (spelled.what_of frame.frame) ∷ [] }

@@ -5,18 +5,18 @@ use Rattle.std.specs.Str.{bytes_eq}
 use lib.Chars.{codes}
 use Rattle.plan_base.specs.declared.tree.Program.{Program}
 use Rattle.checked_chunks.specs.Kept.{IsChecked}
-use Rattle.network_plan.specs.declared.fleet.AskFile.{AskFile}
-use Rattle.network_plan.specs.NodeRules.{IsPort, KeepsAsk}
-use Rattle.line_files.specs.declared.fault.LineReason.TheVariants.{BadWord}
-use Rattle.line_files.specs.declared.fault.LineFault.{LineFault}
-use Rattle.line_files.specs.Lines.{lines, words}
-use Rattle.line_files.specs.Reads.{word_at, end_at, rest_at, FileGives}
-use Rattle.line_files.specs.Programs.{with_line, program_in, call_at}
-use Rattle.line_files.proofs.FileLaws.{is_keeping}
-use Rattle.line_files.proofs.Keeping.{IfRead, then_keeps, done_keeps, none_keeps, IfStep, step_done, at_line_keeps, either_keeps, read_keeps}
-use Rattle.line_files.proofs.KeptPrograms.{program_is, call_is}
-use Rattle.line_files.specs.Inside.{OnFault, RefusesRead}
-use Rattle.line_files.proofs.Placing.{fault_done, fault_here, at_line_placed, either_placed, Places, refuses_read}
+use Rattle.network_config.specs.declared.fleet.AskFile.{AskFile}
+use Rattle.network_config.specs.NodeRules.{IsPort, KeepsAsk}
+use Rattle.line_reader.specs.declared.fault.LineReason.TheVariants.{BadWord}
+use Rattle.line_reader.specs.declared.fault.LineFault.{LineFault}
+use Rattle.line_reader.specs.Lines.{lines, words}
+use Rattle.line_reader.specs.Reads.{word_at, end_at, rest_at, FileGives}
+use Rattle.line_reader.specs.Programs.{with_line, program_in, call_at}
+use Rattle.line_reader.proofs.FileLaws.{is_keeping}
+use Rattle.line_reader.proofs.Keeping.{IfRead, then_keeps, done_keeps, none_keeps, IfStep, step_done, at_line_keeps, either_keeps, read_keeps}
+use Rattle.line_reader.proofs.KeptPrograms.{program_is, call_is}
+use Rattle.line_reader.specs.Inside.{OnFault, RefusesRead}
+use Rattle.line_reader.proofs.Placing.{fault_done, fault_here, at_line_placed, either_placed, Places, refuses_read}
 use Rattle.node_files.specs.declared.ask.AskWord.{AskWord}
 use Rattle.node_files.specs.declared.ask.AskWord.TheVariants as word
 use Rattle.node_files.specs.declared.ask.AskStage.{AskStage}

@@ -4,20 +4,20 @@ use Rattle.std.specs.Prelude.{is_some}
 use Rattle.std.proofs.lemmas.Bool.{leb-true, le-leb, lt-leb}
 use Rattle.plan_base.specs.declared.tree.Chunk.{Chunk}
 use Rattle.plan_base.specs.Sizes.{chunk_weight}
-use Rattle.chunk_types.specs.declared.fault.Ill.{Ill}
-use Rattle.chunk_types.specs.declared.fault.ChunkFault.{ChunkFault}
+use Rattle.plan_types_chunks.specs.declared.fault.Ill.{Ill}
+use Rattle.plan_types_chunks.specs.declared.fault.ChunkFault.{ChunkFault}
 use Rattle.checked_chunks.specs.Kept.{IsCheckedChunk}
-use Rattle.chunk_types.specs.Chunks.{illness, as_fault}
-use Rattle.chunk_types.proofs.Values.{chunk_found, chunk_only}
+use Rattle.plan_types_chunks.specs.Chunks.{illness, as_fault}
+use Rattle.plan_types_chunks.proofs.Values.{chunk_found, chunk_only}
 use Rattle.wire_bytes.specs.Fields.{Front, IsBytes}
-use Rattle.chunk_spelling.specs.declared.fault.SpellFault.{SpellFault}
-use Rattle.chunk_spelling.specs.declared.fault.SpellFault.TheVariants as spelling
-use Rattle.chunk_spelling.specs.Items.{a_chunk}
-use Rattle.chunk_spelling.specs.Scan.{Scan}
-use Rattle.chunk_spelling.specs.Values.{chunk_bytes}
-use Rattle.chunk_spelling.specs.Spelling.{Spells, SpelledAt, FirstFaultAt, a_whole_chunk, from_front}
-use Rattle.chunk_spelling.proofs.ValueLaws.{chunk_part_lawful}
-use Rattle.chunk_spelling.proofs.WholeLaws.{found_by, only_by, spelled_no_fault}
+use Rattle.chunk_codec_spec.specs.declared.fault.SpellFault.{SpellFault}
+use Rattle.chunk_codec_spec.specs.declared.fault.SpellFault.TheVariants as spelling
+use Rattle.chunk_codec_spec.specs.Items.{a_chunk}
+use Rattle.chunk_codec_spec.specs.Scan.{Scan}
+use Rattle.chunk_codec_spec.specs.Values.{chunk_bytes}
+use Rattle.chunk_codec_spec.specs.Spelling.{Spells, SpelledAt, FirstFaultAt, a_whole_chunk, from_front}
+use Rattle.chunk_codec_spec.proofs.ValueLaws.{chunk_part_lawful}
+use Rattle.chunk_codec_spec.proofs.WholeLaws.{found_by, only_by, spelled_no_fault}
 use Rattle.packet_frame.proofs.Carried.{chunk_is_formed, chunk_is_full, chunk_is_small}
 use Rattle.node_files.specs.ChunkWords.{taking_all, spelled_chunk, if_typed, typed_chunk}
 

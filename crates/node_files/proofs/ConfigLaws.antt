@@ -15,27 +15,27 @@ use Rattle.checked_chunks.specs.Kept.{IsChecked}
 use Rattle.service_api.specs.declared.package.PackageName.{PackageName}
 use Rattle.plan_base.specs.declared.stamp.Version.{Version}
 use Rattle.plan_base.specs.declared.stamp.Version.TheVariants.{One, Two}
-use Rattle.network_plan.specs.declared.serve.Inject.{Inject as Injection}
-use Rattle.network_plan.specs.declared.serve.ServeConfig.{ServeConfig}
-use Rattle.network_plan.specs.FileNames.{is_file_name}
-use Rattle.network_plan.specs.Rules.{PackagesDiffer}
-use Rattle.network_plan.specs.NodeRules.{IsNeighbour, DevicesAscend, IsPort, PortsDiffer, KeepsBoot, KeepsInject, weights, KeepsServe}
-use Rattle.line_files.specs.declared.fault.LineReason.TheVariants.{BadHeader, BadWord, UnknownProgram, TwiceNamed}
-use Rattle.line_files.specs.declared.fault.LineFault.{LineFault}
-use Rattle.line_files.specs.Lines.{lines}
-use Rattle.line_files.specs.Reads.{word_at, end_at, allowed_or_reason, FileGives}
-use Rattle.line_files.specs.Numbers.{number_at}
-use Rattle.line_files.specs.Packages.{package_at}
-use Rattle.line_files.specs.FileNames.{file_name_at}
-use Rattle.line_files.specs.Headers.{version_in}
-use Rattle.line_files.specs.Programs.{opened_program, with_line, program_in, weighed_sum}
-use Rattle.line_files.specs.Injections.{injection_at}
-use Rattle.line_files.specs.Inside.{OnFault, RefusesRead}
-use Rattle.line_files.proofs.FileLaws.{is_keeping}
-use Rattle.line_files.proofs.Keeping.{IfRead, InRange, then_keeps, done_keeps, allowed_not, ok_or_is, number_is, file_name_is, package_is, either_false, AreHosts, IfStep, step_done, at_line_keeps, either_keeps, version_keeps, read_keeps}
-use Rattle.line_files.proofs.KeptPrograms.{program_is, weighed_is}
-use Rattle.line_files.proofs.KeptInjections.{injection_is}
-use Rattle.line_files.proofs.Placing.{fault_done, fault_here, at_line_placed, either_placed, version_placed, Places, refuses_read}
+use Rattle.network_config.specs.declared.serve.Inject.{Inject as Injection}
+use Rattle.network_config.specs.declared.serve.ServeConfig.{ServeConfig}
+use Rattle.network_config.specs.FileNames.{is_file_name}
+use Rattle.network_config.specs.Rules.{PackagesDiffer}
+use Rattle.network_config.specs.NodeRules.{IsNeighbour, DevicesAscend, IsPort, PortsDiffer, KeepsBoot, KeepsInject, weights, KeepsServe}
+use Rattle.line_reader.specs.declared.fault.LineReason.TheVariants.{BadHeader, BadWord, UnknownProgram, TwiceNamed}
+use Rattle.line_reader.specs.declared.fault.LineFault.{LineFault}
+use Rattle.line_reader.specs.Lines.{lines}
+use Rattle.line_reader.specs.Reads.{word_at, end_at, allowed_or_reason, FileGives}
+use Rattle.line_reader.specs.Numbers.{number_at}
+use Rattle.line_reader.specs.Packages.{package_at}
+use Rattle.line_reader.specs.FileNames.{file_name_at}
+use Rattle.line_reader.specs.Headers.{version_in}
+use Rattle.line_reader.specs.Programs.{opened_program, with_line, program_in, weighed_sum}
+use Rattle.line_reader.specs.Injections.{injection_at}
+use Rattle.line_reader.specs.Inside.{OnFault, RefusesRead}
+use Rattle.line_reader.proofs.FileLaws.{is_keeping}
+use Rattle.line_reader.proofs.Keeping.{IfRead, InRange, then_keeps, done_keeps, allowed_not, ok_or_is, number_is, file_name_is, package_is, either_false, AreHosts, IfStep, step_done, at_line_keeps, either_keeps, version_keeps, read_keeps}
+use Rattle.line_reader.proofs.KeptPrograms.{program_is, weighed_is}
+use Rattle.line_reader.proofs.KeptInjections.{injection_is}
+use Rattle.line_reader.proofs.Placing.{fault_done, fault_here, at_line_placed, either_placed, version_placed, Places, refuses_read}
 use Rattle.node_files.specs.declared.config.HeadWord.{HeadWord}
 use Rattle.node_files.specs.declared.config.HeadWord.TheVariants as head
 use Rattle.node_files.specs.declared.config.TailWord.{TailWord}

@@ -6,20 +6,20 @@ use Rattle.std.specs.Option.{ok_or}
 use Rattle.std.proofs.lemmas.Bool.{ltb-true}
 use Rattle.std.proofs.lemmas.List.Elements.{All-nil, All-push}
 use lib.Chars.{codes}
-use Rattle.network_plan.specs.declared.fleet.Fleet.{Fleet}
-use Rattle.network_plan.specs.declared.fleet.Kid.TheVariants as kids
-use Rattle.network_plan.specs.Hosts.{host_of}
-use Rattle.network_plan.specs.NodeRules.{KeepsKid, KeepsFleet}
-use Rattle.line_files.specs.declared.fault.LineReason.TheVariants.{BadHeader, BadWord, TooMany}
-use Rattle.line_files.specs.declared.fault.LineFault.{LineFault}
-use Rattle.line_files.specs.Lines.{lines}
-use Rattle.line_files.specs.Reads.{word_at, end_at, allowed_or_reason, FileGives}
-use Rattle.line_files.specs.Numbers.{number_at}
-use Rattle.line_files.specs.FileNames.{file_name_at}
-use Rattle.line_files.proofs.FileLaws.{is_keeping}
-use Rattle.line_files.proofs.Keeping.{IfRead, then_keeps, done_keeps, allowed_below, number_is, file_name_is, IfStep, step_done, read_keeps}
-use Rattle.line_files.specs.Inside.{OnFault, RefusesRead}
-use Rattle.line_files.proofs.Placing.{fault_done, fault_here, Places, refuses_read}
+use Rattle.network_config.specs.declared.fleet.Fleet.{Fleet}
+use Rattle.network_config.specs.declared.fleet.Kid.TheVariants as kids
+use Rattle.network_config.specs.Hosts.{host_of}
+use Rattle.network_config.specs.NodeRules.{KeepsKid, KeepsFleet}
+use Rattle.line_reader.specs.declared.fault.LineReason.TheVariants.{BadHeader, BadWord, TooMany}
+use Rattle.line_reader.specs.declared.fault.LineFault.{LineFault}
+use Rattle.line_reader.specs.Lines.{lines}
+use Rattle.line_reader.specs.Reads.{word_at, end_at, allowed_or_reason, FileGives}
+use Rattle.line_reader.specs.Numbers.{number_at}
+use Rattle.line_reader.specs.FileNames.{file_name_at}
+use Rattle.line_reader.proofs.FileLaws.{is_keeping}
+use Rattle.line_reader.proofs.Keeping.{IfRead, then_keeps, done_keeps, allowed_below, number_is, file_name_is, IfStep, step_done, read_keeps}
+use Rattle.line_reader.specs.Inside.{OnFault, RefusesRead}
+use Rattle.line_reader.proofs.Placing.{fault_done, fault_here, Places, refuses_read}
 use Rattle.node_files.specs.declared.fleet.KidWord.{KidWord}
 use Rattle.node_files.specs.declared.fleet.KidWord.TheVariants as word
 use Rattle.node_files.specs.declared.fleet.FleetReading.{FleetReading}

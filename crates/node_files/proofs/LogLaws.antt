@@ -11,27 +11,27 @@ use Rattle.plan_base.specs.declared.tree.Chunk.{Chunk}
 use Rattle.service_api.specs.declared.package.PackageName.{PackageName}
 use Rattle.plan_base.specs.declared.stamp.Version.{Version}
 use Rattle.plan_base.specs.declared.stamp.Version.TheVariants.{One, Two}
-use Rattle.network_plan.specs.declared.event.Event.TheVariants as events
-use Rattle.network_plan.specs.declared.event.LogEvent.{LogEvent}
-use Rattle.network_plan.specs.declared.event.LogEvent.TheVariants as logged
-use Rattle.network_plan.specs.declared.node.Log.{Log}
-use Rattle.network_plan.specs.Hosts.{dev_of}
-use Rattle.network_plan.specs.Rules.{PackagesDiffer, MayArrive}
-use Rattle.network_plan.specs.NodeRules.{IsNeighbour, DevicesAscend, KeepsBoot, KeepsEntry, KeepsLog}
-use Rattle.line_files.specs.declared.fault.LineReason.TheVariants.{BadHeader, BadWord, TooMany, BadArgument}
-use Rattle.line_files.specs.declared.fault.LineFault.{LineFault}
-use Rattle.line_files.specs.Lines.{lines}
-use Rattle.line_files.specs.Reads.{word_at, end_at, allowed_or_reason, FileGives}
-use Rattle.line_files.specs.Numbers.{number_at}
-use Rattle.line_files.specs.Packages.{package_at}
-use Rattle.line_files.specs.HexWords.{hex_at}
-use Rattle.line_files.proofs.FileLaws.{is_keeping}
-use Rattle.line_files.proofs.Keeping.{IfRead, then_keeps, done_keeps, allowed_below, ok_or_is, number_is, AreSized, hex_is, package_is, AreHosts, IfStep, step_done, version_keeps, read_keeps}
-use Rattle.line_files.specs.Inside.{OnFault, RefusesRead}
-use Rattle.line_files.specs.Headers.{version_in}
-use Rattle.line_files.specs.Handlers.{handler_at}
-use Rattle.line_files.proofs.KeptInjections.{handler_is}
-use Rattle.line_files.proofs.Placing.{fault_done, fault_here, version_placed, Places, refuses_read}
+use Rattle.network_config.specs.declared.event.Event.TheVariants as events
+use Rattle.network_config.specs.declared.event.LogEvent.{LogEvent}
+use Rattle.network_config.specs.declared.event.LogEvent.TheVariants as logged
+use Rattle.network_config.specs.declared.node.Log.{Log}
+use Rattle.network_config.specs.Hosts.{dev_of}
+use Rattle.network_config.specs.Rules.{PackagesDiffer, MayArrive}
+use Rattle.network_config.specs.NodeRules.{IsNeighbour, DevicesAscend, KeepsBoot, KeepsEntry, KeepsLog}
+use Rattle.line_reader.specs.declared.fault.LineReason.TheVariants.{BadHeader, BadWord, TooMany, BadArgument}
+use Rattle.line_reader.specs.declared.fault.LineFault.{LineFault}
+use Rattle.line_reader.specs.Lines.{lines}
+use Rattle.line_reader.specs.Reads.{word_at, end_at, allowed_or_reason, FileGives}
+use Rattle.line_reader.specs.Numbers.{number_at}
+use Rattle.line_reader.specs.Packages.{package_at}
+use Rattle.line_reader.specs.HexWords.{hex_at}
+use Rattle.line_reader.proofs.FileLaws.{is_keeping}
+use Rattle.line_reader.proofs.Keeping.{IfRead, then_keeps, done_keeps, allowed_below, ok_or_is, number_is, AreSized, hex_is, package_is, AreHosts, IfStep, step_done, version_keeps, read_keeps}
+use Rattle.line_reader.specs.Inside.{OnFault, RefusesRead}
+use Rattle.line_reader.specs.Headers.{version_in}
+use Rattle.line_reader.specs.Handlers.{handler_at}
+use Rattle.line_reader.proofs.KeptInjections.{handler_is}
+use Rattle.line_reader.proofs.Placing.{fault_done, fault_here, version_placed, Places, refuses_read}
 use Rattle.checked_chunks.specs.Kept.{IsCheckedChunk}
 use Rattle.node_files.specs.declared.log.NodeWord.{NodeWord}
 use Rattle.node_files.specs.declared.log.NodeWord.TheVariants as node

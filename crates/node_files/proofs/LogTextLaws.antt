@@ -13,32 +13,32 @@ use Rattle.plan_base.specs.declared.name.Name.{Name}
 use Rattle.plan_base.specs.Words.{is_name}
 use Rattle.plan_base.specs.declared.tree.Chunk.{Chunk}
 use Rattle.checked_chunks.specs.Kept.{IsCheckedChunk}
-use Rattle.chunk_spelling.proofs.LengthLaws.{chunk_length}
+use Rattle.chunk_codec_spec.proofs.LengthLaws.{chunk_length}
 use Rattle.packet_frame.proofs.Sizes.{chunk_small}
 use Rattle.hex.specs.Hex.{encode_lower, IsBytes}
 use Rattle.hex.proofs.HexLemmas.{decode_of-encode_lower}
-use Rattle.chunk_spelling.specs.Values.{chunk_bytes}
-use Rattle.chunk_spelling.specs.Spelling.{a_whole_chunk}
+use Rattle.chunk_codec_spec.specs.Values.{chunk_bytes}
+use Rattle.chunk_codec_spec.specs.Spelling.{a_whole_chunk}
 use Rattle.plan_base.specs.declared.stamp.Version.{Version}
 use Rattle.plan_base.specs.declared.stamp.Version.TheVariants.{One, Two}
-use Rattle.network_plan.specs.declared.event.Event.TheVariants as events
-use Rattle.network_plan.specs.declared.event.LogEvent.{LogEvent}
-use Rattle.network_plan.specs.declared.event.LogEvent.TheVariants as logged
-use Rattle.network_plan.specs.declared.node.NodeConfig.{NodeConfig}
-use Rattle.network_plan.specs.declared.node.Log.{Log}
-use Rattle.network_plan.specs.Hosts.{host_of, is_listed}
-use Rattle.network_plan.specs.Rules.{PackagesDiffer, MayName, KeepsInjection, MayArrive}
-use Rattle.network_plan.specs.NodeRules.{Ascend, DevicesAscend, IsNeighbour, first_link, KeepsBoot, KeepsNode, KeepsEntry, KeepsLog}
-use Rattle.line_files.specs.Lines.{lines, spaced_words, behind}
-use Rattle.line_files.specs.Files.{is_skipped, read_on}
-use Rattle.line_files.specs.Packages.{same_package}
-use Rattle.line_files.specs.HexWords.{within_size, hex_at}
-use Rattle.line_files.specs.Handlers.{named_handler, handler_at}
-use Rattle.line_files.proofs.Again.{line_first}
-use Rattle.schedule_laws.specs.Written.{package_word, handler_words, IsNamed}
-use Rattle.schedule_laws.proofs.WordLaws.{line_is, name_free, hex_free}
-use Rattle.schedule_laws.proofs.ReadSteps.{number_ok}
-use Rattle.schedule_laws.proofs.NetworkRead.{fresh_package}
+use Rattle.network_config.specs.declared.event.Event.TheVariants as events
+use Rattle.network_config.specs.declared.event.LogEvent.{LogEvent}
+use Rattle.network_config.specs.declared.event.LogEvent.TheVariants as logged
+use Rattle.network_config.specs.declared.node.NodeConfig.{NodeConfig}
+use Rattle.network_config.specs.declared.node.Log.{Log}
+use Rattle.network_config.specs.Hosts.{host_of, is_listed}
+use Rattle.network_config.specs.Rules.{PackagesDiffer, MayName, KeepsInjection, MayArrive}
+use Rattle.network_config.specs.NodeRules.{Ascend, DevicesAscend, IsNeighbour, first_link, KeepsBoot, KeepsNode, KeepsEntry, KeepsLog}
+use Rattle.line_reader.specs.Lines.{lines, spaced_words, behind}
+use Rattle.line_reader.specs.Files.{is_skipped, read_on}
+use Rattle.line_reader.specs.Packages.{same_package}
+use Rattle.line_reader.specs.HexWords.{within_size, hex_at}
+use Rattle.line_reader.specs.Handlers.{named_handler, handler_at}
+use Rattle.line_reader.proofs.Again.{line_first}
+use Rattle.schedule_text.specs.Written.{package_word, handler_words, IsNamed}
+use Rattle.schedule_text.proofs.WordLaws.{line_is, name_free, hex_free}
+use Rattle.schedule_text.proofs.ReadSteps.{number_ok}
+use Rattle.schedule_text.proofs.NetworkRead.{fresh_package}
 use Rattle.node_files.specs.declared.log.LogStage.{LogStage}
 use Rattle.node_files.specs.declared.log.LogStage.TheVariants as stages
 use Rattle.node_files.specs.declared.log.LogReading.{LogReading}

@@ -4,12 +4,12 @@ use Rattle.std.proofs.lemmas.Bool.{eqb-false}
 use lib.Chars.{codes}
 use Rattle.plan_base.specs.declared.ids.Host.{Host}
 use Rattle.plan_base.specs.declared.ids.Dev.{Dev}
-use Rattle.network_plan.specs.Hosts.{host_of, dev_of, is_listed}
-use Rattle.network_plan.specs.NodeRules.{IsNeighbour}
-use Rattle.line_files.specs.declared.fault.LineReason.TheVariants.{UnknownHost, TwiceNamed, BadArgument}
-use Rattle.line_files.specs.Reads.{allowed_or_reason}
-use Rattle.line_files.specs.Numbers.{number_at}
-use Rattle.line_files.proofs.Keeping.{IfRead, then_keeps, done_keeps, allowed_true, allowed_not, number_is, AreHosts, hosts_with_is}
+use Rattle.network_config.specs.Hosts.{host_of, dev_of, is_listed}
+use Rattle.network_config.specs.NodeRules.{IsNeighbour}
+use Rattle.line_reader.specs.declared.fault.LineReason.TheVariants.{UnknownHost, TwiceNamed, BadArgument}
+use Rattle.line_reader.specs.Reads.{allowed_or_reason}
+use Rattle.line_reader.specs.Numbers.{number_at}
+use Rattle.line_reader.proofs.Keeping.{IfRead, then_keeps, done_keeps, allowed_true, allowed_not, number_is, AreHosts, hosts_with_is}
 use Rattle.node_files.specs.Parts.{behind_word}
 use Rattle.node_files.specs.Nodes.{hosts_line, has_device, neighbour_at}
 

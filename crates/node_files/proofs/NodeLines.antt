@@ -5,22 +5,22 @@ use Rattle.std.specs.Fmt.{decimal}
 use lib.Chars.{codes}
 use Rattle.std.proofs.lemmas.Bool.{lt-ltb, le-ltb, ne_eqb, eqb-true}
 use Rattle.std.proofs.lemmas.List.Elements.{All-nil, All-cons, All-head, All-tail}
-use Rattle.plan_items.proofs.Bools.{and_both}
+use Rattle.containers.proofs.Bools.{and_both}
 use Rattle.plan_base.specs.declared.ids.Host.{Host}
 use Rattle.plan_base.specs.declared.ids.Dev.{Dev}
 use Rattle.service_api.specs.declared.package.PackageName.{PackageName}
 use Rattle.service_api.specs.declared.package.PackageName.TheVariants as packages
-use Rattle.network_plan.specs.Hosts.{is_listed}
-use Rattle.network_plan.specs.NodeRules.{Ascend, DevicesAscend, IsNeighbour}
-use Rattle.line_files.specs.declared.fault.LineReason.{LineReason}
-use Rattle.line_files.specs.Lines.{words, spaced_words}
-use Rattle.line_files.specs.Files.{is_skipped}
-use Rattle.line_files.specs.Packages.{package_of, same_package, package_at}
-use Rattle.line_files.specs.HostLists.{is_above, host_more, hosts_from, hosts_with}
-use Rattle.schedule_laws.specs.Written.{package_word}
-use Rattle.schedule_laws.proofs.WordLaws.{Free, IsFree, words_are, number_free}
-use Rattle.schedule_laws.proofs.ReadSteps.{number_ok}
-use Rattle.schedule_laws.proofs.NetworkRead.{all_middle}
+use Rattle.network_config.specs.Hosts.{is_listed}
+use Rattle.network_config.specs.NodeRules.{Ascend, DevicesAscend, IsNeighbour}
+use Rattle.line_reader.specs.declared.fault.LineReason.{LineReason}
+use Rattle.line_reader.specs.Lines.{words, spaced_words}
+use Rattle.line_reader.specs.Files.{is_skipped}
+use Rattle.line_reader.specs.Packages.{package_of, same_package, package_at}
+use Rattle.line_reader.specs.HostLists.{is_above, host_more, hosts_from, hosts_with}
+use Rattle.schedule_text.specs.Written.{package_word}
+use Rattle.schedule_text.proofs.WordLaws.{Free, IsFree, words_are, number_free}
+use Rattle.schedule_text.proofs.ReadSteps.{number_ok}
+use Rattle.schedule_text.proofs.NetworkRead.{all_middle}
 use Rattle.node_files.specs.Parts.{behind_word, last_number, usual_line}
 use Rattle.node_files.specs.Nodes.{host_line, hosts_line, has_device, neighbour_at, placed_items}
 use Rattle.node_files.specs.LogTexts.{host_words, hosts_words}

@@ -5,19 +5,19 @@ use Rattle.plan_base.specs.declared.tree.Program.{Program}
 use Rattle.checked_chunks.specs.Kept.{IsChecked}
 use Rattle.plan_base.specs.declared.stamp.Version.{Version}
 use Rattle.plan_base.specs.declared.stamp.Version.TheVariants.{One, Two}
-use Rattle.network_plan.specs.NodeRules.{first_link}
-use Rattle.line_files.specs.declared.fault.LineReason.{LineReason}
-use Rattle.line_files.specs.declared.fault.LineReason.TheVariants.{BadHeader}
-use Rattle.line_files.specs.declared.fault.LineFault.{LineFault}
-use Rattle.line_files.specs.declared.fault.LineFault.TheVariants as faults
-use Rattle.line_files.specs.Lines.{lines, words}
-use Rattle.line_files.specs.Files.{Format, is_skipped, file_of}
-use Rattle.line_files.specs.Reads.{end_at}
-use Rattle.line_files.specs.Numbers.{number_at}
-use Rattle.line_files.proofs.Keeping.{IfRead, InRange, then_keeps, done_keeps, number_is, IfStep, step_done, step_none, at_line_keeps, either_keeps}
-use Rattle.line_files.specs.Inside.{OnFault, RefusesRead}
-use Rattle.line_files.proofs.LineLaws.{refused_placed}
-use Rattle.line_files.proofs.Placing.{fault_done, fault_here, at_line_placed, either_placed}
+use Rattle.network_config.specs.NodeRules.{first_link}
+use Rattle.line_reader.specs.declared.fault.LineReason.{LineReason}
+use Rattle.line_reader.specs.declared.fault.LineReason.TheVariants.{BadHeader}
+use Rattle.line_reader.specs.declared.fault.LineFault.{LineFault}
+use Rattle.line_reader.specs.declared.fault.LineFault.TheVariants as faults
+use Rattle.line_reader.specs.Lines.{lines, words}
+use Rattle.line_reader.specs.Files.{Format, is_skipped, file_of}
+use Rattle.line_reader.specs.Reads.{end_at}
+use Rattle.line_reader.specs.Numbers.{number_at}
+use Rattle.line_reader.proofs.Keeping.{IfRead, InRange, then_keeps, done_keeps, number_is, IfStep, step_done, step_none, at_line_keeps, either_keeps}
+use Rattle.line_reader.specs.Inside.{OnFault, RefusesRead}
+use Rattle.line_reader.proofs.LineLaws.{refused_placed}
+use Rattle.line_reader.proofs.Placing.{fault_done, fault_here, at_line_placed, either_placed}
 use Rattle.node_files.specs.Parts.{last_number, header_line, usual_line}
 use Rattle.node_files.specs.Answers.{Accepted, Refused}
 

@@ -1,9 +1,9 @@
 -- That each file has one answer.
 use Rattle.std.specs.Prelude.{◌≡◌, ◌≤◌, ℕ, ◌+◌, List, length, Result, Ok, Err}
-use Rattle.line_files.specs.declared.fault.LineReason.{LineReason}
-use Rattle.line_files.specs.declared.fault.LineFault.{LineFault}
-use Rattle.line_files.specs.declared.fault.LineFault.TheVariants as faults
-use Rattle.line_files.specs.Lines.{lines}
+use Rattle.line_reader.specs.declared.fault.LineReason.{LineReason}
+use Rattle.line_reader.specs.declared.fault.LineFault.{LineFault}
+use Rattle.line_reader.specs.declared.fault.LineFault.TheVariants as faults
+use Rattle.line_reader.specs.Lines.{lines}
 
 -- a file has a value
 pub record Accepted {T : Type 0} (answer : List ℕ → Result T LineFault) (bytes : List ℕ) : Type 0 where

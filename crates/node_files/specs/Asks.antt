@@ -3,15 +3,15 @@ use Rattle.std.specs.Prelude.{ℕ, if◌then◌else◌, List, [], Option, Some, 
 use Rattle.std.specs.Str.{bytes_eq}
 use lib.Chars.{codes}
 use Rattle.plan_base.specs.declared.tree.Program.{Program}
-use Rattle.network_plan.specs.declared.fleet.AskFile.{AskFile}
-use Rattle.line_files.specs.declared.fault.LineReason.{LineReason}
-use Rattle.line_files.specs.declared.fault.LineReason.TheVariants.{BadHeader, BadWord}
-use Rattle.line_files.specs.declared.fault.LineFault.{LineFault}
-use Rattle.line_files.specs.declared.fault.LineFault.TheVariants as faults
-use Rattle.line_files.specs.Lines.{words}
-use Rattle.line_files.specs.Files.{Format, at_line, file_of}
-use Rattle.line_files.specs.Reads.{◌>>=◌, word_at, end_at, rest_at}
-use Rattle.line_files.specs.Programs.{opened_program, with_line, program_in, call_at}
+use Rattle.network_config.specs.declared.fleet.AskFile.{AskFile}
+use Rattle.line_reader.specs.declared.fault.LineReason.{LineReason}
+use Rattle.line_reader.specs.declared.fault.LineReason.TheVariants.{BadHeader, BadWord}
+use Rattle.line_reader.specs.declared.fault.LineFault.{LineFault}
+use Rattle.line_reader.specs.declared.fault.LineFault.TheVariants as faults
+use Rattle.line_reader.specs.Lines.{words}
+use Rattle.line_reader.specs.Files.{Format, at_line, file_of}
+use Rattle.line_reader.specs.Reads.{◌>>=◌, word_at, end_at, rest_at}
+use Rattle.line_reader.specs.Programs.{opened_program, with_line, program_in, call_at}
 use Rattle.node_files.specs.declared.ask.AskWord.{AskWord}
 use Rattle.node_files.specs.declared.ask.AskWord.TheVariants as word
 use Rattle.node_files.specs.declared.ask.AskStage.{AskStage}

@@ -2,13 +2,13 @@
 use Rattle.std.specs.Prelude.{ℕ, nat_le, if◌then◌else◌, List, length, Option, Some, None, is_some, Result, Ok, Err}
 use Rattle.std.specs.Option.{ok_or}
 use Rattle.plan_base.specs.declared.tree.Chunk.{Chunk}
-use Rattle.chunk_types.specs.Chunks.{illness}
-use Rattle.chunk_spelling.specs.declared.fault.SpellFault.{SpellFault}
-use Rattle.chunk_spelling.specs.Scan.{Scan}
-use Rattle.chunk_spelling.specs.Spelling.{a_whole_chunk, from_front}
-use Rattle.line_files.specs.declared.fault.LineReason.TheVariants.{BadArgument}
-use Rattle.line_files.specs.Reads.{◌>>=◌, Part}
-use Rattle.line_files.specs.HexWords.{hex_at}
+use Rattle.plan_types_chunks.specs.Chunks.{illness}
+use Rattle.chunk_codec_spec.specs.declared.fault.SpellFault.{SpellFault}
+use Rattle.chunk_codec_spec.specs.Scan.{Scan}
+use Rattle.chunk_codec_spec.specs.Spelling.{a_whole_chunk, from_front}
+use Rattle.line_reader.specs.declared.fault.LineReason.TheVariants.{BadArgument}
+use Rattle.line_reader.specs.Reads.{◌>>=◌, Part}
+use Rattle.line_reader.specs.HexWords.{hex_at}
 
 -- the chunk that was read, where it took all bytes
 abbrev pub taking_all : List ℕ → Result (Chunk × Scan) SpellFault → Option Chunk

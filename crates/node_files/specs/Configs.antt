@@ -8,21 +8,21 @@ use Rattle.plan_base.specs.declared.ids.Host.{Host}
 use Rattle.plan_base.specs.declared.ids.Dev.{Dev}
 use Rattle.plan_base.specs.declared.stamp.Version.{Version}
 use Rattle.plan_base.specs.declared.stamp.Version.TheVariants.{One}
-use Rattle.network_plan.specs.declared.serve.ServeConfig.{ServeConfig}
-use Rattle.network_plan.specs.Hosts.{host_of}
-use Rattle.network_plan.specs.NodeRules.{first_link}
-use Rattle.line_files.specs.declared.fault.LineReason.{LineReason}
-use Rattle.line_files.specs.declared.fault.LineReason.TheVariants.{BadHeader, BadWord, UnknownProgram, TwiceNamed}
-use Rattle.line_files.specs.declared.fault.LineFault.{LineFault}
-use Rattle.line_files.specs.declared.fault.LineFault.TheVariants as faults
-use Rattle.line_files.specs.Files.{Format, at_line, file_of}
-use Rattle.line_files.specs.Reads.{◌>>=◌, Part, word_at, end_at, allowed_or_reason}
-use Rattle.line_files.specs.Numbers.{number_at}
-use Rattle.line_files.specs.Packages.{package_at}
-use Rattle.line_files.specs.FileNames.{file_name_at}
-use Rattle.line_files.specs.Headers.{version_line}
-use Rattle.line_files.specs.Programs.{opened_program, with_line, program_in, weighed_sum}
-use Rattle.line_files.specs.Injections.{injection_at}
+use Rattle.network_config.specs.declared.serve.ServeConfig.{ServeConfig}
+use Rattle.network_config.specs.Hosts.{host_of}
+use Rattle.network_config.specs.NodeRules.{first_link}
+use Rattle.line_reader.specs.declared.fault.LineReason.{LineReason}
+use Rattle.line_reader.specs.declared.fault.LineReason.TheVariants.{BadHeader, BadWord, UnknownProgram, TwiceNamed}
+use Rattle.line_reader.specs.declared.fault.LineFault.{LineFault}
+use Rattle.line_reader.specs.declared.fault.LineFault.TheVariants as faults
+use Rattle.line_reader.specs.Files.{Format, at_line, file_of}
+use Rattle.line_reader.specs.Reads.{◌>>=◌, Part, word_at, end_at, allowed_or_reason}
+use Rattle.line_reader.specs.Numbers.{number_at}
+use Rattle.line_reader.specs.Packages.{package_at}
+use Rattle.line_reader.specs.FileNames.{file_name_at}
+use Rattle.line_reader.specs.Headers.{version_line}
+use Rattle.line_reader.specs.Programs.{opened_program, with_line, program_in, weighed_sum}
+use Rattle.line_reader.specs.Injections.{injection_at}
 use Rattle.node_files.specs.declared.config.HeadWord.{HeadWord}
 use Rattle.node_files.specs.declared.config.HeadWord.TheVariants as head
 use Rattle.node_files.specs.declared.config.TailWord.{TailWord}

@@ -3,18 +3,18 @@ use Rattle.std.specs.Prelude.{ℕ, Bool, true, false, if◌then◌else◌, nat_l
 use Rattle.std.specs.Option.{ok_or}
 use Rattle.std.specs.Str.{bytes_eq}
 use lib.Chars.{codes}
-use Rattle.network_plan.specs.declared.fleet.Fleet.{Fleet}
-use Rattle.network_plan.specs.declared.fleet.Kid.{Kid}
-use Rattle.network_plan.specs.declared.fleet.Kid.TheVariants as kids
-use Rattle.network_plan.specs.Hosts.{host_of}
-use Rattle.line_files.specs.declared.fault.LineReason.{LineReason}
-use Rattle.line_files.specs.declared.fault.LineReason.TheVariants.{BadHeader, BadWord, TooMany}
-use Rattle.line_files.specs.declared.fault.LineFault.{LineFault}
-use Rattle.line_files.specs.declared.fault.LineFault.TheVariants as faults
-use Rattle.line_files.specs.Files.{Format, file_of}
-use Rattle.line_files.specs.Reads.{◌>>=◌, word_at, end_at, allowed_or_reason}
-use Rattle.line_files.specs.Numbers.{number_at}
-use Rattle.line_files.specs.FileNames.{file_name_at}
+use Rattle.network_config.specs.declared.fleet.Fleet.{Fleet}
+use Rattle.network_config.specs.declared.fleet.Kid.{Kid}
+use Rattle.network_config.specs.declared.fleet.Kid.TheVariants as kids
+use Rattle.network_config.specs.Hosts.{host_of}
+use Rattle.line_reader.specs.declared.fault.LineReason.{LineReason}
+use Rattle.line_reader.specs.declared.fault.LineReason.TheVariants.{BadHeader, BadWord, TooMany}
+use Rattle.line_reader.specs.declared.fault.LineFault.{LineFault}
+use Rattle.line_reader.specs.declared.fault.LineFault.TheVariants as faults
+use Rattle.line_reader.specs.Files.{Format, file_of}
+use Rattle.line_reader.specs.Reads.{◌>>=◌, word_at, end_at, allowed_or_reason}
+use Rattle.line_reader.specs.Numbers.{number_at}
+use Rattle.line_reader.specs.FileNames.{file_name_at}
 use Rattle.node_files.specs.declared.fleet.KidWord.{KidWord}
 use Rattle.node_files.specs.declared.fleet.KidWord.TheVariants as word
 use Rattle.node_files.specs.declared.fleet.FleetReading.{FleetReading}

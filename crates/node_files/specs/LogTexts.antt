@@ -8,17 +8,17 @@ use Rattle.plan_base.specs.declared.ids.Dev.{Dev}
 use Rattle.plan_base.specs.declared.tree.Chunk.{Chunk}
 use Rattle.wire_bytes.specs.Fields.{IsBytes}
 use Rattle.service_api.specs.declared.package.PackageName.{PackageName}
-use Rattle.chunk_spelling.specs.Values.{chunk_bytes}
-use Rattle.chunk_spelling.specs.Spelling.{a_whole_chunk}
+use Rattle.chunk_codec_spec.specs.Values.{chunk_bytes}
+use Rattle.chunk_codec_spec.specs.Spelling.{a_whole_chunk}
 use Rattle.plan_base.specs.declared.stamp.Version.{Version}
 use Rattle.plan_base.specs.declared.stamp.Version.TheVariants.{One, Two}
-use Rattle.network_plan.specs.declared.event.Event.{Event}
-use Rattle.network_plan.specs.declared.event.Event.TheVariants as events
-use Rattle.network_plan.specs.declared.event.LogEvent.{LogEvent}
-use Rattle.network_plan.specs.declared.event.LogEvent.TheVariants as logged
-use Rattle.network_plan.specs.declared.node.NodeConfig.{NodeConfig}
-use Rattle.network_plan.specs.declared.node.Log.{Log}
-use Rattle.schedule_laws.specs.Written.{package_word, handler_words, IsNamed}
+use Rattle.network_config.specs.declared.event.Event.{Event}
+use Rattle.network_config.specs.declared.event.Event.TheVariants as events
+use Rattle.network_config.specs.declared.event.LogEvent.{LogEvent}
+use Rattle.network_config.specs.declared.event.LogEvent.TheVariants as logged
+use Rattle.network_config.specs.declared.node.NodeConfig.{NodeConfig}
+use Rattle.network_config.specs.declared.node.Log.{Log}
+use Rattle.schedule_text.specs.Written.{package_word, handler_words, IsNamed}
 use Rattle.hex.specs.Hex.{encode_lower}
 
 -- words behind others, each behind a space, up to the end of the line

@@ -5,23 +5,23 @@ use Rattle.std.specs.Str.{bytes_eq}
 use lib.Chars.{codes}
 use Rattle.plan_base.specs.declared.stamp.Version.{Version}
 use Rattle.plan_base.specs.declared.stamp.Version.TheVariants.{One, Two}
-use Rattle.network_plan.specs.declared.event.Event.TheVariants as events
-use Rattle.network_plan.specs.declared.event.LogEvent.{LogEvent}
-use Rattle.network_plan.specs.declared.event.LogEvent.TheVariants as logged
-use Rattle.network_plan.specs.declared.node.Log.{Log}
-use Rattle.network_plan.specs.Hosts.{host_of, dev_of}
-use Rattle.network_plan.specs.NodeRules.{first_link}
-use Rattle.line_files.specs.declared.fault.LineReason.{LineReason}
-use Rattle.line_files.specs.declared.fault.LineReason.TheVariants.{BadHeader, BadWord, TooMany}
-use Rattle.line_files.specs.declared.fault.LineFault.{LineFault}
-use Rattle.line_files.specs.declared.fault.LineFault.TheVariants as faults
-use Rattle.line_files.specs.Files.{Format, file_of}
-use Rattle.line_files.specs.Reads.{◌>>=◌, word_at, end_at, allowed_or_reason}
-use Rattle.line_files.specs.Numbers.{number_at}
-use Rattle.line_files.specs.Packages.{package_at}
-use Rattle.line_files.specs.HexWords.{hex_at}
-use Rattle.line_files.specs.Headers.{version_line}
-use Rattle.line_files.specs.Handlers.{handler_at}
+use Rattle.network_config.specs.declared.event.Event.TheVariants as events
+use Rattle.network_config.specs.declared.event.LogEvent.{LogEvent}
+use Rattle.network_config.specs.declared.event.LogEvent.TheVariants as logged
+use Rattle.network_config.specs.declared.node.Log.{Log}
+use Rattle.network_config.specs.Hosts.{host_of, dev_of}
+use Rattle.network_config.specs.NodeRules.{first_link}
+use Rattle.line_reader.specs.declared.fault.LineReason.{LineReason}
+use Rattle.line_reader.specs.declared.fault.LineReason.TheVariants.{BadHeader, BadWord, TooMany}
+use Rattle.line_reader.specs.declared.fault.LineFault.{LineFault}
+use Rattle.line_reader.specs.declared.fault.LineFault.TheVariants as faults
+use Rattle.line_reader.specs.Files.{Format, file_of}
+use Rattle.line_reader.specs.Reads.{◌>>=◌, word_at, end_at, allowed_or_reason}
+use Rattle.line_reader.specs.Numbers.{number_at}
+use Rattle.line_reader.specs.Packages.{package_at}
+use Rattle.line_reader.specs.HexWords.{hex_at}
+use Rattle.line_reader.specs.Headers.{version_line}
+use Rattle.line_reader.specs.Handlers.{handler_at}
 use Rattle.node_files.specs.declared.log.NodeWord.{NodeWord}
 use Rattle.node_files.specs.declared.log.NodeWord.TheVariants as node
 use Rattle.node_files.specs.declared.log.EntryWord.{EntryWord}

@@ -4,12 +4,12 @@ use Rattle.std.specs.List.{list_any, position_or_len, insert}
 use lib.Chars.{codes}
 use Rattle.plan_base.specs.declared.ids.Host.{Host}
 use Rattle.plan_base.specs.declared.ids.Dev.{Dev}
-use Rattle.network_plan.specs.Hosts.{host_of, dev_of, is_listed}
-use Rattle.line_files.specs.declared.fault.LineReason.{LineReason}
-use Rattle.line_files.specs.declared.fault.LineReason.TheVariants.{UnknownHost, TwiceNamed, BadArgument}
-use Rattle.line_files.specs.Reads.{◌>>=◌, Part, allowed_or_reason}
-use Rattle.line_files.specs.Numbers.{number_at}
-use Rattle.line_files.specs.HostLists.{hosts_with}
+use Rattle.network_config.specs.Hosts.{host_of, dev_of, is_listed}
+use Rattle.line_reader.specs.declared.fault.LineReason.{LineReason}
+use Rattle.line_reader.specs.declared.fault.LineReason.TheVariants.{UnknownHost, TwiceNamed, BadArgument}
+use Rattle.line_reader.specs.Reads.{◌>>=◌, Part, allowed_or_reason}
+use Rattle.line_reader.specs.Numbers.{number_at}
+use Rattle.line_reader.specs.HostLists.{hosts_with}
 use Rattle.node_files.specs.Parts.{behind_word, last_number}
 
 -- `host N`: the node's own host

@@ -1,14 +1,14 @@
 -- What the lines of node files share.
 use Rattle.std.specs.Prelude.{ℕ, if◌then◌else◌, List, Result, Ok, Err}
 use Rattle.std.specs.Str.{bytes_eq}
-use Rattle.line_files.specs.declared.fault.LineReason.{LineReason}
-use Rattle.line_files.specs.declared.fault.LineReason.TheVariants.{BadHeader, BadWord}
-use Rattle.line_files.specs.declared.fault.LineFault.{LineFault}
-use Rattle.line_files.specs.declared.fault.LineFault.TheVariants as faults
-use Rattle.line_files.specs.Lines.{words}
-use Rattle.line_files.specs.Files.{is_skipped, at_line}
-use Rattle.line_files.specs.Reads.{◌>>=◌, word_at, end_at, allowed_or_reason}
-use Rattle.line_files.specs.Numbers.{number_at}
+use Rattle.line_reader.specs.declared.fault.LineReason.{LineReason}
+use Rattle.line_reader.specs.declared.fault.LineReason.TheVariants.{BadHeader, BadWord}
+use Rattle.line_reader.specs.declared.fault.LineFault.{LineFault}
+use Rattle.line_reader.specs.declared.fault.LineFault.TheVariants as faults
+use Rattle.line_reader.specs.Lines.{words}
+use Rattle.line_reader.specs.Files.{is_skipped, at_line}
+use Rattle.line_reader.specs.Reads.{◌>>=◌, word_at, end_at, allowed_or_reason}
+use Rattle.line_reader.specs.Numbers.{number_at}
 
 -- the words behind this one, which must stand next
 unfoldable pub behind_word : List ℕ → List (List ℕ) → Result (List (List ℕ)) LineReason

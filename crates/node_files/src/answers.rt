@@ -1,5 +1,5 @@
 ghost use Rattle.std.specs.Prelude.{◌⊎◌, ℕ, List};
-ghost use Rattle.line_files.specs.Inside.{RefusesRead};
+ghost use Rattle.line_reader.specs.Inside.{RefusesRead};
 ghost use Rattle.node_files.specs.Asks.{ask_format, nothing_asked, ask_of};
 ghost use Rattle.node_files.specs.Configs.{config_format, nothing_read, config_of};
 ghost use Rattle.node_files.specs.Fleets.{fleet_format, no_children, fleet_of};

@@ -1,18 +1,18 @@
 ghost use Rattle.std.specs.Prelude.{◌≡◌, ◌≤◌, ◌⊎◌, length, Ok, Err, IfOk, IfErr, MatchResult};
-ghost use Rattle.line_files.specs.Files.{file_of};
-ghost use Rattle.line_files.specs.Reads.{Leaves, Gives, FileLeaves, FileGives};
-ghost use Rattle.network_plan.specs.NodeRules.{KeepsAsk};
-ghost use Rattle.network_plan.specs.declared.fleet.AskFile.{AskFile as Request};
+ghost use Rattle.line_reader.specs.Files.{file_of};
+ghost use Rattle.line_reader.specs.Reads.{Leaves, Gives, FileLeaves, FileGives};
+ghost use Rattle.network_config.specs.NodeRules.{KeepsAsk};
+ghost use Rattle.network_config.specs.declared.fleet.AskFile.{AskFile as Request};
 ghost use Rattle.node_files.specs.Asks as spec;
 ghost use Rattle.node_files.specs.Asks.{to_line, from_line, bound_line, wanted_line, inside_line, ask_step_at, request_of, ask_end, ask_format, nothing_asked, ask_of};
 
 use crate::parts::{expect, last_number};
 use checked_chunks::Checked;
-use line_files::{
-    LineFault, LineFile, LineReason, LineStop, OpenProgram, Words, call, is, program, read_file,
+use line_reader::{
+    LineError, LineFault, LineFile, LineReason, OpenProgram, Words, call, is, program, read_file,
     says_nothing, stopped_at,
 };
-use network_plan::AskFile;
+use network_config::AskFile;
 use plan_base::Bytes;
 use std::alloc::Global;
 
@@ -98,7 +98,7 @@ impl AskReading {
 
     /// `to P`. Reasons: `BadWord`, `BadNumber`.
     #[tactic(auto, unfolding(crate::specs::Asks::to_line))]
-    fn to(&mut self, words: &mut Words<'_>) -> Result<(), LineStop>
+    fn to(&mut self, words: &mut Words<'_>) -> Result<(), LineError>
         ensures { Leaves result self.new (to_line words.old self.old) }
     {
         expect(words, b"to")?;
@@ -110,7 +110,7 @@ impl AskReading {
 
     /// `from P`. Reasons: `BadWord`, `BadNumber`.
     #[tactic(auto, unfolding(crate::specs::Asks::from_line))]
-    fn from(&mut self, words: &mut Words<'_>) -> Result<(), LineStop>
+    fn from(&mut self, words: &mut Words<'_>) -> Result<(), LineError>
         ensures { Leaves result self.new (from_line words.old self.old) }
     {
         expect(words, b"from")?;
@@ -122,7 +122,7 @@ impl AskReading {
 
     /// `bound N`. Reasons: `BadWord`, `BadNumber`.
     #[tactic(auto, unfolding(crate::specs::Asks::bound_line))]
-    fn bound(&mut self, words: &mut Words<'_>) -> Result<(), LineStop>
+    fn bound(&mut self, words: &mut Words<'_>) -> Result<(), LineError>
         ensures { Leaves result self.new (bound_line words.old self.old) }
     {
         expect(words, b"bound")?;
@@ -133,7 +133,7 @@ impl AskReading {
 
     /// `entry ENTRY ARGS`. Reason: `BadWord`.
     #[tactic(auto, unfolding(crate::specs::Asks::entry_line))]
-    fn entry(&mut self, alloc: Global, number: u32, words: &mut Words<'_>) -> Result<(), LineStop>
+    fn entry(&mut self, alloc: Global, number: u32, words: &mut Words<'_>) -> Result<(), LineError>
         ensures { Leaves result self.new (spec.entry_line number words.old self.old) }
     {
         expect(words, b"entry")?;
@@ -148,7 +148,12 @@ impl AskReading {
 
     /// `program`. Reason: `BadWord`.
     #[tactic(auto, unfolding(crate::specs::Asks::program_line))]
-    fn program(&mut self, alloc: Global, number: u32, words: &mut Words<'_>) -> Result<(), LineStop>
+    fn program(
+        &mut self,
+        alloc: Global,
+        number: u32,
+        words: &mut Words<'_>,
+    ) -> Result<(), LineError>
         ensures { Leaves result self.new (spec.program_line number words.old self.old) }
     {
         expect(words, b"program")?;
@@ -166,7 +171,7 @@ impl AskReading {
         word: AskWord,
         number: u32,
         words: &mut Words<'_>,
-    ) -> Result<(), LineStop>
+    ) -> Result<(), LineError>
         ensures { Leaves result self.new (wanted_line word number words.old self.old) }
     {
         match word {
@@ -215,7 +220,7 @@ impl AskReading {
 
     /// The end of the program's text. Reasons: `TooMany`, `ProgramRefused`.
     #[tactic(auto, unfolding(crate::specs::Asks::close_program))]
-    fn close(&mut self, alloc: Global) -> Result<(), LineStop>
+    fn close(&mut self, alloc: Global) -> Result<(), LineError>
         ensures { Leaves result self.new (spec.close_program self.old) }
     {
         let checked = program(alloc, self.program.text.as_slice())?;
@@ -253,7 +258,7 @@ impl AskReading {
 
     /// The request, with this program. Reason: `BadArgument`, `BadWord`.
     #[tactic(auto, unfolding(crate::specs::Asks::request_of))]
-    fn request(&self, alloc: Global, program: &Checked) -> Result<AskFile, LineStop>
+    fn request(&self, alloc: Global, program: &Checked) -> Result<AskFile, LineError>
         ensures { Gives (λ a. a) result (request_of program.now self.now) }
     {
         let mut words = Words::of(self.entry.as_slice());
@@ -305,7 +310,7 @@ impl LineFile for AskReading {
     }
 }
 
-#[tactic(auto, using(line_files::proofs::FileLaws::is_found, line_files::proofs::FileLaws::is_only, line_files::proofs::FileLaws::is_fault))]
+#[tactic(auto, using(line_reader::proofs::FileLaws::is_found, line_reader::proofs::FileLaws::is_only, line_reader::proofs::FileLaws::is_fault))]
 /// The request that a file is. Condition: at most 4,194,304 bytes.
 ///
 /// The fault is the first line outside the format with its reason, or `NoMemory`. What is wrong with the entry or its

@@ -1,15 +1,15 @@
 ghost use Rattle.std.specs.Prelude.{◌≡◌, ◌≢◌, ◌≤◌, Some, IfOk, IfSome, OnOk, length};
-ghost use Rattle.chunk_spelling.specs.Spelling.{a_whole_chunk};
-ghost use Rattle.line_files.specs.Reads.{Finds, GivesWith};
+ghost use Rattle.chunk_codec_spec.specs.Spelling.{a_whole_chunk};
+ghost use Rattle.line_reader.specs.Reads.{Finds, GivesWith};
 ghost use Rattle.node_files.specs.ChunkWords as spec;
 ghost use Rattle.node_files.specs.ChunkWords.{spelled_chunk, if_typed, typed_chunk};
 
 use checked_chunks::CheckedChunk;
 use chunk_codec::get_chunk;
-use chunk_spelling::SpellFault;
-use chunk_types::{ChunkFault, check_chunk};
-use line_files::{LineReason, LineStop, Words, hex_bytes};
+use chunk_codec_spec::SpellFault;
+use line_reader::{LineError, LineReason, Words, hex_bytes};
 use plan_base::{Chunk, NoMemory};
+use plan_types_chunks::{ChunkFault, check_chunk};
 use std::alloc::Global;
 use wire_bytes::Cursor;
 
@@ -73,7 +73,7 @@ fn chunk_in(alloc: Global, bytes: &[u8]) -> Result<Option<CheckedChunk>, NoMemor
 
 /// The next word as a typed chunk in hex. Reasons: `BadWord` where the line has ended, else `BadArgument`.
 #[tactic(auto, unfolding(crate::specs::ChunkWords::chunk_at))]
-pub fn chunk(alloc: Global, words: &mut Words<'_>) -> Result<CheckedChunk, LineStop>
+pub fn chunk(alloc: Global, words: &mut Words<'_>) -> Result<CheckedChunk, LineError>
     ensures { GivesWith (λ k. k) result words.new (spec.chunk_at words.old) }
 {
     let bytes = hex_bytes(alloc, words, 1, 16_383)?;

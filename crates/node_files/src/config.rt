@@ -1,20 +1,20 @@
 ghost use Rattle.std.specs.Prelude.{◌≡◌, ◌≤◌, ◌⊎◌, length, Ok, Err, IfOk, IfErr, OnOk, MatchResult};
-ghost use Rattle.line_files.specs.Reads.{Leaves, FileLeaves, Reads, GivesWith};
-ghost use Rattle.network_plan.specs.NodeRules.{KeepsServe};
-ghost use Rattle.network_plan.specs.declared.serve.ServeConfig.{ServeConfig as Serving};
+ghost use Rattle.line_reader.specs.Reads.{Leaves, FileLeaves, Reads, GivesWith};
+ghost use Rattle.network_config.specs.NodeRules.{KeepsServe};
+ghost use Rattle.network_config.specs.declared.serve.ServeConfig.{ServeConfig as Serving};
 ghost use Rattle.node_files.specs.Configs as spec;
 ghost use Rattle.node_files.specs.Configs.{tail_word, may_come, with_device, tail_rest, config_step_at, nothing_read, config_of};
 
 use crate::nodes::{host_line, hosts_line, neighbour, put_neighbour, put_port};
 use crate::parts::{expect, last_number};
 use checked_chunks::Checked;
-use line_files::{
-    LineFault, LineFile, LineReason, LineStop, OpenProgram, Words, add_weight, allow, file_name,
+use containers::Items;
+use line_reader::{
+    LineError, LineFault, LineFile, LineReason, OpenProgram, Words, add_weight, allow, file_name,
     injection, is, number, package, program, read_file, says_nothing, stopped_at, version_of,
 };
+use network_config::{DevPorts, Hosts, Inject, Injects, NodeConfig, ServeConfig, first_link};
 use plan_base::{Dev, Host, NoMemory, Text, Version};
-use network_plan::{DevPorts, Hosts, Inject, Injects, NodeConfig, ServeConfig, first_link};
-use plan_items::Items;
 use service_api::{Neighbours, Packages};
 use std::alloc::Global;
 
@@ -173,7 +173,7 @@ impl ConfigReading {
 
     /// `port P`. Reasons: `BadWord`, `BadNumber`.
     #[tactic(auto, unfolding(crate::specs::Configs::port_line))]
-    fn port(&mut self, words: &mut Words<'_>) -> Result<(), LineStop>
+    fn port(&mut self, words: &mut Words<'_>) -> Result<(), LineError>
         ensures { Leaves result self.new (spec.port_line words.old self.old) }
     {
         expect(words, b"port")?;
@@ -209,7 +209,7 @@ impl ConfigReading {
 
     /// `control P`. Reasons: `BadWord`, `BadNumber`, `TwiceNamed`.
     #[tactic(auto, unfolding(crate::specs::Configs::control_line))]
-    fn control(&mut self, words: &mut Words<'_>) -> Result<(), LineStop>
+    fn control(&mut self, words: &mut Words<'_>) -> Result<(), LineError>
         ensures { Leaves result self.new (spec.control_line words.old self.old) }
     {
         expect(words, b"control")?;
@@ -222,7 +222,7 @@ impl ConfigReading {
 
     /// `period MS`. Reasons: `BadWord`, `BadNumber`.
     #[tactic(auto, unfolding(crate::specs::Configs::period_line))]
-    fn period(&mut self, words: &mut Words<'_>) -> Result<(), LineStop>
+    fn period(&mut self, words: &mut Words<'_>) -> Result<(), LineError>
         ensures { Leaves result self.new (spec.period_line words.old self.old) }
     {
         expect(words, b"period")?;
@@ -233,7 +233,7 @@ impl ConfigReading {
 
     /// `log FILE`. Reason: `BadWord`.
     #[tactic(auto, unfolding(crate::specs::Configs::log_line))]
-    fn log(&mut self, alloc: Global, words: &mut Words<'_>) -> Result<(), LineStop>
+    fn log(&mut self, alloc: Global, words: &mut Words<'_>) -> Result<(), LineError>
         ensures { Leaves result self.new (spec.log_line words.old self.old) }
     {
         expect(words, b"log")?;
@@ -251,7 +251,7 @@ impl ConfigReading {
         alloc: Global,
         word: HeadWord,
         words: &mut Words<'_>,
-    ) -> Result<(), LineStop>
+    ) -> Result<(), LineError>
         ensures { Leaves result self.new (spec.wanted_line word words.old self.old) }
     {
         match word {
@@ -283,7 +283,7 @@ impl ConfigReading {
     /// `dev D HOST PORT` behind its first word. Reasons: `BadWord`, `BadNumber`, `TwiceNamed`, `UnknownHost`,
     /// `BadArgument`.
     #[tactic(auto, unfolding(crate::specs::Configs::device_line))]
-    fn device(&mut self, alloc: Global, words: &mut Words<'_>) -> Result<(), LineStop>
+    fn device(&mut self, alloc: Global, words: &mut Words<'_>) -> Result<(), LineError>
         ensures { Leaves result self.new (spec.device_line words.old self.old) }
     {
         let n = neighbour(
@@ -300,7 +300,7 @@ impl ConfigReading {
 
     /// `without PACKAGE` behind its first word. Reasons: `BadWord`, `TwiceNamed`.
     #[tactic(auto, unfolding(crate::specs::Configs::missing_line))]
-    fn without(&mut self, words: &mut Words<'_>) -> Result<(), LineStop>
+    fn without(&mut self, words: &mut Words<'_>) -> Result<(), LineError>
         ensures { Leaves result self.new (spec.missing_line words.old self.old) }
     {
         package(&mut self.missing, words)?;
@@ -311,7 +311,12 @@ impl ConfigReading {
 
     /// `program` behind its first word. Reason: `BadWord`.
     #[tactic(auto, unfolding(crate::specs::Configs::program_line))]
-    fn program(&mut self, alloc: Global, number: u32, words: &mut Words<'_>) -> Result<(), LineStop>
+    fn program(
+        &mut self,
+        alloc: Global,
+        number: u32,
+        words: &mut Words<'_>,
+    ) -> Result<(), LineError>
         ensures { Leaves result self.new (spec.program_line number words.old self.old) }
     {
         words.end()?;
@@ -323,11 +328,11 @@ impl ConfigReading {
     /// `at TURN inject ENTRY BOUND ARGS` behind its first word, under version 2 with `handler NAME` in front of ARGS or
     /// without. Reasons: `UnknownProgram`, `BadWord`, `BadNumber`, `BadArgument`, `TooMany`.
     #[tactic(auto, unfolding(crate::specs::Configs::inject_line))]
-    fn inject(&mut self, alloc: Global, words: &mut Words<'_>) -> Result<(), LineStop>
+    fn inject(&mut self, alloc: Global, words: &mut Words<'_>) -> Result<(), LineError>
         ensures { Leaves result self.new (spec.inject_line words.old self.old) }
     {
         let Some(program) = &self.checked else {
-            return Err(LineStop::Reason(LineReason::UnknownProgram));
+            return Err(LineError::Reason(LineReason::UnknownProgram));
         };
         let turn = number(words, 1, 1_000_000)?;
         expect(words, b"inject")?;
@@ -346,7 +351,7 @@ impl ConfigReading {
             Err(reason) => {
                 drop(chunk);
                 drop(handler);
-                Err(LineStop::Reason(reason))
+                Err(LineError::Reason(reason))
             }
         }
     }
@@ -359,7 +364,7 @@ impl ConfigReading {
         word: TailWord,
         number: u32,
         words: &mut Words<'_>,
-    ) -> Result<(), LineStop>
+    ) -> Result<(), LineError>
         ensures { Leaves result self.new (tail_rest word number words.old self.old) }
     {
         match word {
@@ -378,7 +383,7 @@ impl ConfigReading {
         part: TailPart,
         number: u32,
         words: &mut Words<'_>,
-    ) -> Result<(), LineStop>
+    ) -> Result<(), LineError>
         ensures { Leaves result self.new (spec.tail_line part number words.old self.old) }
     {
         let word = words.next()?;
@@ -449,7 +454,7 @@ impl ConfigReading {
 
     /// The end of the program's text. Reasons: `TooMany`, `ProgramRefused`.
     #[tactic(auto, unfolding(crate::specs::Configs::close_program))]
-    fn close(&mut self, alloc: Global) -> Result<(), LineStop>
+    fn close(&mut self, alloc: Global) -> Result<(), LineError>
         ensures { Leaves result self.new (spec.close_program self.old) }
     {
         let checked = program(alloc, self.program.text.as_slice())?;
@@ -533,7 +538,7 @@ impl LineFile for ConfigReading {
     }
 }
 
-#[tactic(auto, using(line_files::proofs::FileLaws::is_found, line_files::proofs::FileLaws::is_only, line_files::proofs::FileLaws::is_fault))]
+#[tactic(auto, using(line_reader::proofs::FileLaws::is_found, line_reader::proofs::FileLaws::is_only, line_reader::proofs::FileLaws::is_fault))]
 /// The configuration that a file is. Condition: at most 4,194,304 bytes.
 ///
 /// The fault is the first line outside the format with its reason, or `NoMemory`.

@@ -1,18 +1,18 @@
 ghost use Rattle.std.specs.Prelude.{◌≡◌, ◌≤◌, ◌⊎◌, true, false, length, Ok, Err, IfOk, IfErr, MatchResult};
-ghost use Rattle.line_files.specs.Reads.{Leaves, Gives, FileLeaves};
-ghost use Rattle.network_plan.specs.NodeRules.{KeepsFleet};
-ghost use Rattle.network_plan.specs.declared.fleet.Fleet.{Fleet as Children};
+ghost use Rattle.line_reader.specs.Reads.{Leaves, Gives, FileLeaves};
+ghost use Rattle.network_config.specs.NodeRules.{KeepsFleet};
+ghost use Rattle.network_config.specs.declared.fleet.Fleet.{Fleet as Children};
 ghost use Rattle.node_files.specs.Fleets as spec;
 ghost use Rattle.node_files.specs.Fleets.{kid_word, kid_rest, fleet_step_at, no_children, fleet_of};
 
 use crate::parts::last_number;
-use line_files::{
-    LineFault, LineFile, LineReason, LineStop, Words, allow, file_name, is, number, read_file,
+use containers::Items;
+use line_reader::{
+    LineError, LineFault, LineFile, LineReason, Words, allow, file_name, is, number, read_file,
     says_nothing, stopped_at,
 };
-use network_plan::{Fleet, Kid, Kids};
+use network_config::{Fleet, Kid, Kids};
 use plan_base::Host;
-use plan_items::Items;
 use std::alloc::Global;
 
 /// The first word of a child's line.
@@ -41,7 +41,7 @@ impl KidWord {
 
 /// `node HOST FILE TURNS` behind its first word. Reasons: `BadWord`, `BadNumber`.
 #[tactic(auto, unfolding(crate::specs::Fleets::node_kid))]
-fn node_kid(alloc: Global, words: &mut Words<'_>) -> Result<Kid, LineStop>
+fn node_kid(alloc: Global, words: &mut Words<'_>) -> Result<Kid, LineError>
     ensures { Gives (λ k. k) result (spec.node_kid words.old) }
 {
     let host = number(words, 0, u32::MAX)?;
@@ -52,7 +52,7 @@ fn node_kid(alloc: Global, words: &mut Words<'_>) -> Result<Kid, LineStop>
 
 /// `ask HOST FILE` behind its first word. Reasons: `BadWord`, `BadNumber`.
 #[tactic(auto, unfolding(crate::specs::Fleets::ask_kid))]
-fn ask_kid(alloc: Global, words: &mut Words<'_>) -> Result<Kid, LineStop>
+fn ask_kid(alloc: Global, words: &mut Words<'_>) -> Result<Kid, LineError>
     ensures { Gives (λ k. k) result (spec.ask_kid words.old) }
 {
     let host = number(words, 0, u32::MAX)?;
@@ -63,7 +63,7 @@ fn ask_kid(alloc: Global, words: &mut Words<'_>) -> Result<Kid, LineStop>
 
 /// A child behind its first word. Reasons: `BadWord`, `BadNumber`.
 #[tactic(auto, unfolding(crate::specs::Fleets::kid_rest))]
-fn kid(alloc: Global, word: KidWord, words: &mut Words<'_>) -> Result<Kid, LineStop>
+fn kid(alloc: Global, word: KidWord, words: &mut Words<'_>) -> Result<Kid, LineError>
     ensures { Gives (λ k. k) result (kid_rest word words.old) }
 {
     match word {
@@ -94,7 +94,7 @@ impl FleetReading {
 
     /// A child more. Reasons: `BadWord`, `TooMany` where there are 64, `BadNumber`.
     #[tactic(auto, unfolding(crate::specs::Fleets::kid_line))]
-    fn child(&mut self, alloc: Global, words: &mut Words<'_>) -> Result<(), LineStop>
+    fn child(&mut self, alloc: Global, words: &mut Words<'_>) -> Result<(), LineError>
         ensures { Leaves result self.new (spec.kid_line words.old self.old) }
     {
         let word = words.next()?;
@@ -162,7 +162,7 @@ impl LineFile for FleetReading {
     }
 }
 
-#[tactic(auto, using(line_files::proofs::FileLaws::is_found, line_files::proofs::FileLaws::is_only, line_files::proofs::FileLaws::is_fault))]
+#[tactic(auto, using(line_reader::proofs::FileLaws::is_found, line_reader::proofs::FileLaws::is_only, line_reader::proofs::FileLaws::is_fault))]
 /// The fleet that a file is. Condition: at most 4,194,304 bytes.
 ///
 /// The fault is the first line outside the format with its reason, or `NoMemory`.

@@ -1,20 +1,20 @@
 ghost use Rattle.std.specs.Prelude.{◌≡◌, ◌≤◌, ◌⊎◌, length, Ok, Err, IfOk, IfErr, MatchResult};
-ghost use Rattle.line_files.specs.Reads.{Leaves, Gives, FileLeaves};
-ghost use Rattle.network_plan.specs.NodeRules.{KeepsLog};
-ghost use Rattle.network_plan.specs.declared.node.Log.{Log as Logged};
+ghost use Rattle.line_reader.specs.Reads.{Leaves, Gives, FileLeaves};
+ghost use Rattle.network_config.specs.NodeRules.{KeepsLog};
+ghost use Rattle.network_config.specs.declared.node.Log.{Log as Logged};
 ghost use Rattle.node_files.specs.Logs as spec;
 ghost use Rattle.node_files.specs.Logs.{node_word, may_come, node_rest, entry_word, entry_rest, log_step_at, nothing_logged, log_of};
 
 use crate::chunk_words::chunk;
 use crate::nodes::{host_line, hosts_line, neighbour, put_neighbour};
 use crate::parts::{expect, last_number, last_wide_number};
-use line_files::{
-    LineFault, LineFile, LineReason, LineStop, Words, allow, handler, hex_bytes, is, number,
+use containers::Items;
+use line_reader::{
+    LineError, LineFault, LineFile, LineReason, Words, allow, handler, hex_bytes, is, number,
     package, read_file, says_nothing, stopped_at, version_of,
 };
+use network_config::{Event, Hosts, Log, LogEvent, LogEvents, NodeConfig, first_link};
 use plan_base::{Dev, Host, Version};
-use network_plan::{Event, Hosts, Log, LogEvent, LogEvents, NodeConfig, first_link};
-use plan_items::Items;
 use service_api::{Neighbours, Packages};
 use std::alloc::Global;
 
@@ -141,7 +141,7 @@ fn inject_entry(
     alloc: Global,
     version: Version,
     words: &mut Words<'_>,
-) -> Result<LogEvent, LineStop>
+) -> Result<LogEvent, LineError>
     ensures { Gives (λ e. e) result (spec.inject_entry version words.old) }
 {
     let bound = number(words, 0, 65_535)?;
@@ -152,14 +152,14 @@ fn inject_entry(
         Err(reason) => {
             drop(chunk);
             drop(handler);
-            Err(LineStop::Reason(reason))
+            Err(LineError::Reason(reason))
         }
     }
 }
 
 /// `frame D HEX` behind its first word. Reasons: `BadWord`, `BadNumber`, `BadArgument`.
 #[tactic(auto, unfolding(crate::specs::Logs::frame_entry))]
-fn frame_entry(alloc: Global, words: &mut Words<'_>) -> Result<LogEvent, LineStop>
+fn frame_entry(alloc: Global, words: &mut Words<'_>) -> Result<LogEvent, LineError>
     ensures { Gives (λ e. e) result (spec.frame_entry words.old) }
 {
     let d = number(words, 0, 8)?;
@@ -170,7 +170,7 @@ fn frame_entry(alloc: Global, words: &mut Words<'_>) -> Result<LogEvent, LineSto
 
 /// `control HEX` behind its first word. Reasons: `BadWord`, `BadArgument`.
 #[tactic(auto, unfolding(crate::specs::Logs::control_entry))]
-fn control_entry(alloc: Global, words: &mut Words<'_>) -> Result<LogEvent, LineStop>
+fn control_entry(alloc: Global, words: &mut Words<'_>) -> Result<LogEvent, LineError>
     ensures { Gives (λ e. e) result (spec.control_entry words.old) }
 {
     let bytes = hex_bytes(alloc, words, 1, 16_513)?;
@@ -180,7 +180,7 @@ fn control_entry(alloc: Global, words: &mut Words<'_>) -> Result<LogEvent, LineS
 
 /// `take D` behind its first word. Reasons: `BadWord`, `BadNumber`.
 #[tactic(auto, unfolding(crate::specs::Logs::take_entry))]
-fn take_entry(words: &mut Words<'_>) -> Result<LogEvent, LineStop>
+fn take_entry(words: &mut Words<'_>) -> Result<LogEvent, LineError>
     ensures { Gives (λ e. e) result (spec.take_entry words.old) }
 {
     let d = last_number(words, 0, 8)?;
@@ -194,7 +194,7 @@ fn entry(
     version: Version,
     word: EntryWord,
     words: &mut Words<'_>,
-) -> Result<LogEvent, LineStop>
+) -> Result<LogEvent, LineError>
     ensures { Gives (λ e. e) result (entry_rest version word words.old) }
 {
     match word {
@@ -242,7 +242,7 @@ impl LogReading {
 
     /// The node's own host. Reasons: `BadWord`, `BadNumber`.
     #[tactic(auto, unfolding(crate::specs::Logs::own_line))]
-    fn own(&mut self, words: &mut Words<'_>) -> Result<(), LineStop>
+    fn own(&mut self, words: &mut Words<'_>) -> Result<(), LineError>
         ensures { Leaves result self.new (spec.own_line words.old self.old) }
     {
         self.here = host_line(words)?;
@@ -252,7 +252,7 @@ impl LogReading {
 
     /// The moment at which it began. Reasons: `BadWord`, `BadNumber`.
     #[tactic(auto, unfolding(crate::specs::Logs::boot_line))]
-    fn boot(&mut self, words: &mut Words<'_>) -> Result<(), LineStop>
+    fn boot(&mut self, words: &mut Words<'_>) -> Result<(), LineError>
         ensures { Leaves result self.new (spec.boot_line words.old self.old) }
     {
         expect(words, b"boot")?;
@@ -263,7 +263,7 @@ impl LogReading {
 
     /// The hosts of its network. Reasons: `BadWord`, `BadNumber`, `TooMany`, `BadArgument`.
     #[tactic(auto, unfolding(crate::specs::Logs::network_line))]
-    fn network(&mut self, alloc: Global, words: &mut Words<'_>) -> Result<(), LineStop>
+    fn network(&mut self, alloc: Global, words: &mut Words<'_>) -> Result<(), LineError>
         ensures { Leaves result self.new (spec.network_line words.old self.old) }
     {
         self.hosts = hosts_line(alloc, self.here, words)?;
@@ -273,7 +273,7 @@ impl LogReading {
 
     /// `dev D HOST` behind its first word. Reasons: `BadWord`, `BadNumber`, `TwiceNamed`, `UnknownHost`, `BadArgument`.
     #[tactic(auto, unfolding(crate::specs::Logs::device_line))]
-    fn device(&mut self, alloc: Global, words: &mut Words<'_>) -> Result<(), LineStop>
+    fn device(&mut self, alloc: Global, words: &mut Words<'_>) -> Result<(), LineError>
         ensures { Leaves result self.new (spec.device_line words.old self.old) }
     {
         let n = neighbour(
@@ -289,7 +289,7 @@ impl LogReading {
 
     /// `without PACKAGE` behind its first word. Reasons: `BadWord`, `TwiceNamed`.
     #[tactic(auto, unfolding(crate::specs::Logs::missing_line))]
-    fn without(&mut self, words: &mut Words<'_>) -> Result<(), LineStop>
+    fn without(&mut self, words: &mut Words<'_>) -> Result<(), LineError>
         ensures { Leaves result self.new (spec.missing_line words.old self.old) }
     {
         package(&mut self.missing, words)?;
@@ -300,7 +300,7 @@ impl LogReading {
 
     /// `events` behind its first word. Reason: `BadWord`.
     #[tactic(auto, unfolding(crate::specs::Logs::events_line))]
-    fn begin(&mut self, words: &mut Words<'_>) -> Result<(), LineStop>
+    fn begin(&mut self, words: &mut Words<'_>) -> Result<(), LineError>
         ensures { Leaves result self.new (spec.events_line words.old self.old) }
     {
         words.end()?;
@@ -315,7 +315,7 @@ impl LogReading {
         alloc: Global,
         word: NodeWord,
         words: &mut Words<'_>,
-    ) -> Result<(), LineStop>
+    ) -> Result<(), LineError>
         ensures { Leaves result self.new (node_rest word words.old self.old) }
     {
         match word {
@@ -327,7 +327,7 @@ impl LogReading {
 
     /// A line between the hosts and the entries.
     #[tactic(auto, unfolding(crate::specs::Logs::node_line))]
-    fn node(&mut self, alloc: Global, lacks: bool, words: &mut Words<'_>) -> Result<(), LineStop>
+    fn node(&mut self, alloc: Global, lacks: bool, words: &mut Words<'_>) -> Result<(), LineError>
         ensures { Leaves result self.new (spec.node_line lacks words.old self.old) }
     {
         let word = words.next()?;
@@ -338,7 +338,7 @@ impl LogReading {
 
     /// An entry more. Reasons: `BadWord`, `TooMany` where there are 50,000, `BadNumber`, `BadArgument`.
     #[tactic(auto, unfolding(crate::specs::Logs::entry_line))]
-    fn entry(&mut self, alloc: Global, words: &mut Words<'_>) -> Result<(), LineStop>
+    fn entry(&mut self, alloc: Global, words: &mut Words<'_>) -> Result<(), LineError>
         ensures { Leaves result self.new (spec.entry_line words.old self.old) }
     {
         let word = words.next()?;
@@ -502,7 +502,7 @@ impl LineFile for LogReading {
     }
 }
 
-#[tactic(auto, using(line_files::proofs::FileLaws::is_found, line_files::proofs::FileLaws::is_only, line_files::proofs::FileLaws::is_fault))]
+#[tactic(auto, using(line_reader::proofs::FileLaws::is_found, line_reader::proofs::FileLaws::is_only, line_reader::proofs::FileLaws::is_fault))]
 /// The log that a file is. Condition: at most 4,194,304 bytes.
 ///
 /// The fault is the first line outside the format with its reason, or `NoMemory`.

@@ -3,23 +3,22 @@ ghost use Rattle.std.specs.List.{All, flat_map};
 ghost use Rattle.std.specs.Fmt.{decimal};
 ghost use Rattle.hex.specs.Hex.{encode_lower};
 ghost use Rattle.wire_bytes.specs.Fields.{IsBytes};
-ghost use Rattle.chunk_spelling.specs.Values.{chunk_bytes as bytes_of};
-ghost use Rattle.chunk_spelling.specs.Spelling.{a_whole_chunk};
-ghost use Rattle.network_plan.specs.NodeRules.{KeepsLog};
-ghost use Rattle.network_plan.specs.declared.node.Log.{Log as Logged};
-ghost use Rattle.network_plan.specs.declared.event.LogEvent.{LogEvent as Entry};
-ghost use Rattle.schedule_laws.specs.Written.{package_word, handler_words, IsNamed};
+ghost use Rattle.chunk_codec_spec.specs.Values.{chunk_bytes as bytes_of};
+ghost use Rattle.chunk_codec_spec.specs.Spelling.{a_whole_chunk};
+ghost use Rattle.network_config.specs.NodeRules.{KeepsLog};
+ghost use Rattle.network_config.specs.declared.node.Log.{Log as Logged};
+ghost use Rattle.network_config.specs.declared.event.LogEvent.{LogEvent as Entry};
+ghost use Rattle.schedule_text.specs.Written.{package_word, handler_words, IsNamed};
 ghost use Rattle.node_files.specs.Logs.{log_of};
 ghost use Rattle.node_files.specs.LogTexts as spec;
 ghost use Rattle.node_files.specs.LogTexts.{closing, line_text, event_words, entry_text, hosts_words, device_words, missing_words, CanSpell, IsSpellable, log_text};
 
 use checked_chunks::CheckedChunk;
-use chunk_ranges::may_be_spelled;
-use chunk_writer::put_chunk;
+use chunk_codec::{may_be_spelled, put_chunk};
 use hex::encode;
+use network_config::{Event, NodeConfig};
 use plan_base::{Bytes, Chunk, Dev, Host, Name, NoMemory, Version};
-use network_plan::{Event, NodeConfig};
-use plan_sizes::chunk_weight;
+use plan_base_size::chunk_weight;
 use service_api::PackageName;
 use std::alloc::Global;
 use wire_bytes::{Cursor, Out};
@@ -42,7 +41,7 @@ fn put_hex(alloc: Global, bytes: &[u8], out: &mut Bytes) -> Result<(), NoMemory>
 }
 
 /// A chunk that keeps the limits of its spelling, as its bytes.
-#[tactic(auto, using(packet_frame::proofs::Sizes::chunk_small, packet_frame::proofs::Sizes::chunk_can, chunk_spelling::proofs::LengthLaws::chunk_length))]
+#[tactic(auto, using(packet_frame::proofs::Sizes::chunk_small, packet_frame::proofs::Sizes::chunk_can, chunk_codec_spec::proofs::LengthLaws::chunk_length))]
 fn bytes_of_chunk(alloc: Global, chunk: &Chunk) -> Result<Bytes, NoMemory>
     requires { a_whole_chunk.Fits chunk.now }
     ensures value { IfOk result (λ b. b ≡ bytes_of chunk.now) }

@@ -1,9 +1,9 @@
 ghost use Rattle.std.specs.Prelude.{◌≡◌, ◌≤◌, IfOk};
-ghost use Rattle.line_files.specs.Reads.{ReadsOn, Tells};
+ghost use Rattle.line_reader.specs.Reads.{ReadsOn, Tells};
 ghost use Rattle.node_files.specs.Parts as spec;
 ghost use Rattle.node_files.specs.Parts.{behind_word};
 
-use line_files::{LineReason, Words, allow, is, number, wide_number};
+use line_reader::{LineReason, Words, allow, is, number, wide_number};
 
 /// Goes behind the word that must stand next. Reason: `BadWord`.
 #[tactic(auto, unfolding(crate::specs::Parts::behind_word))]

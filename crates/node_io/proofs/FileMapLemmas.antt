@@ -4,7 +4,7 @@ use Rattle.std.proofs.lemmas.Bool.Decides.{nat_tests, Decides-ltb}
 use Rattle.std.specs.List.{position_or_len}
 use Rattle.std.specs.Str.{bytes_eq}
 use Rattle.std.proofs.lemmas.Slice.Eq.{bytes_eq-Decides}
-use Rattle.plan_items.proofs.Bools.{not_true}
+use Rattle.containers.proofs.Bools.{not_true}
 use Rattle.node_io.specs.FileMaps.{FileMap, file_at, is_named, contents, ChangesOnly}
 
 abbrev Entry : Type 0

@@ -1,8 +1,7 @@
 -- Bytes that are added to a file in pieces.
 use Rattle.std.proofs.Common.{ℕ, ◌+◌, ◌-◌, ◌≤◌, List, [], ◌++◌, length, take, drop, refl, sym, ap, ◌∙◌, subst, append_assoc, append-nil, length-drop, IsTrue, Option, IsSome, unwrap_or, arith}
 use Rattle.std.proofs.Math.Seq.{take-add}
-use Rattle.node_io.specs.Causes.{HasRisen}
-use Rattle.node_io.specs.FileMaps.{FileMap, file_at, contents, ChangesOnly, WritesMore}
+use Rattle.node_io.specs.FileMaps.{FileMap, contents, ChangesOnly, WritesMore}
 use Rattle.node_io.specs.FileStates.{FilesState, OnlyWrites, Adds, AddsSome, AddsNone, FailsAdding}
 use Rattle.node_io.proofs.SinkLaws.{rest_is}
 

@@ -1,7 +1,6 @@
 -- Writings one after the other.
 use Rattle.std.proofs.Common.{◌≡◌, ℕ, zero, suc, ◌+◌, ◌-◌, ◌≤◌, List, [], ◌∷◌, ◌++◌, length, take, drop, refl, sym, ap, subst, ◌∙◌, IsTrue, arith, append-nil, append_assoc, length-drop}
 use Rattle.std.proofs.Math.Seq.{take-add, take-length, take-append-add}
-use Rattle.node_io.specs.Causes.{HasRisen}
 use Rattle.node_io.specs.Sinks.{SinkState, Writes, WritesPrefix, WritesSome, WritesNone, FailsIn}
 
 -- nothing yet

@@ -1,8 +1,8 @@
 ghost use Rattle.std.specs.Prelude.{◌≡◌, true, drop, get_or, IfOk};
 ghost use Rattle.node_io.specs.Clocks.{ClockState, Tells};
 
+use containers::Items;
 use plan_base::NoMemory;
-use plan_items::Items;
 use std::alloc::Global;
 
 /// The answers of a clock in memory, in milliseconds.

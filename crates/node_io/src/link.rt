@@ -2,8 +2,8 @@ ghost use Rattle.std.specs.Prelude.{◌≡◌, length};
 ghost use Rattle.node_io.specs.Links.{LinkState, HasPeer, Binds, Hears, Sends};
 
 use crate::outside::Failed;
+use containers::Items;
 use plan_base::{Bytes, Dev};
-use plan_items::Items;
 
 /// The bytes that a receiving has room for: one more than the longest frame.
 pub const MOST_RECEIVED: usize = 16_513;

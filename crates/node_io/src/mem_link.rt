@@ -5,8 +5,8 @@ ghost use Rattle.node_io.specs.Memory.{link_state, IsDueAtLink, LinkLacksMemory,
 use crate::counts::{is_due, raise};
 use crate::link::{Arrival, Arrivals, Got, Link, MOST_RECEIVED, Peer, Peers, SentFrames};
 use crate::outside::{Calls, Failed};
+use containers::Items;
 use plan_base::{Bytes, Dev, NoMemory};
-use plan_items::Items;
 use std::alloc::{AllocError, Global};
 
 /// A link in memory, whose arrivals are a script.

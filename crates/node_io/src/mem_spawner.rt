@@ -7,8 +7,8 @@ use crate::counts::{is_due, raise};
 use crate::outside::{Calls, Failed};
 use crate::spawner::{Child, Spawner, Statuses};
 use crate::text::text_of;
+use containers::Items;
 use plan_base::{NoMemory, Text, Texts};
-use plan_items::Items;
 use std::alloc::{AllocError, Global};
 
 /// A spawner in memory: the k-th child started has the k-th status.

@@ -2,7 +2,7 @@ ghost use Rattle.std.specs.Prelude.{◌<◌, length, IsTrue};
 ghost use Rattle.node_io.specs.Sinks.{SinkState, Pushes};
 ghost use Rattle.node_io.specs.FileStates.{FilesState, BeginsReading, Pulls, BeginsWriting, AddResult};
 
-use plan_items::Items;
+use containers::Items;
 
 /// The answer of a call of the outside that failed. A count of faults rose in that call.
 #[derive(Clone, Copy, PartialEq, Eq)]

@@ -2,8 +2,8 @@ ghost use Rattle.std.specs.Prelude.{Contains};
 ghost use Rattle.node_io.specs.Spawners.{SpawnerState, Starts, Waits};
 
 use crate::outside::Failed;
+use containers::Items;
 use plan_base::Texts;
-use plan_items::Items;
 
 /// A child process that was started.
 #[derive(Clone, Copy, PartialEq, Eq)]

@@ -1,12 +1,12 @@
 -- The log of a whole run, read again.
 use Rattle.std.proofs.Common.{ℕ, ◌≤◌, ◌++◌, length, refl, ◌∙◌, ap}
-use Rattle.network_plan.specs.declared.node.Log.{Log}
-use Rattle.network_plan.specs.declared.serve.ServeConfig.{ServeConfig}
-use Rattle.network_plan.specs.NodeRules.{KeepsServe}
+use Rattle.network_config.specs.declared.node.Log.{Log}
+use Rattle.network_config.specs.declared.serve.ServeConfig.{ServeConfig}
+use Rattle.network_config.specs.NodeRules.{KeepsServe}
 use Rattle.node_files.proofs.LogTextLaws.{log_again}
-use Rattle.node_model.specs.State.{NodeState}
-use Rattle.serve_model.specs.Texts.{whole_trace}
-use Rattle.serve_model.proofs.Going.{lines_of_run}
+use Rattle.node_core_spec.specs.State.{NodeState}
+use Rattle.node_log.specs.Texts.{whole_trace}
+use Rattle.node_log.proofs.Going.{lines_of_run}
 use Rattle.node_serve.specs.Shown.{run_log}
 use Rattle.node_serve.specs.Desks.{Serving}
 use Rattle.node_serve.specs.Served.{Served, run_in}

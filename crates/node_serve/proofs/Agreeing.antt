@@ -1,15 +1,15 @@
 -- That log, output and frames sent agree.
 use Rattle.std.proofs.Common.{◌≡◌, ℕ, zero, suc, ◌+◌, ◌≤◌, ◌⊎◌, inl, inr, List, [], ◌∷◌, ◌++◌, length, take, Some, refl, sym, ◌∙◌, ap, subst, arith, codes, append_assoc, append-nil, length-append}
 use Rattle.std.proofs.Math.Seq.{take-append-add, take-append_seam, take-length}
-use Rattle.network_plan.specs.declared.event.LogEvent.{LogEvent}
-use Rattle.network_plan.specs.declared.serve.ServeConfig.{ServeConfig}
+use Rattle.network_config.specs.declared.event.LogEvent.{LogEvent}
+use Rattle.network_config.specs.declared.serve.ServeConfig.{ServeConfig}
 use Rattle.node_files.specs.LogTexts.{entry_text}
 use Rattle.node_io.specs.FileMaps.{file_at, ChangesOnly, WritesMore}
-use Rattle.node_model.specs.State.{NodeState}
-use Rattle.serve_model.specs.Runs.{Running, opened_run, node_by, node_after, played_entries, with_entry}
-use Rattle.serve_model.specs.Texts.{begun_trace, whole_trace}
-use Rattle.serve_model.specs.Follow.{Ext}
-use Rattle.serve_model.proofs.Going.{ext_trans, ext_entry}
+use Rattle.node_core_spec.specs.State.{NodeState}
+use Rattle.node_log.specs.Runs.{Running, opened_run, node_by, node_after, played_entries, with_entry}
+use Rattle.node_log.specs.Texts.{begun_trace, whole_trace}
+use Rattle.node_log.specs.Follow.{Ext}
+use Rattle.node_log.proofs.Going.{ext_trans, ext_entry}
 use Rattle.node_serve.specs.Fronts.{AppendsFront, WritesFront}
 use Rattle.node_serve.specs.Sendings.{sent_at, frames_of}
 use Rattle.node_serve.specs.Shown.{Seen, Start, entries_log, run_log, run_trace, IsReadable, Sees, Shows, HasLogged, Agrees, Fronts}

@@ -1,9 +1,9 @@
 -- Which events may come to a node.
 use Rattle.std.proofs.Common.{Option, Some, None, IfSome}
 use Rattle.plan_base.specs.declared.stamp.Version.{Version}
-use Rattle.network_plan.specs.declared.event.Event.{Event}
-use Rattle.network_plan.specs.NodeRules.{KeepsNodeEvent}
-use Rattle.log_replay.proofs.Within.{comes_as}
+use Rattle.network_config.specs.declared.event.Event.{Event}
+use Rattle.network_config.specs.NodeRules.{KeepsNodeEvent}
+use Rattle.node_log.proofs.Within.{comes_as}
 use Rattle.node_serve.specs.Steps.{MayCome}
 
 -- one that keeps the limits of every version

@@ -3,23 +3,23 @@ use Rattle.std.proofs.Common.{◌≡◌, ℕ, ◌+◌, inl, inr, List, [], ◌++
 use Rattle.std.specs.List.{All, flat_map}
 use Rattle.std.proofs.lemmas.List.Elements.{All-nil}
 use Rattle.std.proofs.Math.Seq.{take-append-add, take-append_seam, take-length}
-use Rattle.network_plan.specs.declared.serve.ServeConfig.{ServeConfig}
+use Rattle.network_config.specs.declared.serve.ServeConfig.{ServeConfig}
 use Rattle.node_files.specs.LogTexts.{head_text, entry_text}
 use Rattle.node_io.specs.Clocks.{ClockState}
 use Rattle.node_io.specs.FileMaps.{ChangesOnly, SavesFront, untouched, begun}
 use Rattle.node_io.specs.Sinks.{SinkState}
 use Rattle.node_io.proofs.SinkLaws.{front_longer}
-use Rattle.node_model.specs.State.{NodeState}
-use Rattle.serve_model.specs.Runs.{Running, opened_run, played_entries, turns, node_run}
-use Rattle.serve_model.specs.Texts.{trace_line, lines_text, begun_trace, whole_trace}
-use Rattle.serve_model.specs.Follow.{Ext, lost_after, lost_places}
-use Rattle.serve_model.proofs.Places.{own_places}
+use Rattle.node_core_spec.specs.State.{NodeState}
+use Rattle.node_log.specs.Runs.{Running, opened_run, played_entries, turns, node_run}
+use Rattle.node_log.specs.Texts.{trace_line, lines_text, begun_trace, whole_trace}
+use Rattle.node_log.specs.Follow.{Ext, lost_after, lost_places}
+use Rattle.node_log.proofs.Places.{own_places}
 use Rattle.node_serve.specs.Fronts.{AppendsFront}
 use Rattle.node_serve.specs.Sendings.{frames_of}
 use Rattle.node_serve.specs.Shown.{run_log, run_trace, IsReadable, Agrees, Reached, Stopped, UsedUpTo}
 use Rattle.node_serve.specs.Desks.{Desk, Serving, desk_of, with_clock, seen_at, start_at}
 use Rattle.node_serve.specs.Served.{run_in, IsBound, MayBind, Begins, EndsEarly, Served, Begun}
-use Rattle.serve_model.proofs.Going.{ext_refl, turns_grows}
+use Rattle.node_log.proofs.Going.{ext_refl, turns_grows}
 use Rattle.node_serve.proofs.FrameLaws.{frames_of_run}
 use Rattle.node_serve.proofs.Agreeing.{agrees_more, agrees_all}
 use Rattle.node_serve.proofs.Showing.{text_more}

@@ -2,17 +2,17 @@
 use Rattle.std.proofs.Common.{◌≡◌, ℕ, ◌+◌, Bool, true, false, if◌then◌else◌, List, Option, Some, None, Result, Ok, Err, IsErrAnd, MatchResult, nat_le, refl, sym, ◌∙◌, ap, subst}
 use Rattle.plan_base.specs.declared.ids.Dev.{Dev}
 use Rattle.packet_frame.specs.declared.frame.PlainStamped.{PlainStamped}
-use Rattle.network_plan.specs.Hosts.{dev_of}
-use Rattle.network_plan.specs.declared.event.Event.{Event}
-use Rattle.network_plan.specs.declared.event.Event.TheVariants.{Tick, Take}
-use Rattle.network_plan.specs.declared.event.LogEvent.{LogEvent}
-use Rattle.network_plan.specs.declared.event.LogEvent.TheVariants.{Step, Lost}
-use Rattle.network_plan.specs.declared.serve.ServeConfig.{ServeConfig}
-use Rattle.serve_model.specs.Runs.{Running, Action, then_do, with_entry, marked_running, holding, is_refused, make, tick, first_on, come_back, take_back, send_taken, take_send, release}
-use Rattle.serve_model.specs.Follow.{Ext, Grows, entry_of, is_lost, Fits}
+use Rattle.network_config.specs.Hosts.{dev_of}
+use Rattle.network_config.specs.declared.event.Event.{Event}
+use Rattle.network_config.specs.declared.event.Event.TheVariants.{Tick, Take}
+use Rattle.network_config.specs.declared.event.LogEvent.{LogEvent}
+use Rattle.network_config.specs.declared.event.LogEvent.TheVariants.{Step, Lost}
+use Rattle.network_config.specs.declared.serve.ServeConfig.{ServeConfig}
+use Rattle.node_log.specs.Runs.{Running, Action, then_do, with_entry, marked_running, holding, is_refused, make, tick, first_on, come_back, take_back, send_taken, take_send, release}
+use Rattle.node_log.specs.Follow.{Ext, Grows, entry_of, is_lost, Fits}
 use Rattle.node_serve.specs.Shown.{Seen, Start, Shows, Fronts, Reached, Stopped, Leaves}
-use Rattle.serve_model.proofs.Going.{ext_refl, ext_trans, ext_entry, ext_marked, ext_holding, send_taken_ext, come_back_grows}
-use Rattle.serve_model.proofs.Places.{fits_before, fits_entry}
+use Rattle.node_log.proofs.Going.{ext_refl, ext_trans, ext_entry, ext_marked, ext_holding, send_taken_ext, come_back_grows}
+use Rattle.node_log.proofs.Places.{fits_before, fits_entry}
 use Rattle.node_serve.proofs.Showing.{shows_marked, shows_holding}
 use Rattle.node_serve.proofs.Agreeing.{fronts_whole}
 

@@ -4,18 +4,18 @@ use Rattle.std.proofs.lemmas.Bool.Decides.{nat_tests}
 use Rattle.plan_base.specs.declared.ids.Dev.{Dev}
 use Rattle.packet_frame.specs.declared.frame.PlainStamped.{PlainStamped}
 use Rattle.packet_frame.specs.Stamped.{stamped_bytes}
-use Rattle.network_plan.specs.declared.serve.Inject.{Inject as Injection}
-use Rattle.network_plan.specs.Hosts.{dev_of}
-use Rattle.network_plan.specs.declared.event.Event.{Event}
-use Rattle.network_plan.specs.declared.event.Event.TheVariants.{Inject, Frame, Control, Tick, Take}
-use Rattle.network_plan.specs.declared.event.LogEvent.{LogEvent}
-use Rattle.network_plan.specs.declared.event.LogEvent.TheVariants.{Step, Lost}
-use Rattle.network_plan.specs.declared.serve.ServeConfig.{ServeConfig}
+use Rattle.network_config.specs.declared.serve.Inject.{Inject as Injection}
+use Rattle.network_config.specs.Hosts.{dev_of}
+use Rattle.network_config.specs.declared.event.Event.{Event}
+use Rattle.network_config.specs.declared.event.Event.TheVariants.{Inject, Frame, Control, Tick, Take}
+use Rattle.network_config.specs.declared.event.LogEvent.{LogEvent}
+use Rattle.network_config.specs.declared.event.LogEvent.TheVariants.{Step, Lost}
+use Rattle.network_config.specs.declared.serve.ServeConfig.{ServeConfig}
 use Rattle.node_io.specs.declared.link.Peer.{Peer}
 use Rattle.node_io.specs.declared.link.Arrival.{Arrival}
 use Rattle.node_io.specs.Links.{Heard, has_peer, next_heard}
-use Rattle.node_model.specs.State.{NodeState}
-use Rattle.serve_model.specs.Runs.{node_by, node_after, Running, opened_run, with_entry, marked_running, holding, with_sent, Action, then_do, is_refused, make, tick, inject_one, inject_to, arrival, hear, first_on, queued_on, come_back, take_back, loop_back, send_taken, take_send, repeat_send, flush_device, flush_to, release, flush, begin_turn, end_turn, turn, turns, node_run, peers_of, time_at}
+use Rattle.node_core_spec.specs.State.{NodeState}
+use Rattle.node_log.specs.Runs.{node_by, node_after, Running, opened_run, with_entry, marked_running, holding, with_sent, Action, then_do, is_refused, make, tick, inject_one, inject_to, arrival, hear, first_on, queued_on, come_back, take_back, loop_back, send_taken, take_send, repeat_send, flush_device, flush_to, release, flush, begin_turn, end_turn, turn, turns, node_run, peers_of, time_at}
 use Rattle.node_serve.specs.Sendings.{sending, sent_at, frames_of, SendsNone}
 
 -- what arrives sends nothing

@@ -5,8 +5,8 @@ use Rattle.wire_bytes.specs.Fields.{IsBytes}
 use Rattle.plan_base.specs.declared.name.Name.{Name}
 use Rattle.plan_base.specs.declared.stamp.Stamp.{Stamp}
 use Rattle.plan_base.specs.declared.stamp.Version.{Version}
-use Rattle.network_plan.specs.Rules.{MayArrive}
-use Rattle.chunk_spelling.specs.Values.{chunk_bytes}
+use Rattle.network_config.specs.Rules.{MayArrive}
+use Rattle.chunk_codec_spec.specs.Values.{chunk_bytes}
 use Rattle.packet_frame.specs.declared.frame.PlainFrame.{PlainFrame}
 use Rattle.packet_frame.specs.declared.frame.PlainStamped.{PlainStamped}
 use Rattle.packet_frame.specs.Bytes.{letters, head_bytes, packet_bytes, rows_bytes, frame_bytes}

@@ -2,14 +2,14 @@
 use Rattle.std.proofs.Common.{◌≡◌, true, Option, Some, None, refl, sym, subst}
 use Rattle.plan_base.specs.declared.name.Name.{Name}
 use Rattle.plan_base.specs.declared.tree.Chunk.{Chunk}
-use Rattle.typing_rules.specs.Handlers.{MayHandle}
+use Rattle.plan_types_spec.specs.Handlers.{MayHandle}
 use Rattle.plan_base.specs.declared.stamp.Version.{Version}
 use Rattle.plan_base.specs.declared.stamp.Version.TheVariants.{One, Two}
-use Rattle.network_plan.specs.declared.serve.Inject.{Inject as Injection}
-use Rattle.network_plan.specs.declared.event.Event.TheVariants.{Inject}
-use Rattle.network_plan.specs.Rules.{MayName}
-use Rattle.network_plan.specs.NodeRules.{KeepsInject}
-use Rattle.node_model.specs.Fits.{comes_within}
+use Rattle.network_config.specs.declared.serve.Inject.{Inject as Injection}
+use Rattle.network_config.specs.declared.event.Event.TheVariants.{Inject}
+use Rattle.network_config.specs.Rules.{MayName}
+use Rattle.network_config.specs.NodeRules.{KeepsInject}
+use Rattle.node_core_spec.specs.Fits.{comes_within}
 use Rattle.node_serve.specs.Moments.{takes_handler}
 
 may_handle : (v : Version) (c : Chunk) (o : Option Name) → MayName v c o → MayHandle c o

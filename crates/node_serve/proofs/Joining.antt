@@ -1,10 +1,10 @@
 -- How calls of a serving node join.
 use Rattle.std.proofs.Common.{◌≡◌, ℕ, ◌≤◌, ◌<◌, ◌+◌, ◌⊎◌, inl, inr, List, [], true, take, IsTrue, Result, Ok, Err, nat_le, refl, sym, ap, subst, ◌∙◌, arith}
-use Rattle.network_plan.specs.declared.serve.ServeConfig.{ServeConfig}
-use Rattle.network_plan.specs.declared.event.Event.{Event}
-use Rattle.network_plan.specs.declared.event.Event.TheVariants.{Tick}
+use Rattle.network_config.specs.declared.serve.ServeConfig.{ServeConfig}
+use Rattle.network_config.specs.declared.event.Event.{Event}
+use Rattle.network_config.specs.declared.event.Event.TheVariants.{Tick}
 use Rattle.service_api.specs.Services.{ServiceState}
-use Rattle.node_model.specs.State.{NodeState}
+use Rattle.node_core_spec.specs.State.{NodeState}
 use Rattle.node_core.specs.declared.node.Node.{Node}
 use Rattle.node_core.specs.Stands.{NodeStands}
 use Rattle.node_io.specs.FileMaps.{file_at}
@@ -12,9 +12,9 @@ use Rattle.node_io.specs.FileStates.{FilesState, Adds, FailsAdding}
 use Rattle.node_io.specs.Links.{LinkState}
 use Rattle.node_io.specs.Sinks.{SinkState, Writes, FailsIn}
 use Rattle.node_io.proofs.FileWrites.{only_same, only_both}
-use Rattle.serve_model.specs.Runs.{Running, Action, then_do, make, tick}
-use Rattle.serve_model.specs.Follow.{Grows}
-use Rattle.serve_model.proofs.Going.{make_grows}
+use Rattle.node_log.specs.Runs.{Running, Action, then_do, make, tick}
+use Rattle.node_log.specs.Follow.{Grows}
+use Rattle.node_log.proofs.Going.{make_grows}
 use Rattle.node_serve.specs.Stays.{StandsFor}
 use Rattle.node_serve.specs.Sendings.{SendsNone}
 use Rattle.node_serve.specs.Steps.{Written, in_log, in_trace}

@@ -3,7 +3,7 @@ use Rattle.std.proofs.Common.{◌≡◌, ℕ, Bool, true, false, ◌&&◌, nat_l
 use Rattle.std.specs.Str.{is_utf8, IsUtf8}
 use Rattle.std.proofs.lemmas.Bool.{false≢true}
 use Rattle.std.proofs.lemmas.Str.{IsUtf8-from_is_utf8}
-use Rattle.network_plan.specs.FileNames.{is_file_name}
+use Rattle.network_config.specs.FileNames.{is_file_name}
 
 second : (a b : Bool) → (a && b) ≡ true → b ≡ true
 second true b h = h

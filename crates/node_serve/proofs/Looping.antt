@@ -2,15 +2,15 @@
 use Rattle.std.proofs.Common.{◌≡◌, ℕ, zero, suc, ◌+◌, ◌-◌, ◌<◌, ◌≤◌, List, drop, length, slice_get, ◌∙◌, ap, subst, arith}
 use Rattle.std.proofs.lemmas.Option.{slice_get_past}
 use Rattle.plan_base.specs.declared.ids.Dev.{Dev}
-use Rattle.network_plan.specs.declared.serve.Inject.{Inject as Injection}
-use Rattle.network_plan.specs.Hosts.{dev_of}
-use Rattle.network_plan.specs.declared.serve.ServeConfig.{ServeConfig}
+use Rattle.network_config.specs.declared.serve.Inject.{Inject as Injection}
+use Rattle.network_config.specs.Hosts.{dev_of}
+use Rattle.network_config.specs.declared.serve.ServeConfig.{ServeConfig}
 use Rattle.node_io.specs.declared.link.Peer.{Peer}
 use Rattle.node_io.specs.declared.link.Arrival.{Arrival}
 use Rattle.node_io.specs.Links.{next_heard}
-use Rattle.serve_model.specs.Runs.{Running, Action, then_do, inject_one, inject_to, repeat_send, flush_to, turn, time_at, turns, peers_of}
-use Rattle.serve_model.specs.Follow.{Ext}
-use Rattle.serve_model.proofs.Going.{ext_refl, ext_trans, inject_one_grows, take_send_grows, flush_device_grows, turn_grows}
+use Rattle.node_log.specs.Runs.{Running, Action, then_do, inject_one, inject_to, repeat_send, flush_to, turn, time_at, turns, peers_of}
+use Rattle.node_log.specs.Follow.{Ext}
+use Rattle.node_log.proofs.Going.{ext_refl, ext_trans, inject_one_grows, take_send_grows, flush_device_grows, turn_grows}
 use Rattle.node_serve.specs.Shown.{Seen, Start, Reached, Stopped}
 use Rattle.node_serve.proofs.Following.{reached_then, reached_as, stopped_then, stopped_as}
 

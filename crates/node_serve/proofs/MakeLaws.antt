@@ -5,27 +5,27 @@ use Rattle.plan_base.specs.declared.ids.Dev.{Dev}
 use Rattle.plan_base.specs.declared.ids.Host.{Host}
 use Rattle.packet_frame.specs.declared.frame.PlainStamped.{PlainStamped}
 use Rattle.packet_frame.specs.Stamped.{stamped_bytes}
-use Rattle.network_plan.specs.declared.serve.Inject.{Inject as Injection}
-use Rattle.network_plan.specs.Hosts.{dev_of}
-use Rattle.network_plan.specs.declared.event.Event.{Event}
-use Rattle.network_plan.specs.declared.event.Event.TheVariants.{Inject, Frame, Take}
-use Rattle.network_plan.specs.declared.event.LogEvent.{LogEvent}
-use Rattle.network_plan.specs.declared.event.LogEvent.TheVariants as entry
-use Rattle.network_plan.specs.declared.serve.ServeConfig.{ServeConfig}
+use Rattle.network_config.specs.declared.serve.Inject.{Inject as Injection}
+use Rattle.network_config.specs.Hosts.{dev_of}
+use Rattle.network_config.specs.declared.event.Event.{Event}
+use Rattle.network_config.specs.declared.event.Event.TheVariants.{Inject, Frame, Take}
+use Rattle.network_config.specs.declared.event.LogEvent.{LogEvent}
+use Rattle.network_config.specs.declared.event.LogEvent.TheVariants as entry
+use Rattle.network_config.specs.declared.serve.ServeConfig.{ServeConfig}
 use Rattle.service_api.specs.Services.{ServiceState}
 use Rattle.node_io.specs.FileMaps.{ChangesOnly, WritesMore}
 use Rattle.node_serve.specs.Fronts.{AppendsFront, WritesFront}
 use Rattle.node_io.specs.declared.link.Peer.{Peer}
 use Rattle.node_io.specs.declared.link.Arrival.{Arrival}
 use Rattle.node_io.specs.Links.{Heard, has_peer, next_heard}
-use Rattle.node_model.specs.declared.acts.Lane.{Lane}
-use Rattle.node_model.specs.State.{NodeState}
+use Rattle.node_core_spec.specs.declared.acts.TxQueue.{TxQueue}
+use Rattle.node_core_spec.specs.State.{NodeState}
 use Rattle.node_core.specs.declared.node.Node.{Node}
 use Rattle.node_core.specs.Stands.{NodeStands}
-use Rattle.node_parts.specs.Queued.{queued_at}
-use Rattle.serve_model.specs.Runs.{Running, acts_of, node_by, entries_at, with_entry, holding, marked_running, then_do, make, first_on, inject_one, inject_to, hear, frames_in, queued_on, come_back, take_back, loop_back, send_taken, take_send, repeat_send, flush_device, flush_to, turn, time_at, turns, peers_of}
-use Rattle.serve_model.specs.Texts.{lines_text}
-use Rattle.serve_model.specs.Follow.{entry_of}
+use Rattle.node_core_parts.specs.Queued.{queued_at}
+use Rattle.node_log.specs.Runs.{Running, acts_of, node_by, entries_at, with_entry, holding, marked_running, then_do, make, first_on, inject_one, inject_to, hear, frames_in, queued_on, come_back, take_back, loop_back, send_taken, take_send, repeat_send, flush_device, flush_to, turn, time_at, turns, peers_of}
+use Rattle.node_log.specs.Texts.{lines_text}
+use Rattle.node_log.specs.Follow.{entry_of}
 use Rattle.node_serve.specs.Sendings.{sending, sent_at, frames_of, SendsNone}
 use Rattle.node_serve.specs.Shown.{Seen, Start, run_log, Sees, Shows, Reached, Stopped, Leaves, UsedUpTo}
 use Rattle.node_io.proofs.Taking.{rest_next}
@@ -179,7 +179,7 @@ hear_stay h r e refused = ap (λ o. hear o refused r) e
 pub hear_as : (h : Option Heard) (x : Heard) (r : Running) → h ≡ Some x → (refused : List ℕ) → hear (Some x) refused r ≡ hear h refused r
 hear_as h x r e refused = ap (λ o. hear o refused r) (sym e)
 
-same_count : (o : Option Lane) → queued_at o ≡ frames_in o
+same_count : (o : Option TxQueue) → queued_at o ≡ frames_in o
 same_count None = refl
 same_count (Some lane) = refl
 

@@ -2,13 +2,13 @@
 use Rattle.std.proofs.Common.{◌≡◌, ℕ, ◌<◌, ◌^◌, List, Result, refl, sym, subst}
 use Rattle.plan_base.specs.declared.ids.Dev.{Dev}
 use Rattle.service_api.specs.declared.package.PackageName.{PackageName}
-use Rattle.network_plan.specs.declared.serve.Inject.{Inject as Injection}
-use Rattle.network_plan.specs.declared.node.NodeConfig.{NodeConfig}
+use Rattle.network_config.specs.declared.serve.Inject.{Inject as Injection}
+use Rattle.network_config.specs.declared.node.NodeConfig.{NodeConfig}
 use Rattle.plan_base.specs.declared.stamp.Version.TheVariants.{One, Two}
-use Rattle.network_plan.specs.NodeRules.{KeepsBoot, KeepsServe}
-use Rattle.network_plan.specs.declared.serve.ServeConfig.{ServeConfig}
+use Rattle.network_config.specs.NodeRules.{KeepsBoot, KeepsServe}
+use Rattle.network_config.specs.declared.serve.ServeConfig.{ServeConfig}
 use Rattle.node_io.specs.Clocks.{ClockState, Tells}
-use Rattle.node_model.specs.State.{new_node}
+use Rattle.node_core_spec.specs.State.{new_node}
 use Rattle.service_api.specs.Services.{ServiceState}
 use Rattle.node_serve.specs.declared.fault.ServeFault.{ServeFault}
 use Rattle.node_serve.specs.Desks.{Serving}

@@ -6,10 +6,10 @@ use Rattle.std.proofs.lemmas.Bool.Decides.{nat_tests}
 use Rattle.std.proofs.lemmas.List.Elements.{All-head, All-tail}
 use Rattle.plan_base.specs.declared.ids.Host.{Host}
 use Rattle.plan_base.specs.declared.ids.Dev.{Dev}
-use Rattle.network_plan.specs.declared.serve.ServeConfig.{ServeConfig}
-use Rattle.network_plan.specs.NodeRules.{IsNeighbour, KeepsServe}
+use Rattle.network_config.specs.declared.serve.ServeConfig.{ServeConfig}
+use Rattle.network_config.specs.NodeRules.{IsNeighbour, KeepsServe}
 use Rattle.node_io.specs.Links.{has_peer}
-use Rattle.serve_model.specs.Runs.{peer, peers_of}
+use Rattle.node_log.specs.Runs.{peer, peers_of}
 
 -- whether one of these is the device
 abbrev pub is_one : List Dev → Dev → Bool

@@ -5,16 +5,16 @@ use Rattle.std.proofs.lemmas.List.Elements.{All-nil, All-cons, All-append}
 use Rattle.std.proofs.lemmas.Bool.{false≢true}
 use Rattle.std.proofs.lemmas.Grind.{flat_map-append}
 use Rattle.plan_base.specs.declared.stamp.Version.{Version}
-use Rattle.network_plan.specs.declared.event.LogEvent.{LogEvent}
-use Rattle.network_plan.specs.declared.serve.ServeConfig.{ServeConfig}
+use Rattle.network_config.specs.declared.event.LogEvent.{LogEvent}
+use Rattle.network_config.specs.declared.serve.ServeConfig.{ServeConfig}
 use Rattle.plan_base.specs.declared.ids.Dev.{Dev}
 use Rattle.packet_frame.specs.declared.frame.PlainStamped.{PlainStamped}
 use Rattle.packet_frame.specs.Stamped.{stamped_bytes}
 use Rattle.node_files.specs.LogTexts.{head_text, entry_text}
 use Rattle.node_io.specs.FileMaps.{FileMap, file_at, contents, ChangesOnly, WritesMore}
-use Rattle.serve_model.specs.Runs.{Running, opened_run, acts_of, entries_at, with_entry, marked_running, holding, with_sent}
-use Rattle.serve_model.specs.Texts.{trace_line, lines_text, begun_trace}
-use Rattle.serve_model.proofs.Going.{ext_trans, ext_entry, ext_marked, ext_holding, ext_sent}
+use Rattle.node_log.specs.Runs.{Running, opened_run, acts_of, entries_at, with_entry, marked_running, holding, with_sent}
+use Rattle.node_log.specs.Texts.{trace_line, lines_text, begun_trace}
+use Rattle.node_log.proofs.Going.{ext_trans, ext_entry, ext_marked, ext_holding, ext_sent}
 use Rattle.node_serve.specs.Shown.{Seen, Start, run_log, run_trace, IsReadable, Sees, Shows}
 
 -- ---- files

@@ -1,6 +1,6 @@
 -- The opening of a serving node, and the whole of its serving.
 use Rattle.std.proofs.Common.{◌≡◌, ◌≤◌, ◌⊎◌, ◌∷◌, ◌++◌, ℕ, take, inl, inr, IsTrue, List, [], Result, Ok, Err, IsErrOf, codes, refl, sym, ap, subst, ◌∙◌, arith}
-use Rattle.network_plan.specs.declared.serve.ServeConfig.{ServeConfig}
+use Rattle.network_config.specs.declared.serve.ServeConfig.{ServeConfig}
 use Rattle.node_files.specs.LogTexts.{head_text}
 use Rattle.node_io.specs.Causes.{HasRisen}
 use Rattle.node_io.specs.Clocks.{ClockState}
@@ -9,9 +9,9 @@ use Rattle.node_io.specs.FileStates.{FilesState, OnlyWrites, BeginsWriting, Adds
 use Rattle.node_io.specs.Links.{LinkState}
 use Rattle.node_io.specs.Sinks.{SinkState, Writes, FailsIn}
 use Rattle.node_io.proofs.FileWrites.{only_same, only_both}
-use Rattle.node_model.specs.State.{NodeState}
+use Rattle.node_core_spec.specs.State.{NodeState}
 use Rattle.service_api.specs.Services.{ServiceState}
-use Rattle.serve_model.specs.Runs.{opened_run}
+use Rattle.node_log.specs.Runs.{opened_run}
 use Rattle.node_serve.specs.Stays.{StandsFor}
 use Rattle.node_serve.specs.Desks.{Desk, desk, Serving, desk_of, with_clock, start_at, OthersStay, OnlyServes, KeepsDesk, Faults}
 use Rattle.node_serve.specs.Served.{IsBound}

@@ -1,20 +1,20 @@
 -- The texts of a step.
 use Rattle.std.proofs.Common.{◌≡◌, ℕ, [], ◌∷◌, Result, Ok, Err, IfOk, sym, ◌∙◌, ap, subst}
 use Rattle.std.proofs.lemmas.Bool.{false≢true}
-use Rattle.network_plan.specs.declared.node.NodeConfig.{NodeConfig}
-use Rattle.network_plan.specs.declared.event.Event.{Event}
-use Rattle.network_plan.specs.declared.event.LogEvent.TheVariants as entry
+use Rattle.network_config.specs.declared.node.NodeConfig.{NodeConfig}
+use Rattle.network_config.specs.declared.event.Event.{Event}
+use Rattle.network_config.specs.declared.event.LogEvent.TheVariants as entry
 use Rattle.service_api.specs.Services.{ServiceState}
 use Rattle.node_files.specs.LogTexts.{entry_text}
-use Rattle.node_model.specs.declared.acts.Act.TheVariants.{NoMemory}
-use Rattle.node_model.specs.declared.acts.Acts.{Acts}
-use Rattle.node_model.specs.State.{NodeState}
-use Rattle.node_model.specs.Node.{node_step}
+use Rattle.node_core_spec.specs.declared.acts.Act.TheVariants.{NoMemory}
+use Rattle.node_core_spec.specs.declared.acts.Acts.{Acts}
+use Rattle.node_core_spec.specs.State.{NodeState}
+use Rattle.node_core_spec.specs.Node.{node_step}
 use Rattle.node_core.specs.declared.node.Node.{Node}
 use Rattle.node_core.specs.Stands.{NodeStands, IsStep}
-use Rattle.serve_model.specs.Runs.{acts_of, node_by, entries_at}
-use Rattle.serve_model.specs.Texts.{lines_text}
-use Rattle.serve_model.specs.Follow.{entry_of}
+use Rattle.node_log.specs.Runs.{acts_of, node_by, entries_at}
+use Rattle.node_log.specs.Texts.{lines_text}
+use Rattle.node_log.specs.Follow.{entry_of}
 use Rattle.node_serve.specs.declared.steps.StepOutcome.TheVariants.{Lost, Took}
 use Rattle.node_serve.specs.declared.steps.StepTexts.{StepTexts}
 use Rattle.node_serve.specs.Shown.{IsReadable}

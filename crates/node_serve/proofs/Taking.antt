@@ -3,16 +3,16 @@ use Rattle.std.proofs.Common.{◌≡◌, ◌<◌, ◌++◌, ◌∷◌, [], true,
 use Rattle.plan_base.specs.declared.ids.Dev.{Dev}
 use Rattle.packet_frame.specs.declared.frame.PlainStamped.{PlainStamped}
 use Rattle.packet_frame.specs.Stamped.{stamped_bytes}
-use Rattle.network_plan.specs.Hosts.{dev_of}
-use Rattle.network_plan.specs.declared.event.Event.TheVariants.{Take}
-use Rattle.network_plan.specs.declared.event.LogEvent.TheVariants.{Step}
-use Rattle.network_plan.specs.declared.serve.ServeConfig.{ServeConfig}
+use Rattle.network_config.specs.Hosts.{dev_of}
+use Rattle.network_config.specs.declared.event.Event.TheVariants.{Take}
+use Rattle.network_config.specs.declared.event.LogEvent.TheVariants.{Step}
+use Rattle.network_config.specs.declared.serve.ServeConfig.{ServeConfig}
 use Rattle.service_api.specs.Services.{ServiceState}
 use Rattle.node_io.specs.FileStates.{FilesState}
 use Rattle.node_io.specs.Links.{LinkState, Sends}
 use Rattle.node_io.specs.Sinks.{SinkState}
 use Rattle.node_io.proofs.FileWrites.{only_same}
-use Rattle.serve_model.specs.Runs.{with_entry, come_back, take_back, take_send}
+use Rattle.node_log.specs.Runs.{with_entry, come_back, take_back, take_send}
 use Rattle.node_serve.specs.Stays.{StandsFor}
 use Rattle.node_serve.specs.Sendings.{sending}
 use Rattle.node_serve.specs.Steps.{SendResult, SendsTaken}

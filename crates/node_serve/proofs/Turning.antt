@@ -1,6 +1,6 @@
 -- Turns: what is heard in them, and how they follow one another.
 use Rattle.std.proofs.Common.{◌≡◌, ℕ, ◌+◌, ◌<◌, inr, false, IsTrue, List, Option, Some, None, Result, Ok, Err, drop, refl, sym, subst, ◌∙◌, arith}
-use Rattle.network_plan.specs.declared.serve.ServeConfig.{ServeConfig}
+use Rattle.network_config.specs.declared.serve.ServeConfig.{ServeConfig}
 use Rattle.service_api.specs.Services.{ServiceState}
 use Rattle.node_io.specs.Causes.{HasRisen}
 use Rattle.node_io.specs.FileStates.{FilesState}
@@ -8,8 +8,8 @@ use Rattle.node_io.specs.Links.{Heard, LinkState, Hears, next_heard}
 use Rattle.node_io.specs.declared.link.Got.{Got}
 use Rattle.node_io.specs.Sinks.{SinkState}
 use Rattle.node_io.proofs.FileWrites.{only_same}
-use Rattle.serve_model.specs.Runs.{Running, Action, hear, turn, turns, time_at, peers_of, release, then_do, holding}
-use Rattle.serve_model.proofs.Going.{hear_grows}
+use Rattle.node_log.specs.Runs.{Running, Action, hear, turn, turns, time_at, peers_of, release, then_do, holding}
+use Rattle.node_log.proofs.Going.{hear_grows}
 use Rattle.node_serve.specs.Shown.{Start, Shows, UsesOne}
 use Rattle.node_serve.specs.Stays.{StandsFor}
 use Rattle.node_serve.specs.Desks.{Desk, desk, Serving, desk_of, seen_at, KeepsDesk}

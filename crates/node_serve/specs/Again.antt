@@ -1,12 +1,12 @@
 -- A log that is read again.
 use Rattle.std.specs.Prelude.{◌≡◌, ℕ, List, ◌++◌, Some, Ok}
-use Rattle.network_plan.specs.declared.node.Log.{Log}
-use Rattle.network_plan.specs.declared.serve.ServeConfig.{ServeConfig}
+use Rattle.network_config.specs.declared.node.Log.{Log}
+use Rattle.network_config.specs.declared.serve.ServeConfig.{ServeConfig}
 use Rattle.node_files.specs.Logs.{log_of}
 use Rattle.node_io.specs.FileMaps.{file_at}
-use Rattle.node_model.specs.State.{NodeState}
-use Rattle.serve_model.specs.Runs.{played_entries}
-use Rattle.serve_model.specs.Texts.{whole_trace}
+use Rattle.node_core_spec.specs.State.{NodeState}
+use Rattle.node_log.specs.Runs.{played_entries}
+use Rattle.node_log.specs.Texts.{whole_trace}
 use Rattle.node_serve.specs.Desks.{Serving}
 
 -- the log reads as that of a node that began so, and the trace of its entries is what was written

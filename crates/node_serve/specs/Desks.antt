@@ -6,7 +6,7 @@ use Rattle.node_io.specs.FileMaps.{file_at}
 use Rattle.node_io.specs.FileStates.{FilesState, OnlyWrites}
 use Rattle.node_io.specs.Links.{LinkState}
 use Rattle.node_io.specs.Sinks.{SinkState}
-use Rattle.node_model.specs.State.{NodeState}
+use Rattle.node_core_spec.specs.State.{NodeState}
 use Rattle.node_serve.specs.Shown.{Seen, Start}
 use Rattle.node_serve.specs.declared.fault.ServeFault.{ServeFault}
 use Rattle.node_serve.specs.declared.fault.ServeFault.TheVariants.{LinkFault, WriteFault, NoMemory}

@@ -1,13 +1,13 @@
 -- How each call of a serving node goes on from a run.
 use Rattle.std.specs.Prelude.{◌≡◌, ℕ, ◌≤◌, ◌<◌, IsTrue, List, length, Result, MatchResult}
 use Rattle.plan_base.specs.declared.ids.Dev.{Dev}
-use Rattle.network_plan.specs.declared.serve.ServeConfig.{ServeConfig}
-use Rattle.network_plan.specs.declared.event.Event.{Event}
-use Rattle.network_plan.specs.NodeRules.{KeepsServe}
+use Rattle.network_config.specs.declared.serve.ServeConfig.{ServeConfig}
+use Rattle.network_config.specs.declared.event.Event.{Event}
+use Rattle.network_config.specs.NodeRules.{KeepsServe}
 use Rattle.node_io.specs.Clocks.{Tells}
 use Rattle.node_io.specs.Links.{HasPeer, next_heard}
 use Rattle.service_api.specs.Services.{ServiceState}
-use Rattle.serve_model.specs.Runs.{Running, Action, make, hear, turn, turns, peers_of}
+use Rattle.node_log.specs.Runs.{Running, Action, make, hear, turn, turns, peers_of}
 use Rattle.node_serve.specs.Shown.{Start, Shows, Stopped, Leaves, UsesOne, UsesUpTo}
 use Rattle.node_serve.specs.Stays.{StandsFor, Makes}
 use Rattle.node_serve.specs.Desks.{Desk, Serving, desk_of, seen_at, IsSeen, KeepsDesk, Faults}

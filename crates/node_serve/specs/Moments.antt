@@ -3,11 +3,11 @@ use Rattle.std.specs.Prelude.{◌≡◌, ℕ, Bool, true, false, Option, Some, N
 use Rattle.plan_base.specs.declared.name.Name.{Name}
 use Rattle.plan_base.specs.declared.stamp.Version.{Version}
 use Rattle.plan_base.specs.declared.stamp.Version.TheVariants.{One, Two}
-use Rattle.network_plan.specs.declared.serve.ServeConfig.{ServeConfig}
-use Rattle.network_plan.specs.NodeRules.{KeepsServe}
+use Rattle.network_config.specs.declared.serve.ServeConfig.{ServeConfig}
+use Rattle.network_config.specs.NodeRules.{KeepsServe}
 use Rattle.service_api.specs.Services.{ServiceState}
 use Rattle.node_io.specs.Clocks.{ClockState, Tells}
-use Rattle.node_model.specs.State.{new_node}
+use Rattle.node_core_spec.specs.State.{new_node}
 use Rattle.node_serve.specs.declared.fault.ServeFault.{ServeFault}
 use Rattle.node_serve.specs.Desks.{Serving}
 use Rattle.node_serve.specs.Serves.{Serves}

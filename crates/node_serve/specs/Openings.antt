@@ -1,12 +1,12 @@
 -- The opening of a serving node: the link is bound, and then the log and the trace are begun.
 use Rattle.std.specs.Prelude.{◌≡◌, ◌≤◌, IsTrue, true, [], ◌∷◌, ◌++◌, Result, Ok, Err, MatchResult, OnOk}
-use Rattle.network_plan.specs.declared.serve.ServeConfig.{ServeConfig}
+use Rattle.network_config.specs.declared.serve.ServeConfig.{ServeConfig}
 use Rattle.node_files.specs.LogTexts.{head_text}
 use Rattle.node_io.specs.Causes.{HasRisen}
 use Rattle.node_io.specs.FileMaps.{ChangesOnly, SavesFront, MayName}
 use Rattle.node_io.specs.FileStates.{FilesState, OnlyWrites}
 use Rattle.node_io.specs.Links.{LinkState}
-use Rattle.serve_model.specs.Runs.{peers_of}
+use Rattle.node_log.specs.Runs.{peers_of}
 use Rattle.node_serve.specs.Desks.{Desk, IsSeen, OthersStay, OnlyServes, Faults}
 use Rattle.node_serve.specs.Served.{IsBound, MayBind, Begins, EndsEarly}
 use Rattle.node_serve.specs.declared.fault.ServeFault.{ServeFault}

@@ -3,13 +3,13 @@ use Rattle.std.specs.Prelude.{◌≡◌, ◌==◌, if◌then◌else◌, List, []
 use Rattle.plan_base.specs.declared.ids.Dev.{Dev}
 use Rattle.packet_frame.specs.declared.frame.PlainStamped.{PlainStamped}
 use Rattle.packet_frame.specs.Stamped.{stamped_bytes}
-use Rattle.network_plan.specs.declared.event.Event.{Event}
-use Rattle.network_plan.specs.declared.event.Event.TheVariants.{Take}
-use Rattle.network_plan.specs.declared.event.LogEvent.{LogEvent}
-use Rattle.network_plan.specs.declared.event.LogEvent.TheVariants.{Step}
+use Rattle.network_config.specs.declared.event.Event.{Event}
+use Rattle.network_config.specs.declared.event.Event.TheVariants.{Take}
+use Rattle.network_config.specs.declared.event.LogEvent.{LogEvent}
+use Rattle.network_config.specs.declared.event.LogEvent.TheVariants.{Step}
 use Rattle.node_io.specs.Links.{Heard}
-use Rattle.node_model.specs.State.{NodeState}
-use Rattle.serve_model.specs.Runs.{node_by, first_on}
+use Rattle.node_core_spec.specs.State.{NodeState}
+use Rattle.node_log.specs.Runs.{node_by, first_on}
 
 -- a frame that was taken is sent, where there is one
 abbrev pub sending : Dev → Option PlainStamped → List Heard

@@ -1,14 +1,14 @@
 -- What a serving node has done when it ends, where all that it is handed is observable.
 use Rattle.std.specs.Prelude.{◌≡◌, ℕ, ◌⊎◌, List, [], ◌∷◌, ◌++◌, take, drop, codes, Result, MatchResult}
 use Rattle.std.specs.List.{All}
-use Rattle.network_plan.specs.declared.serve.ServeConfig.{ServeConfig}
+use Rattle.network_config.specs.declared.serve.ServeConfig.{ServeConfig}
 use Rattle.node_files.specs.LogTexts.{head_text}
 use Rattle.node_io.specs.Links.{Heard, Bind, LinkState}
 use Rattle.node_io.specs.FileMaps.{ChangesOnly, SavesFront}
-use Rattle.node_model.specs.State.{NodeState}
-use Rattle.serve_model.specs.Runs.{Running, opened_run, peers_of, node_run}
-use Rattle.serve_model.specs.Texts.{whole_trace}
-use Rattle.serve_model.specs.Follow.{lost_places}
+use Rattle.node_core_spec.specs.State.{NodeState}
+use Rattle.node_log.specs.Runs.{Running, opened_run, peers_of, node_run}
+use Rattle.node_log.specs.Texts.{whole_trace}
+use Rattle.node_log.specs.Follow.{lost_places}
 use Rattle.node_serve.specs.Fronts.{AppendsFront}
 use Rattle.node_serve.specs.Shown.{run_log, IsReadable, Shows, HasLogged, Agrees, UsedUpTo}
 use Rattle.node_serve.specs.Desks.{Desk, Serving, desk_of, seen_at, start_at}

@@ -1,10 +1,10 @@
 -- What a serving node did, whatever of it is observable.
 use Rattle.std.specs.Prelude.{ℕ, ◌≤◌, IsTrue, Result}
-use Rattle.network_plan.specs.declared.serve.ServeConfig.{ServeConfig}
-use Rattle.node_model.specs.State.{NodeState}
+use Rattle.network_config.specs.declared.serve.ServeConfig.{ServeConfig}
+use Rattle.node_core_spec.specs.State.{NodeState}
 use Rattle.node_io.specs.FileStates.{OnlyWrites}
 use Rattle.service_api.specs.Services.{ServiceState}
-use Rattle.serve_model.specs.Runs.{opened_run}
+use Rattle.node_log.specs.Runs.{opened_run}
 use Rattle.node_serve.specs.Stays.{StandsFor}
 use Rattle.node_serve.specs.Desks.{Desk, Serving, desk_of, with_clock, IsSeen, OthersStay, KeepsDesk, Faults}
 use Rattle.node_serve.specs.Served.{Begins, Ends}

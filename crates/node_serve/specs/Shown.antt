@@ -2,17 +2,17 @@
 use Rattle.std.specs.Prelude.{◌≡◌, ℕ, ◌≤◌, ◌+◌, ◌⊎◌, List, ◌++◌, length, take, drop, Some, Result, MatchResult}
 use Rattle.std.specs.List.{All}
 use Rattle.plan_base.specs.declared.stamp.Version.{Version}
-use Rattle.network_plan.specs.declared.serve.ServeConfig.{ServeConfig}
-use Rattle.network_plan.specs.declared.event.LogEvent.{LogEvent}
-use Rattle.network_plan.specs.NodeRules.{KeepsEntry}
+use Rattle.network_config.specs.declared.serve.ServeConfig.{ServeConfig}
+use Rattle.network_config.specs.declared.event.LogEvent.{LogEvent}
+use Rattle.network_config.specs.NodeRules.{KeepsEntry}
 use Rattle.node_files.specs.LogTexts.{log_text, IsSpellable}
 use Rattle.node_io.specs.FileMaps.{FileMap, file_at, ChangesOnly}
 use Rattle.node_serve.specs.Fronts.{AppendsFront}
 use Rattle.node_io.specs.Links.{Heard}
-use Rattle.node_model.specs.State.{NodeState}
-use Rattle.serve_model.specs.Runs.{Running, Action, opened_run, played_entries}
-use Rattle.serve_model.specs.Texts.{begun_trace, whole_trace}
-use Rattle.serve_model.specs.Follow.{Ext, Fits}
+use Rattle.node_core_spec.specs.State.{NodeState}
+use Rattle.node_log.specs.Runs.{Running, Action, opened_run, played_entries}
+use Rattle.node_log.specs.Texts.{begun_trace, whole_trace}
+use Rattle.node_log.specs.Follow.{Ext, Fits}
 use Rattle.node_serve.specs.Sendings.{frames_of}
 
 -- the files, the name of the file being written, the bytes that the output took, and the frames sent

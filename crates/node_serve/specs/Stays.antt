@@ -1,12 +1,12 @@
 -- Which run a serving node has made so far.
 use Rattle.std.specs.Prelude.{◌≡◌, false, length}
-use Rattle.network_plan.specs.declared.event.Event.{Event}
-use Rattle.network_plan.specs.declared.serve.ServeConfig.{ServeConfig}
+use Rattle.network_config.specs.declared.event.Event.{Event}
+use Rattle.network_config.specs.declared.serve.ServeConfig.{ServeConfig}
 use Rattle.service_api.specs.Services.{ServiceState}
-use Rattle.node_model.specs.Node.{node_step}
+use Rattle.node_core_spec.specs.Node.{node_step}
 use Rattle.node_core.specs.Stands.{NodeStands}
-use Rattle.serve_model.specs.Runs.{Running, with_entry}
-use Rattle.serve_model.specs.Follow.{entry_of}
+use Rattle.node_log.specs.Runs.{Running, with_entry}
+use Rattle.node_log.specs.Follow.{entry_of}
 use Rattle.node_serve.specs.Shown.{Seen, Start, Sees}
 use Rattle.node_serve.specs.declared.server.Server.{Server}
 use Rattle.node_serve.specs.declared.steps.StepOutcome.{StepOutcome}

@@ -9,21 +9,21 @@ use Rattle.node_io.specs.Sinks.{SinkState, Writes, FailsIn}
 use Rattle.node_io.specs.FileStates.{FilesState, Adds, FailsAdding}
 use Rattle.node_io.specs.Links.{LinkState}
 use Rattle.packet_frame.specs.declared.frame.PlainStamped.{PlainStamped}
-use Rattle.network_plan.specs.declared.node.NodeConfig.{NodeConfig}
-use Rattle.network_plan.specs.declared.event.Event.{Event}
-use Rattle.network_plan.specs.declared.event.LogEvent.TheVariants.{Step}
-use Rattle.network_plan.specs.NodeRules.{KeepsNodeEvent}
+use Rattle.network_config.specs.declared.node.NodeConfig.{NodeConfig}
+use Rattle.network_config.specs.declared.event.Event.{Event}
+use Rattle.network_config.specs.declared.event.LogEvent.TheVariants.{Step}
+use Rattle.network_config.specs.NodeRules.{KeepsNodeEvent}
 use Rattle.service_api.specs.Services.{ServiceState}
 use Rattle.node_files.specs.LogTexts.{entry_text}
-use Rattle.node_model.specs.declared.acts.Acts.{Acts}
-use Rattle.node_model.specs.Fits.{comes_within}
-use Rattle.node_model.specs.State.{NodeState}
-use Rattle.node_model.specs.Node.{node_step}
+use Rattle.node_core_spec.specs.declared.acts.Acts.{Acts}
+use Rattle.node_core_spec.specs.Fits.{comes_within}
+use Rattle.node_core_spec.specs.State.{NodeState}
+use Rattle.node_core_spec.specs.Node.{node_step}
 use Rattle.node_core.specs.declared.node.Node.{Node}
 use Rattle.node_core.specs.Stands.{NodeStands}
-use Rattle.serve_model.specs.Runs.{acts_of, node_by, entries_at}
-use Rattle.serve_model.specs.Follow.{entry_of}
-use Rattle.serve_model.specs.Texts.{lines_text}
+use Rattle.node_log.specs.Runs.{acts_of, node_by, entries_at}
+use Rattle.node_log.specs.Follow.{entry_of}
+use Rattle.node_log.specs.Texts.{lines_text}
 use Rattle.node_serve.specs.Sendings.{sending}
 use Rattle.node_serve.specs.Shown.{IsReadable}
 use Rattle.node_serve.specs.declared.fault.ServeFault.{ServeFault}

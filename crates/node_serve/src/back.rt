@@ -1,27 +1,27 @@
 ghost use Rattle.plan_base.specs.declared.stamp.Version.{Version};
 ghost use Rattle.std.specs.Prelude.{◌≡◌, IsTrue};
-ghost use Rattle.network_plan.specs.NodeRules.{KeepsNodeEvent};
-ghost use Rattle.network_plan.specs.Hosts.{dev_of};
-ghost use Rattle.network_plan.specs.declared.event.Event.TheVariants as event;
+ghost use Rattle.network_config.specs.NodeRules.{KeepsNodeEvent};
+ghost use Rattle.network_config.specs.Hosts.{dev_of};
+ghost use Rattle.network_config.specs.declared.event.Event.TheVariants as event;
 ghost use Rattle.packet_frame.specs.Stamped.{stamped_bytes};
 ghost use Rattle.node_io.specs.Links.{LinkState};
-ghost use Rattle.serve_model.specs.Runs as spec;
+ghost use Rattle.node_log.specs.Runs as spec;
 ghost use Rattle.node_serve.specs.Desks.{desk};
 ghost use Rattle.node_serve.specs.Goes.{Goes};
 
 use crate::fault::ServeFault;
 use crate::server::Server;
 use crate::steps::StepOutcome;
-use network_plan::{Event, ServeConfig};
+use network_config::{Event, ServeConfig};
+use node_core_parts::are_bytes;
 use node_io::{Files, Sink};
-use node_parts::are_bytes;
+use packet_frame::EncodedFrame;
 use plan_base::Dev;
 use service_api::Services;
-use spelled_frame::SpelledFrame;
 use std::alloc::Global;
 
 /// The event of a frame that the node sent to itself.
-fn event_of_frame(frame: SpelledFrame) -> Event
+fn event_of_frame(frame: EncodedFrame) -> Event
     ensures event { result ≡ event.Frame (dev_of 0) (stamped_bytes frame) }
     ensures keeps { (v : Version) → KeepsNodeEvent v result }
 {
@@ -38,7 +38,7 @@ impl<S: Services> Server<S> {
         cfg: &ServeConfig,
         files: &mut F,
         out: &mut K,
-        frame: Option<SpelledFrame>,
+        frame: Option<EncodedFrame>,
     ) -> Result<(), ServeFault>
         requires { IsTrue (F.state files.old).writing }
         ensures { (l : LinkState) → Goes S.stands cfg.now (spec.come_back frame) self.old self.new

@@ -1,7 +1,7 @@
 ghost use Rattle.std.specs.Prelude.{◌≡◌, ◌==◌};
 ghost use Rattle.std.specs.List.{list_any};
 ghost use Rattle.node_io.specs.Links.{has_peer, HasPeer};
-ghost use Rattle.serve_model.specs.Runs as spec;
+ghost use Rattle.node_log.specs.Runs as spec;
 ghost use Rattle.node_serve.specs.Desks.{desk};
 ghost use Rattle.node_serve.specs.Goes.{IsServing, IsOutward, IsToPeer, GoesUnheard};
 ghost use Rattle.node_serve.specs.Steps.{SendsTaken};
@@ -9,18 +9,18 @@ ghost use Rattle.node_serve.specs.Steps.{SendsTaken};
 use crate::fault::ServeFault;
 use crate::server::Server;
 use crate::steps::StepOutcome;
-use network_plan::ServeConfig;
+use network_config::ServeConfig;
 use node_io::{Files, Link, Sink};
+use packet_frame::EncodedFrame;
 use plan_base::Dev;
 use service_api::Services;
-use spelled_frame::SpelledFrame;
 use std::alloc::Global;
 
 /// Sends a frame that was taken, where there is one. Condition: the device is among the peers.
 fn send_frame<L: Link>(
     link: &mut L,
     dev: Dev,
-    frame: &Option<SpelledFrame>,
+    frame: &Option<EncodedFrame>,
 ) -> Result<(), ServeFault>
     requires { HasPeer (L.state link.old).bound dev }
     ensures { SendsTaken dev frame.now (L.state link.old) (L.state link.new) result }

@@ -1,15 +1,15 @@
 ghost use Rattle.plan_base.specs.declared.stamp.Version.{Version};
 ghost use Rattle.std.specs.Prelude.{◌≡◌, Some, IsTrue, IfSome};
-ghost use Rattle.network_plan.specs.NodeRules.{KeepsNodeEvent};
+ghost use Rattle.network_config.specs.NodeRules.{KeepsNodeEvent};
 ghost use Rattle.node_io.specs.Links.{LinkState};
-ghost use Rattle.serve_model.specs.Runs as spec;
+ghost use Rattle.node_log.specs.Runs as spec;
 ghost use Rattle.node_serve.specs.Desks.{desk};
 ghost use Rattle.node_serve.specs.Goes.{CanTurn, Goes, GoesHearing};
 ghost use Rattle.node_serve.specs.Steps.{HeardFits};
 
 use crate::fault::ServeFault;
 use crate::server::Server;
-use network_plan::{Event, ServeConfig};
+use network_config::{Event, ServeConfig};
 use node_io::{Files, Got, Link, Sink};
 use plan_base::{Bytes, Dev};
 use service_api::Services;

@@ -1,12 +1,12 @@
 //! What follows from the record of a node's serving.
 ghost use Rattle.std.specs.Prelude.{◌≡◌, ◌≤◌, ◌⊎◌, ℕ, IsTrue, IsErrOf, List, Result, length};
-ghost use Rattle.network_plan.specs.NodeRules.{KeepsServe};
-ghost use Rattle.network_plan.specs.declared.serve.ServeConfig.{ServeConfig};
+ghost use Rattle.network_config.specs.NodeRules.{KeepsServe};
+ghost use Rattle.network_config.specs.declared.serve.ServeConfig.{ServeConfig};
 ghost use Rattle.node_io.specs.Causes.{HasRisen};
 ghost use Rattle.node_io.specs.FileMaps.{Names};
 ghost use Rattle.node_io.specs.declared.link.Arrival.{Arrival};
-ghost use Rattle.node_model.specs.State.{NodeState};
-ghost use Rattle.serve_model.specs.Runs.{node_run};
+ghost use Rattle.node_core_spec.specs.State.{NodeState};
+ghost use Rattle.node_log.specs.Runs.{node_run};
 ghost use Rattle.node_serve.specs.Again.{ReadsAgain};
 ghost use Rattle.node_serve.specs.Desks.{Serving};
 ghost use Rattle.node_serve.specs.Sendings.{frames_of};

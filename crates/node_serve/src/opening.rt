@@ -1,13 +1,13 @@
 ghost use Rattle.std.specs.Prelude.{◌≡◌, ◌∷◌, map, IfOk, length};
-ghost use Rattle.network_plan.specs.NodeRules.{KeepsServe};
-ghost use Rattle.network_plan.specs.Hosts.{dev_of};
+ghost use Rattle.network_config.specs.NodeRules.{KeepsServe};
+ghost use Rattle.network_config.specs.Hosts.{dev_of};
 ghost use Rattle.node_files.specs.LogTexts.{head_text};
-ghost use Rattle.serve_model.specs.Runs.{peer, peers_of};
+ghost use Rattle.node_log.specs.Runs.{peer, peers_of};
 ghost use Rattle.node_serve.specs.Desks.{desk};
 ghost use Rattle.node_serve.specs.Openings.{BindsNode, BeginsLog, Opens};
 
 use crate::fault::ServeFault;
-use network_plan::ServeConfig;
+use network_config::ServeConfig;
 use node_files::put_log_head;
 use node_io::{Files, Link, MOST_RECEIVED, Peer, Peers, Sink, put_all, put_file};
 use plan_base::{Bytes, Dev, NoMemory};
@@ -40,7 +40,7 @@ pub(crate) fn room(alloc: Global) -> Result<Vec<u8>, NoMemory>
 }
 
 /// Binds the link at the node's own port, with its peers.
-#[tactic(auto, unfolding(serve_model::specs::Runs::peers_of))]
+#[tactic(auto, unfolding(node_log::specs::Runs::peers_of))]
 fn bind<L: Link>(alloc: Global, cfg: &ServeConfig, link: &mut L) -> Result<(), ServeFault>
     ensures { BindsNode cfg.now (L.state link.old) (L.state link.new) result }
 {

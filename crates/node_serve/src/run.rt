@@ -4,7 +4,7 @@ ghost use Rattle.node_serve.specs.Goes.{CanTurn, GoesTurn, GoesTurns};
 
 use crate::fault::ServeFault;
 use crate::server::Server;
-use network_plan::ServeConfig;
+use network_config::ServeConfig;
 use node_io::{Clock, Files, Link, Sink};
 use service_api::Services;
 use std::alloc::Global;

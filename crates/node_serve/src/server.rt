@@ -1,9 +1,9 @@
 ghost use Rattle.std.specs.Prelude.{◌≡◌, ◌+◌, ◌≤◌, IsTrue, IfSome, IfOk};
-ghost use Rattle.network_plan.specs.declared.event.Event.{Event as EventOf};
-ghost use Rattle.network_plan.specs.declared.event.Event.TheVariants as event;
+ghost use Rattle.network_config.specs.declared.event.Event.{Event as EventOf};
+ghost use Rattle.network_config.specs.declared.event.Event.TheVariants as event;
 ghost use Rattle.node_core.specs.Stands.{version_of};
 ghost use Rattle.node_io.specs.Links.{LinkState};
-ghost use Rattle.serve_model.specs.Runs as spec;
+ghost use Rattle.node_log.specs.Runs as spec;
 ghost use Rattle.node_serve.specs.Desks.{desk};
 ghost use Rattle.node_serve.specs.Goes.{Goes, MakesStep};
 ghost use Rattle.node_serve.specs.Sendings.{SendsNone};
@@ -11,7 +11,7 @@ ghost use Rattle.node_serve.specs.Steps.{MayCome, WritesStep};
 
 use crate::fault::ServeFault;
 use crate::steps::{StepOutcome, try_step};
-use network_plan::{Event, ServeConfig};
+use network_config::{Event, ServeConfig};
 use node_core::Node;
 use node_io::{Failed, Files, Sink, put_all, put_file};
 use plan_base::{Dev, NoMemory};

@@ -1,27 +1,27 @@
 ghost use Rattle.plan_base.specs.declared.stamp.Version.{Version};
 ghost use Rattle.std.specs.Prelude.{◌≡◌, ◌∷◌, [], IfOk, IfSome, OnOk};
-ghost use Rattle.network_plan.specs.declared.event.Event.{Event as EventOf};
-ghost use Rattle.network_plan.specs.NodeRules.{KeepsNodeEvent};
-ghost use Rattle.node_model.specs.State.{NodeState};
-ghost use Rattle.node_model.specs.declared.acts.Act.TheVariants as act;
+ghost use Rattle.network_config.specs.declared.event.Event.{Event as EventOf};
+ghost use Rattle.network_config.specs.NodeRules.{KeepsNodeEvent};
+ghost use Rattle.node_core_spec.specs.State.{NodeState};
+ghost use Rattle.node_core_spec.specs.declared.acts.Act.TheVariants as act;
 ghost use Rattle.node_core.specs.Stands.{version_of, NodeStands};
-ghost use Rattle.node_model.specs.Fits.{comes_within};
-ghost use Rattle.network_plan.specs.declared.event.LogEvent.TheVariants as entry;
+ghost use Rattle.node_core_spec.specs.Fits.{comes_within};
+ghost use Rattle.network_config.specs.declared.event.LogEvent.TheVariants as entry;
 ghost use Rattle.node_files.specs.LogTexts.{entry_text};
-ghost use Rattle.serve_model.specs.Runs.{entries_at};
-ghost use Rattle.serve_model.specs.Texts.{lines_text};
+ghost use Rattle.node_log.specs.Runs.{entries_at};
+ghost use Rattle.node_log.specs.Texts.{lines_text};
 ghost use Rattle.node_serve.specs.Shown.{IsReadable};
 ghost use Rattle.node_serve.specs.Steps.{TookTexts, Written};
 ghost use Rattle.node_serve.specs.declared.steps.StepOutcome.TheVariants as stepped;
 
-use log_replay::{lost_lines, step_lines};
-use network_plan::{Event, NodeConfig};
+use network_config::{Event, NodeConfig};
 use node_core::Node;
+use node_core_spec::{Act, Acts};
 use node_files::{put_log_line, put_lost_line};
-use node_model::{Act, Acts};
+use node_log::{lost_lines, step_lines};
+use packet_frame::EncodedFrame;
 use plan_base::{Bytes, Host, NoMemory};
 use service_api::Services;
-use spelled_frame::SpelledFrame;
 use std::alloc::Global;
 
 /// What became of a step.
@@ -30,7 +30,7 @@ pub(crate) enum StepOutcome {
     /// It found no memory, and nothing changed.
     Lost,
     /// It was made, and took this frame.
-    Took(Option<SpelledFrame>),
+    Took(Option<EncodedFrame>),
 }
 
 /// A step with its texts: its line of the log, and its lines of the trace.

@@ -1,20 +1,20 @@
 ghost use Rattle.plan_base.specs.declared.stamp.Version.{Version as VersionOf};
 ghost use Rattle.std.specs.Prelude.{◌≡◌, ◌+◌, Some, IsTrue, IfSome, length, nat_le};
-ghost use Rattle.network_plan.specs.NodeRules.{KeepsNodeEvent, KeepsServe, KeepsInject};
-ghost use Rattle.network_plan.specs.declared.event.Event.TheVariants as event;
+ghost use Rattle.network_config.specs.NodeRules.{KeepsNodeEvent, KeepsServe, KeepsInject};
+ghost use Rattle.network_config.specs.declared.event.Event.TheVariants as event;
 ghost use Rattle.node_io.specs.Links.{LinkState};
-ghost use Rattle.serve_model.specs.Runs as spec;
+ghost use Rattle.node_log.specs.Runs as spec;
 ghost use Rattle.node_serve.specs.Desks.{desk};
-ghost use Rattle.node_model.specs.Fits.{comes_within};
+ghost use Rattle.node_core_spec.specs.Fits.{comes_within};
 ghost use Rattle.node_serve.specs.Goes.{Goes};
 ghost use Rattle.node_serve.specs.Moments.{takes_handler};
 
 use crate::fault::ServeFault;
 use crate::server::Server;
-use plan_base::{Name, Version};
-use network_plan::{Event, Inject, ServeConfig};
+use network_config::{Event, Inject, ServeConfig};
 use node_io::{Files, Sink};
-use plan_copies::copy_handler;
+use plan_base::{Name, Version};
+use plan_base_copy::copy_handler;
 use service_api::Services;
 use std::alloc::Global;
 

@@ -3,17 +3,17 @@ use Rattle.std.specs.Prelude.{IfOk, IfErr, MatchResult}
 use Rattle.plan_base.specs.Sizes.{chunk_weight}
 use Rattle.plan_base.specs.WellFormed.{IsWellFormedChunk, ChunkHasTypes}
 use Rattle.plan_base.specs.declared.tree.Chunk.{Chunk}
-use Rattle.chunk_spelling.specs.Spelling.{a_whole_chunk}
-use Rattle.chunk_spelling.proofs.SpelledForms.{chunk_is_well}
+use Rattle.chunk_codec_spec.specs.Spelling.{a_whole_chunk}
+use Rattle.chunk_codec_spec.proofs.SpelledForms.{chunk_is_well}
 use Rattle.plan_base.specs.declared.tree.Packet.{Packet}
 use Rattle.packet_frame.specs.declared.fault.FrameFault.{FrameFault}
 use Rattle.packet_frame.specs.declared.frame.PlainFrame.{PlainFrame}
 use Rattle.packet_frame.specs.declared.checked.Frame.{Frame}
 use Rattle.plan_base.specs.declared.name.Name.{Name}
-use Rattle.typing_rules.specs.Handlers.{MayHandle}
+use Rattle.plan_types_spec.specs.Handlers.{MayHandle}
 use Rattle.packet_frame.specs.Forms.{IsPlain}
 use Rattle.packet_frame.specs.Frames.{SpellsFrame, SpellingFault}
-use Rattle.packet_frame.specs.Typed.{plain_of, CarriesTyped, CarriesHandler, CarriesNoHandler, Accepts, CarriesIll, FrameFirst, misspelled, ill_typed}
+use Rattle.packet_frame.specs.Typed.{CarriesTyped, CarriesHandler, CarriesNoHandler, CarriesIll, FrameFirst, misspelled, ill_typed}
 use Rattle.packet_frame.specs.declared.frame.PlainStamped.{PlainStamped}
 use Rattle.packet_frame.specs.declared.checked.Stamped.{Stamped}
 use Rattle.packet_frame.specs.Stamped.{SpellsStamped, StampedFault, AcceptsBy, StampedFirst, spells_none, stamped_plain}

@@ -1,18 +1,18 @@
 use Rattle.std.proofs.Common.{◌≡◌, ◌⊎◌, inl, inr, ℕ, List, [], ◌∷◌, Result, Ok, Err, refl, sym, ◌∙◌, ap, subst}
 use Rattle.wire_bytes.specs.Fields.{Front}
-use Rattle.plan_items.proofs.Agendas.{goes_ok, no_fault}
+use Rattle.containers.proofs.Agendas.{goes_ok, no_fault}
 use Rattle.plan_base.specs.declared.tree.Chunk.{Chunk}
-use Rattle.chunk_spelling.specs.declared.fault.SpellFault.{SpellFault}
-use Rattle.chunk_spelling.specs.Items.{a_name, a_chunk}
-use Rattle.chunk_spelling.specs.Scan.{Scan}
-use Rattle.chunk_spelling.specs.Parts.{Part}
-use Rattle.chunk_spelling.specs.Fields.{name_part}
-use Rattle.chunk_spelling.specs.Steps.{step}
-use Rattle.chunk_spelling.specs.Spelling.{SpelledAt, FirstFaultAt, a_whole_chunk, from_front}
-use Rattle.chunk_spelling.proofs.PartLaws.{Lawful}
-use Rattle.chunk_spelling.proofs.LeafLaws.{name_lawful}
-use Rattle.chunk_spelling.proofs.ValueLaws.{chunk_part_lawful}
-use Rattle.chunk_spelling.proofs.WholeLaws.{only_by, fault_by, at_most_one}
+use Rattle.chunk_codec_spec.specs.declared.fault.SpellFault.{SpellFault}
+use Rattle.chunk_codec_spec.specs.Items.{a_name, a_chunk}
+use Rattle.chunk_codec_spec.specs.Scan.{Scan}
+use Rattle.chunk_codec_spec.specs.Parts.{Part}
+use Rattle.chunk_codec_spec.specs.Fields.{name_part}
+use Rattle.chunk_codec_spec.specs.Steps.{step}
+use Rattle.chunk_codec_spec.specs.Spelling.{SpelledAt, FirstFaultAt, a_whole_chunk, from_front}
+use Rattle.chunk_codec_spec.proofs.PartLaws.{Lawful}
+use Rattle.chunk_codec_spec.proofs.LeafLaws.{name_lawful}
+use Rattle.chunk_codec_spec.proofs.ValueLaws.{chunk_part_lawful}
+use Rattle.chunk_codec_spec.proofs.WholeLaws.{only_by, fault_by, at_most_one}
 use Rattle.packet_frame.specs.declared.fault.FrameFault.{FrameFault}
 use Rattle.packet_frame.specs.Faults.{of_spelling}
 use Rattle.packet_frame.specs.Fields.{told_fault, route_at, carried_at}

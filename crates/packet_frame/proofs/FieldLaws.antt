@@ -5,20 +5,20 @@ use Rattle.std.specs.Int.{Width, w16, w32, w64, to_be_bytes}
 use Rattle.std.proofs.lemmas.Bool.{leb-true, le-leb}
 use mir.Val.{bits}
 use Rattle.wire_bytes.specs.Fields.{IsBytes}
-use Rattle.plan_items.specs.Reading.{◌>>=◌}
-use Rattle.plan_items.proofs.Binds.{ok_inj, bind_ok, bind_is}
-use Rattle.plan_items.proofs.Agendas.{Goes, chain, one_step, making_goes_on, idle}
+use Rattle.containers.specs.Reading.{◌>>=◌}
+use Rattle.containers.proofs.Binds.{ok_inj, bind_ok, bind_is}
+use Rattle.containers.proofs.Agendas.{Goes, chain, one_step, making_goes_on, idle}
 use Rattle.plan_base.specs.declared.limit.Limit.{Limit}
-use Rattle.chunk_spelling.specs.declared.fault.SpellFault.{SpellFault}
-use Rattle.chunk_spelling.specs.Scan.{Scan, number_field}
-use Rattle.chunk_spelling.specs.Parts.{Part}
-use Rattle.chunk_spelling.specs.Fields.{name_part}
-use Rattle.chunk_spelling.specs.Spelling.{a_whole_chunk}
-use Rattle.chunk_spelling.proofs.Took.{Took, Took-bytes, Took-none, Took-then, Took-first, Took-second, Took-as, between, scan_is}
-use Rattle.chunk_spelling.proofs.FieldLaws.{number_takes, number_again, Wide, wide16, wide32, wide64}
-use Rattle.chunk_spelling.proofs.PartLaws.{Lawful}
-use Rattle.chunk_spelling.proofs.LeafLaws.{name_lawful}
-use Rattle.chunk_spelling.proofs.ValueLaws.{chunk_part_lawful}
+use Rattle.chunk_codec_spec.specs.declared.fault.SpellFault.{SpellFault}
+use Rattle.chunk_codec_spec.specs.Scan.{Scan, number_field}
+use Rattle.chunk_codec_spec.specs.Parts.{Part}
+use Rattle.chunk_codec_spec.specs.Fields.{name_part}
+use Rattle.chunk_codec_spec.specs.Spelling.{a_whole_chunk}
+use Rattle.chunk_codec_spec.proofs.Took.{Took, Took-bytes, Took-none, Took-then, Took-first, Took-second, Took-as, between, scan_is}
+use Rattle.chunk_codec_spec.proofs.FieldLaws.{number_takes, number_again, Wide, wide16, wide32, wide64}
+use Rattle.chunk_codec_spec.proofs.PartLaws.{Lawful}
+use Rattle.chunk_codec_spec.proofs.LeafLaws.{name_lawful}
+use Rattle.chunk_codec_spec.proofs.ValueLaws.{chunk_part_lawful}
 use Rattle.packet_frame.specs.declared.fault.FrameFault.{FrameFault}
 use Rattle.service_api.specs.declared.advert.AdvertRow.{AdvertRow}
 use Rattle.packet_frame.specs.Bytes.{row_bytes}

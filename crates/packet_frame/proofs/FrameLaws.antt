@@ -2,14 +2,14 @@ use Rattle.std.proofs.Common.{◌≡◌, ◌⊎◌, inl, inr, ℕ, ◌+◌, ◌<
 use Rattle.std.specs.Prelude.{◌==◌, nat_le, if◌then◌else◌}
 use Rattle.std.specs.Int.{w8, w32, w64, to_be_bytes}
 use Rattle.std.proofs.lemmas.Bool.{eqb-true, leb-true, leb-false}
-use Rattle.chunk_spelling.specs.Spelling.{from_front}
+use Rattle.chunk_codec_spec.specs.Spelling.{from_front}
 use Rattle.wire_bytes.specs.Fields.{Front, IsBytes}
-use Rattle.plan_items.specs.Agenda.{FirstFault, here}
-use Rattle.plan_items.proofs.Binds.{ok_inj, some_inj, bind_ok, bind_is}
-use Rattle.plan_items.proofs.Agendas.{Goes, chain, one_step, goes_ok, goes_err, no_fault, one_first_fault}
-use Rattle.chunk_spelling.specs.Scan.{Scan, number_field}
-use Rattle.chunk_spelling.proofs.Took.{Took, Took-bytes, Took-then, Took-first, Took-second, Took-as, between}
-use Rattle.chunk_spelling.proofs.FieldLaws.{byte_takes, byte_again, number_takes, number_again, wide32}
+use Rattle.containers.specs.Agenda.{FirstFault, here}
+use Rattle.containers.proofs.Binds.{ok_inj, some_inj, bind_ok, bind_is}
+use Rattle.containers.proofs.Agendas.{Goes, chain, one_step, goes_ok, goes_err, no_fault, one_first_fault}
+use Rattle.chunk_codec_spec.specs.Scan.{Scan, number_field}
+use Rattle.chunk_codec_spec.proofs.Took.{Took, Took-bytes, Took-then, Took-first, Took-second, Took-as, between}
+use Rattle.chunk_codec_spec.proofs.FieldLaws.{byte_takes, byte_again, number_takes, number_again, wide32}
 use Rattle.packet_frame.specs.declared.fault.FrameFault.{FrameFault}
 use Rattle.packet_frame.specs.declared.frame.PlainFrame.{PlainFrame}
 use Rattle.packet_frame.specs.declared.kind.Kind.{Kind}

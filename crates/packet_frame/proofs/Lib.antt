@@ -10,3 +10,4 @@ pub mod Links
 pub mod StampedSizes
 pub mod OneAnswer
 pub mod Versions
+pub mod Reading

@@ -3,13 +3,13 @@ use Rattle.std.proofs.Common.{◌≡◌, ◌⊎◌, inl, inr, subst, Option, Som
 use Rattle.std.specs.Prelude.{nat_le, if◌then◌else◌}
 use Rattle.std.proofs.lemmas.Bool.{leb-true, leb-false, le-leb}
 use Rattle.plan_base.specs.declared.tree.Chunk.{Chunk}
-use Rattle.typing_rules.specs.Typing.{IsTypedChunk}
-use Rattle.chunk_spelling.specs.Spelling.{a_whole_chunk}
-use Rattle.chunk_types.specs.declared.fault.Ill.{Ill}
+use Rattle.plan_types_spec.specs.Typing.{IsTypedChunk}
+use Rattle.chunk_codec_spec.specs.Spelling.{a_whole_chunk}
+use Rattle.plan_types_chunks.specs.declared.fault.Ill.{Ill}
 use Rattle.wire_bytes.specs.Fields.{IsBytes}
-use Rattle.chunk_spelling.specs.Scan.{Scan}
-use Rattle.chunk_types.specs.Chunks.{illness}
-use Rattle.chunk_types.proofs.Values.{chunk_only, chunk_found}
+use Rattle.chunk_codec_spec.specs.Scan.{Scan}
+use Rattle.plan_types_chunks.specs.Chunks.{illness}
+use Rattle.plan_types_chunks.proofs.Values.{chunk_only, chunk_found}
 use Rattle.packet_frame.specs.declared.fault.FrameFault.{FrameFault}
 use Rattle.packet_frame.specs.declared.frame.PlainFrame.{PlainFrame}
 use Rattle.packet_frame.specs.Bytes.{frame_bytes}

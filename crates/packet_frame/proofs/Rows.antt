@@ -1,8 +1,8 @@
 use Rattle.std.proofs.Common.{◌≡◌, ℕ, suc, ◌+◌, ◌-◌, ◌<◌, ◌≤◌, List, [], ◌∷◌, ◌++◌, append_assoc, append-nil, Option, Some, Result, Ok, Err, refl, sym, ◌∙◌, ap, arith}
-use Rattle.plan_items.specs.Reading.{◌>>=◌}
-use Rattle.plan_items.proofs.Binds.{bind_is, bind_err}
-use Rattle.plan_items.proofs.ReadingLists.{with_front}
-use Rattle.chunk_spelling.specs.Scan.{Scan}
+use Rattle.containers.specs.Reading.{◌>>=◌}
+use Rattle.containers.proofs.Binds.{bind_is, bind_err}
+use Rattle.containers.proofs.ReadingLists.{with_front}
+use Rattle.chunk_codec_spec.specs.Scan.{Scan}
 use Rattle.packet_frame.specs.declared.fault.FrameFault.{FrameFault}
 use Rattle.service_api.specs.declared.advert.AdvertRow.{AdvertRow}
 use Rattle.packet_frame.specs.Fields.{row_host_at, cost_at, rows_from}

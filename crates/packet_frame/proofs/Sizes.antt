@@ -4,20 +4,20 @@ use Rattle.std.specs.List.{flat_map}
 use Rattle.std.specs.Int.{w16, w32, w64, to_be_bytes}
 use Rattle.std.proofs.lemmas.Bool.{leb-true}
 use Rattle.std.proofs.lemmas.List.{drop_more}
-use Rattle.plan_items.proofs.Bools.{both_true}
+use Rattle.containers.proofs.Bools.{both_true}
 use Rattle.plan_base.specs.Words.{is_word, is_name, IsName}
 use Rattle.plan_base.specs.Sizes.{chunk_weight}
 use Rattle.plan_base.specs.declared.ids.Family.{Family}
 use Rattle.plan_base.specs.declared.ids.Host.{Host}
 use Rattle.plan_base.specs.declared.tree.Chunk.{Chunk}
 use Rattle.plan_base.specs.declared.tree.Packet.{Packet}
-use Rattle.chunk_spelling.specs.Fields.{name_bytes}
-use Rattle.chunk_spelling.specs.Values.{chunk_bytes}
-use Rattle.chunk_spelling.specs.Kept.{chunk_kept}
-use Rattle.chunk_spelling.specs.Spelling.{a_whole_chunk}
-use Rattle.chunk_spelling.proofs.FitsLaws.{chunk_fits_kept}
-use Rattle.chunk_writer.proofs.Puts.{Written}
-use Rattle.chunk_spelling.proofs.LengthLaws.{chunk_length}
+use Rattle.chunk_codec_spec.specs.Fields.{name_bytes}
+use Rattle.chunk_codec_spec.specs.Values.{chunk_bytes}
+use Rattle.chunk_codec_spec.specs.Kept.{chunk_kept}
+use Rattle.chunk_codec_spec.specs.Spelling.{a_whole_chunk}
+use Rattle.chunk_codec_spec.proofs.FitsLaws.{chunk_fits_kept}
+use Rattle.chunk_codec.proofs.Puts.{Written}
+use Rattle.chunk_codec_spec.proofs.LengthLaws.{chunk_length}
 use Rattle.service_api.specs.declared.advert.AdvertRow.{AdvertRow}
 use Rattle.service_api.specs.declared.advert.Advert.{Advert}
 use Rattle.packet_frame.specs.declared.frame.PlainFrame.{PlainFrame}

@@ -4,13 +4,13 @@ use Rattle.std.specs.Prelude.{◌==◌, ◌||◌, if◌then◌else◌}
 use Rattle.std.specs.Int.{w8, w32, w64, to_be_bytes}
 use Rattle.std.proofs.lemmas.Bool.{eqb-true}
 use Rattle.wire_bytes.specs.Fields.{Front, IsBytes}
-use Rattle.chunk_spelling.specs.Spelling.{from_front}
+use Rattle.chunk_codec_spec.specs.Spelling.{from_front}
 use Rattle.packet_frame.specs.Reading.{Fails}
-use Rattle.plan_items.proofs.Binds.{ok_inj, some_inj, bind_ok, bind_is}
-use Rattle.plan_items.proofs.Agendas.{Goes, chain, one_step}
-use Rattle.chunk_spelling.specs.Scan.{Scan, number_field}
-use Rattle.chunk_spelling.proofs.Took.{Took, Took-bytes, Took-then, Took-first, Took-second, Took-as, between}
-use Rattle.chunk_spelling.proofs.FieldLaws.{byte_takes, byte_again}
+use Rattle.containers.proofs.Binds.{ok_inj, some_inj, bind_ok, bind_is}
+use Rattle.containers.proofs.Agendas.{Goes, chain, one_step}
+use Rattle.chunk_codec_spec.specs.Scan.{Scan, number_field}
+use Rattle.chunk_codec_spec.proofs.Took.{Took, Took-bytes, Took-then, Took-first, Took-second, Took-as, between}
+use Rattle.chunk_codec_spec.proofs.FieldLaws.{byte_takes, byte_again}
 use Rattle.plan_base.specs.declared.stamp.Stamp.{Stamp}
 use Rattle.packet_frame.specs.declared.fault.FrameFault.{FrameFault}
 use Rattle.packet_frame.specs.declared.frame.PlainFrame.{PlainFrame}
@@ -19,13 +19,13 @@ use Rattle.packet_frame.specs.declared.kind.Kind.{Kind}
 use Rattle.packet_frame.specs.declared.kind.Form.{Form}
 use Rattle.plan_base.specs.declared.name.Name.{Name}
 use Rattle.plan_base.specs.declared.tree.Packet.{Packet}
-use Rattle.packet_frame.specs.Bytes.{letters, head_bytes, packet_bytes, rows_bytes}
+use Rattle.packet_frame.specs.Bytes.{letters}
 use Rattle.packet_frame.specs.Faults.{of_number}
 use Rattle.packet_frame.specs.Fields.{number, magic_at}
-use Rattle.packet_frame.specs.Forms.{FrameItem, the_magic, the_end, either_version, the_form, forms, FieldValues, bytes_of_fields, AllFit, items_of_fields, frame_of_fields, fields_of, FrameFits}
+use Rattle.packet_frame.specs.Forms.{FrameItem, the_magic, the_end, either_version, the_form, FieldValues, bytes_of_fields, AllFit, items_of_fields, fields_of, FrameFits}
 use Rattle.packet_frame.specs.Versions.{either_version_at, form_of, known_form, form_at, stamped_forms, stamped_of_fields, stamped_at}
 use Rattle.packet_frame.specs.Frames.{frame_step}
-use Rattle.packet_frame.specs.Stamped.{stamped_head, bytes_with, stamped_bytes, StampFits, HandlerFits, BearsStamp, IsAsk, IsOfTwo, StampedFits}
+use Rattle.packet_frame.specs.Stamped.{stamped_head, stamped_bytes, StampFits, HandlerFits, IsOfTwo, StampedFits}
 use Rattle.packet_frame.proofs.FieldLaws.{AllKept, told_ok, told_is, judged_ok, judged_is, host_kept, serial_kept, bound_kept, route_kept, chunk_kept, reads_takes, reads_again, reads_go}
 use Rattle.packet_frame.proofs.FrameLaws.{forms_kept, frame_is, magic_takes, magic_again}
 use Rattle.packet_frame.specs.Stamped.{SpellsStamped, StampedFault, too_long, misspelled}

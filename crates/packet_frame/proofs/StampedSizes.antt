@@ -7,20 +7,17 @@ use Rattle.plan_base.specs.declared.ids.Family.{Family}
 use Rattle.plan_base.specs.declared.ids.Host.{Host}
 use Rattle.plan_base.specs.declared.tree.Chunk.{Chunk}
 use Rattle.plan_base.specs.declared.tree.Packet.{Packet}
-use Rattle.chunk_spelling.specs.Fields.{name_bytes}
-use Rattle.chunk_spelling.specs.Values.{chunk_bytes}
-use Rattle.chunk_spelling.specs.Kept.{chunk_kept}
-use Rattle.chunk_spelling.specs.Spelling.{a_whole_chunk}
-use Rattle.chunk_writer.proofs.Puts.{Written}
+use Rattle.chunk_codec_spec.specs.Fields.{name_bytes}
+use Rattle.chunk_codec_spec.specs.Values.{chunk_bytes}
+use Rattle.chunk_codec_spec.specs.Spelling.{a_whole_chunk}
 use Rattle.service_api.specs.declared.advert.Advert.{Advert}
 use Rattle.packet_frame.specs.declared.frame.PlainFrame.{PlainFrame}
-use Rattle.packet_frame.specs.Bytes.{head_bytes, row_bytes}
+use Rattle.packet_frame.specs.Bytes.{row_bytes}
 use Rattle.packet_frame.specs.Forms.{FrameFits}
-use Rattle.packet_frame.specs.Frames.{SpellsFrame}
 use Rattle.std.proofs.Common.{Some, ◌∙◌, append_assoc}
 use Rattle.plan_base.specs.declared.name.Name.{Name}
 use Rattle.plan_base.specs.declared.stamp.Stamp.{Stamp}
-use Rattle.packet_frame.specs.Stamped.{stamped_head, packet_with, bytes_with, stamped_bytes, StampFits, SpellsStamped}
+use Rattle.packet_frame.specs.Stamped.{stamped_head, stamped_bytes, StampFits, SpellsStamped}
 use Rattle.packet_frame.proofs.Sizes.{rows_size, route_short, chunk_bytes_small}
 
 -- what was put is the spelling under version 2

@@ -3,11 +3,11 @@ use Rattle.std.proofs.Common.{◌≡◌, ◌⊎◌, inl, inr, ℕ, ◌≤◌, Li
 use Rattle.std.specs.Prelude.{nat_le, if◌then◌else◌}
 use Rattle.std.proofs.lemmas.Bool.{leb-true, leb-false, le-leb}
 use Rattle.wire_bytes.specs.Fields.{IsBytes}
-use Rattle.chunk_spelling.specs.Scan.{Scan}
+use Rattle.chunk_codec_spec.specs.Scan.{Scan}
 use Rattle.plan_base.specs.declared.name.Name.{Name}
 use Rattle.plan_base.specs.declared.tree.Chunk.{Chunk}
-use Rattle.typing_rules.specs.Handlers.{MayHandle}
-use Rattle.chunk_types.specs.declared.fault.Ill.{Ill}
+use Rattle.plan_types_spec.specs.Handlers.{MayHandle}
+use Rattle.plan_types_chunks.specs.declared.fault.Ill.{Ill}
 use Rattle.plan_base.specs.declared.stamp.Stamp.{Stamp}
 use Rattle.plan_base.specs.declared.stamp.Version.{Version}
 use Rattle.plan_base.specs.declared.stamp.Version.TheVariants.{One, Two}

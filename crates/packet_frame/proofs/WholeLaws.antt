@@ -2,22 +2,18 @@
 use Rattle.std.proofs.Common.{◌≡◌, ◌⊎◌, inl, inr, ℕ, ◌<◌, ◌≤◌, List, [], ◌∷◌, ◌++◌, length, length-append, append-nil, Bool, true, false, Result, Ok, Err, refl, sym, ◌∙◌, ap, subst, arith}
 use Rattle.std.specs.Prelude.{nat_le}
 use Rattle.std.proofs.lemmas.Bool.{leb-true, leb-false}
-use Rattle.chunk_spelling.specs.Spelling.{from_front}
+use Rattle.chunk_codec_spec.specs.Spelling.{from_front}
 use Rattle.wire_bytes.specs.Fields.{Front, IsBytes}
-use Rattle.plan_items.specs.Agenda.{FirstFault, here}
-use Rattle.plan_items.proofs.Binds.{ok_inj}
-use Rattle.plan_items.proofs.Agendas.{Goes, one_step, goes_ok, goes_err, no_fault, one_first_fault}
-use Rattle.chunk_spelling.specs.Scan.{Scan}
-use Rattle.chunk_spelling.proofs.Took.{Took, between}
+use Rattle.containers.specs.Agenda.{FirstFault, here}
+use Rattle.containers.proofs.Binds.{ok_inj}
+use Rattle.containers.proofs.Agendas.{Goes, one_step, goes_ok, goes_err, no_fault, one_first_fault}
+use Rattle.chunk_codec_spec.specs.Scan.{Scan}
+use Rattle.chunk_codec_spec.proofs.Took.{Took}
 use Rattle.packet_frame.specs.declared.fault.FrameFault.{FrameFault}
-use Rattle.packet_frame.specs.Bytes.{letters, head_bytes}
-use Rattle.packet_frame.specs.Faults.{of_number}
-use Rattle.packet_frame.specs.Fields.{number, kind_of, known_kind}
-use Rattle.packet_frame.specs.Forms.{FrameItem, the_end, forms, FieldValues, bytes_of_fields, AllFit, items_of_fields, frame_of_fields, fields_of, FrameFits}
+use Rattle.packet_frame.specs.Forms.{FrameItem, the_end}
 use Rattle.packet_frame.specs.Frames.{frame_step, nothing_left, begins}
 use Rattle.packet_frame.specs.Fields.{Reader}
 use Rattle.packet_frame.specs.Reading.{Fails}
-use Rattle.packet_frame.proofs.FieldLaws.{AllKept}
 
 -- a whole frame: how it is read, what must be read of it, how it is spelled, what may be spelled, and that these agree
 pub record Whole (A : Type 0) : Type 1 where

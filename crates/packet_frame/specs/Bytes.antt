@@ -3,8 +3,8 @@ use Rattle.std.specs.Prelude.{ℕ, List, [], ◌∷◌, ◌++◌, length}
 use Rattle.std.specs.List.{flat_map}
 use Rattle.std.specs.Int.{w16, w32, w64, to_be_bytes}
 use Rattle.plan_base.specs.declared.tree.Packet.{Packet}
-use Rattle.chunk_spelling.specs.Fields.{name_bytes}
-use Rattle.chunk_spelling.specs.Values.{chunk_bytes}
+use Rattle.chunk_codec_spec.specs.Fields.{name_bytes}
+use Rattle.chunk_codec_spec.specs.Values.{chunk_bytes}
 use Rattle.service_api.specs.declared.advert.AdvertRow.{AdvertRow}
 use Rattle.packet_frame.specs.declared.frame.PlainFrame.{PlainFrame}
 

@@ -1,11 +1,11 @@
 -- The frame that bytes spell, or why they are none, as one answer.
 use Rattle.std.specs.Prelude.{ℕ, Bool, true, nat_le, List, length, Option, Some, None, Result, Ok, Err, if◌then◌else◌}
-use Rattle.chunk_spelling.specs.Scan.{Scan}
-use Rattle.chunk_types.specs.declared.fault.Ill.{Ill}
-use Rattle.chunk_types.specs.Chunks.{illness}
+use Rattle.chunk_codec_spec.specs.Scan.{Scan}
+use Rattle.plan_types_chunks.specs.declared.fault.Ill.{Ill}
+use Rattle.plan_types_chunks.specs.Chunks.{illness}
 use Rattle.plan_base.specs.declared.name.Name.{Name}
 use Rattle.plan_base.specs.declared.tree.Chunk.{Chunk}
-use Rattle.typing_rules.specs.Handlers.{is_handler}
+use Rattle.plan_types_spec.specs.Handlers.{is_handler}
 use Rattle.packet_frame.specs.declared.fault.FrameFault.{FrameFault}
 use Rattle.plan_base.specs.declared.stamp.Version.{Version}
 use Rattle.plan_base.specs.declared.stamp.Version.TheVariants.{One, Two}

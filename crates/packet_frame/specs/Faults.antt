@@ -1,5 +1,5 @@
 -- The faults of fields as those of a frame.
-use Rattle.chunk_spelling.specs.declared.fault.SpellFault.{SpellFault}
+use Rattle.chunk_codec_spec.specs.declared.fault.SpellFault.{SpellFault}
 use Rattle.packet_frame.specs.declared.fault.FrameFault.{FrameFault}
 
 -- the fault of a name or a chunk, of the whole frame

@@ -1,12 +1,12 @@
 -- The fields of a frame, read one after another, each with the fault of its own rule.
 use Rattle.std.specs.Prelude.{ℕ, zero, suc, ◌==◌, List, [], ◌∷◌, Bool, true, false, Option, Some, None, Result, Ok, Err, nat_le, if◌then◌else◌}
 use Rattle.std.specs.Int.{Width, w8, w16, w32}
-use Rattle.plan_items.specs.Reading.{◌>>=◌}
+use Rattle.containers.specs.Reading.{◌>>=◌}
 use Rattle.plan_base.specs.declared.limit.Limit.{Limit}
 use Rattle.plan_base.specs.declared.tree.Chunk.{Chunk}
-use Rattle.chunk_spelling.specs.declared.fault.SpellFault.{SpellFault}
-use Rattle.chunk_spelling.specs.Scan.{Scan, number_field, name_field}
-use Rattle.chunk_spelling.specs.Spelling.{a_whole_chunk}
+use Rattle.chunk_codec_spec.specs.declared.fault.SpellFault.{SpellFault}
+use Rattle.chunk_codec_spec.specs.Scan.{Scan, number_field, name_field}
+use Rattle.chunk_codec_spec.specs.Spelling.{a_whole_chunk}
 use Rattle.packet_frame.specs.declared.fault.FrameFault.{FrameFault}
 use Rattle.service_api.specs.Adverts.{is_above}
 use Rattle.service_api.specs.declared.advert.AdvertRow.{AdvertRow}

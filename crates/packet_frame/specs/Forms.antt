@@ -1,12 +1,12 @@
 -- The forms of a frame: what stands behind the kind, one field after another.
 use Rattle.std.specs.Prelude.{◌≡◌, ℕ, ◌≤◌, ◌<◌, ◌^◌, List, [], ◌∷◌, ◌++◌, length, Option, None, Ok}
 use Rattle.std.specs.Int.{w32, w64, to_be_bytes}
-use Rattle.plan_items.specs.Reading.{◌>>=◌}
+use Rattle.containers.specs.Reading.{◌>>=◌}
 use Rattle.plan_base.specs.Words.{IsName}
 use Rattle.plan_base.specs.declared.tree.Chunk.{Chunk}
-use Rattle.chunk_spelling.specs.Fields.{name_bytes}
-use Rattle.chunk_spelling.specs.Values.{chunk_bytes}
-use Rattle.chunk_spelling.specs.Spelling.{a_whole_chunk}
+use Rattle.chunk_codec_spec.specs.Fields.{name_bytes}
+use Rattle.chunk_codec_spec.specs.Values.{chunk_bytes}
+use Rattle.chunk_codec_spec.specs.Spelling.{a_whole_chunk}
 use Rattle.service_api.specs.Adverts.{RowsFit}
 use Rattle.service_api.specs.declared.advert.AdvertRow.{AdvertRow}
 use Rattle.packet_frame.specs.declared.frame.PlainFrame.{PlainFrame}

@@ -1,10 +1,10 @@
 -- When bytes are a frame, and the first fault of those that are none.
 use Rattle.std.specs.Prelude.{◌≡◌, ℕ, zero, suc, ◌≤◌, ◌<◌, List, [], ◌∷◌, length, Option, Some, None, Result, Ok, Err}
 use Rattle.std.specs.Int.{w32, w64}
-use Rattle.plan_items.specs.Reading.{◌>>=◌}
-use Rattle.plan_items.specs.Agenda.{FirstFault}
+use Rattle.containers.specs.Reading.{◌>>=◌}
+use Rattle.containers.specs.Agenda.{FirstFault}
 use Rattle.plan_base.specs.declared.tree.Chunk.{Chunk}
-use Rattle.chunk_spelling.specs.Scan.{Scan}
+use Rattle.chunk_codec_spec.specs.Scan.{Scan}
 use Rattle.packet_frame.specs.declared.fault.FrameFault.{FrameFault}
 use Rattle.packet_frame.specs.declared.frame.PlainFrame.{PlainFrame}
 use Rattle.packet_frame.specs.Bytes.{frame_bytes}

@@ -9,3 +9,4 @@ pub mod Typed
 pub mod Stamped
 pub mod Decoding
 pub mod Reasons
+pub mod Spelled

@@ -1,8 +1,8 @@
 -- What a call on a cursor gives.
 use Rattle.std.specs.Prelude.{◌≡◌, Result, Ok, Err}
 use Rattle.wire_bytes.specs.Fields.{Front}
-use Rattle.chunk_spelling.specs.Scan.{Scan}
-use Rattle.chunk_spelling.specs.Spelling.{from_front}
+use Rattle.chunk_codec_spec.specs.Scan.{Scan}
+use Rattle.chunk_codec_spec.specs.Spelling.{from_front}
 use Rattle.packet_frame.specs.declared.fault.FrameFault.{FrameFault}
 
 -- memory may be wanting at any time; every other fault is the one that the reading has

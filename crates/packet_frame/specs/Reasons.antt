@@ -2,8 +2,8 @@
 use Rattle.std.specs.Prelude.{ℕ, List, ◌++◌, codes}
 use Rattle.std.specs.Fmt.{decimal}
 use Rattle.plan_base.specs.Limits.{word_of}
-use Rattle.chunk_spelling.specs.declared.fault.SpellFault.{SpellFault}
-use Rattle.chunk_types.specs.declared.fault.Ill.{Ill}
+use Rattle.chunk_codec_spec.specs.declared.fault.SpellFault.{SpellFault}
+use Rattle.plan_types_chunks.specs.declared.fault.Ill.{Ill}
 use Rattle.packet_frame.specs.declared.fault.FrameFault.{FrameFault}
 
 abbrev pub spelling_text : SpellFault → List ℕ

@@ -1,23 +1,20 @@
 -- Frames with stamps: the bytes of version 2, and what a node of that version reads.
 use Rattle.std.specs.Prelude.{◌≡◌, ℕ, ◌≤◌, ◌<◌, ◌^◌, List, [], ◌∷◌, ◌++◌, length, Option, Some, None}
 use Rattle.std.specs.Int.{w32, w64, to_be_bytes}
-use Rattle.plan_items.specs.Reading.{◌>>=◌}
-use Rattle.chunk_spelling.specs.Scan.{Scan}
 use Rattle.plan_base.specs.declared.stamp.Stamp.{Stamp}
 use Rattle.plan_base.specs.declared.stamp.Version.{Version}
 use Rattle.plan_base.specs.declared.stamp.Version.TheVariants.{One, Two}
 use Rattle.plan_base.specs.declared.name.Name.{Name}
 use Rattle.plan_base.specs.declared.tree.Packet.{Packet}
 use Rattle.plan_base.specs.Words.{IsName}
-use Rattle.chunk_spelling.specs.Fields.{name_bytes}
-use Rattle.chunk_spelling.specs.Values.{chunk_bytes}
+use Rattle.chunk_codec_spec.specs.Fields.{name_bytes}
+use Rattle.chunk_codec_spec.specs.Values.{chunk_bytes}
 use Rattle.packet_frame.specs.declared.fault.FrameFault.{FrameFault}
 use Rattle.packet_frame.specs.declared.frame.PlainFrame.{PlainFrame}
 use Rattle.packet_frame.specs.declared.frame.PlainStamped.{PlainStamped}
 use Rattle.packet_frame.specs.Bytes.{letters, packet_bytes, rows_bytes, frame_bytes}
-use Rattle.packet_frame.specs.Fields.{Reader, number, judged_field}
-use Rattle.packet_frame.specs.Forms.{Fields, FieldValues, reads, serial_field, forms, frame_of_fields, FrameFits, IsPlain}
-use Rattle.plan_items.specs.Agenda.{FirstFault}
+use Rattle.packet_frame.specs.Forms.{reads, FrameFits, IsPlain}
+use Rattle.containers.specs.Agenda.{FirstFault}
 use Rattle.packet_frame.specs.Forms.{FrameItem, the_magic, the_end, either_version}
 use Rattle.packet_frame.specs.Frames.{frame_step, begins}
 use Rattle.packet_frame.specs.Typed.{plain_of, CarriesTyped, CarriesHandler, CarriesIll, CarriesNoHandler}

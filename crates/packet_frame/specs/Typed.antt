@@ -1,10 +1,10 @@
 -- When bytes are a frame whose chunk is typed, and the first fault of those that are none.
 use Rattle.std.specs.Prelude.{◌≡◌, ℕ, List, Some}
 use Rattle.plan_base.specs.declared.tree.Chunk.{Chunk}
-use Rattle.typing_rules.specs.Typing.{IsTypedChunk}
-use Rattle.chunk_types.specs.declared.fault.Ill.{Ill}
-use Rattle.chunk_types.specs.Chunks.{illness}
-use Rattle.typing_rules.specs.Handlers.{MayHandle}
+use Rattle.plan_types_spec.specs.Typing.{IsTypedChunk}
+use Rattle.plan_types_chunks.specs.declared.fault.Ill.{Ill}
+use Rattle.plan_types_chunks.specs.Chunks.{illness}
+use Rattle.plan_types_spec.specs.Handlers.{MayHandle}
 use Rattle.packet_frame.specs.declared.fault.FrameFault.{FrameFault}
 use Rattle.packet_frame.specs.declared.frame.PlainFrame.{PlainFrame}
 use Rattle.packet_frame.specs.declared.checked.Frame.{Frame}

@@ -1,16 +1,15 @@
 -- What a node of version 2 reads, field by field.
 use Rattle.std.specs.Prelude.{ℕ, ◌==◌, ◌||◌, Option, Some, None, Result, Ok, Err, if◌then◌else◌}
 use Rattle.std.specs.Int.{w8}
-use Rattle.plan_items.specs.Reading.{◌>>=◌}
-use Rattle.chunk_spelling.specs.Scan.{Scan}
+use Rattle.containers.specs.Reading.{◌>>=◌}
+use Rattle.chunk_codec_spec.specs.Scan.{Scan}
 use Rattle.packet_frame.specs.declared.fault.FrameFault.{FrameFault}
 use Rattle.packet_frame.specs.declared.frame.PlainFrame.{PlainFrame}
 use Rattle.packet_frame.specs.declared.frame.PlainStamped.{PlainStamped}
 use Rattle.packet_frame.specs.declared.kind.Kind.{Kind}
 use Rattle.packet_frame.specs.declared.kind.Form.{Form}
-use Rattle.packet_frame.specs.Bytes.{letters, packet_bytes, rows_bytes}
 use Rattle.packet_frame.specs.Fields.{Reader, number, judged_field, magic_at}
-use Rattle.packet_frame.specs.Forms.{Fields, done, ◌&◌, host_field, bound_field, route_field, chunk_field, Fields, ◌&◌, FieldValues, reads, serial_field, forms, frame_of_fields, FrameFits}
+use Rattle.packet_frame.specs.Forms.{Fields, done, ◌&◌, host_field, bound_field, route_field, chunk_field, Fields, ◌&◌, FieldValues, reads, serial_field, forms, frame_of_fields}
 
 -- ---- what a node of version 2 reads
 

@@ -1,9 +1,9 @@
-ghost use Rattle.typing_rules.specs.Handlers.{is_handler as handles_by, MayHandle};
+ghost use Rattle.plan_types_spec.specs.Handlers.{is_handler as handles_by, MayHandle};
 ghost use Rattle.std.specs.Prelude.{◌≡◌, ◌⊎◌, ◌≤◌, true, None, Some, IfOk, IfErr, MatchResult};
-ghost use Rattle.typing_rules.specs.Typing.{IsTypedChunk};
-ghost use Rattle.chunk_types.specs.Chunks.{illness};
-ghost use Rattle.chunk_types.specs.declared.fault.Ill.{Ill as Wrong};
-ghost use Rattle.chunk_spelling.specs.Spelling.{a_whole_chunk};
+ghost use Rattle.plan_types_spec.specs.Typing.{IsTypedChunk};
+ghost use Rattle.plan_types_chunks.specs.Chunks.{illness};
+ghost use Rattle.plan_types_chunks.specs.declared.fault.Ill.{Ill as Wrong};
+ghost use Rattle.chunk_codec_spec.specs.Spelling.{a_whole_chunk};
 ghost use Rattle.packet_frame.specs.Forms.{FrameFits};
 ghost use Rattle.packet_frame.specs.Typed.{plain_of, CarriesTyped, CarriesHandler, CarriesIll, CarriesNoHandler, Accepts, FrameFirst};
 ghost use Rattle.packet_frame.specs.declared.frame.PlainFrame.{PlainFrame as Plain};
@@ -16,8 +16,8 @@ use crate::frame::{PlainFrame, PlainStamped};
 use crate::get::get_plain_frame;
 use crate::get_stamped::get_plain_stamped;
 use checked_chunks::{Checked, CheckedChunk, CheckedPacket, is_handler};
-use chunk_types::{ChunkFault, check_chunk};
 use plan_base::{Chunk, Name, Packet, Stamp};
+use plan_types_chunks::{ChunkFault, check_chunk};
 use service_api::Advert;
 use std::alloc::Global;
 

@@ -2,8 +2,8 @@ ghost use Rattle.std.specs.Prelude.{◌≡◌};
 ghost use Rattle.packet_frame.specs.Faults.{of_spelling};
 ghost use Rattle.packet_frame.specs.declared.fault.FrameFault.TheVariants.{Truncated as CutOff, NoMemory};
 
-use chunk_spelling::SpellFault;
-use chunk_types::Ill;
+use chunk_codec_spec::SpellFault;
+use plan_types_chunks::Ill;
 use std::alloc::AllocError;
 use wire_bytes::Truncated;
 

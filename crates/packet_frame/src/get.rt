@@ -5,7 +5,7 @@ ghost use Rattle.packet_frame.specs.Fields.{number, magic_at, version_at, kind_a
 ghost use Rattle.packet_frame.specs.Forms.{reads, forms, frame_of_fields, frame_at};
 ghost use Rattle.packet_frame.specs.declared.kind.Kind.{Kind as TheKind};
 ghost use Rattle.packet_frame.specs.Frames.{SpellsFrame, SpellingFault, begins};
-ghost use Rattle.chunk_spelling.specs.Spelling.{from_front};
+ghost use Rattle.chunk_codec_spec.specs.Spelling.{from_front};
 ghost use Rattle.packet_frame.specs.Reading.{Gives};
 ghost use Rattle.packet_frame.specs.declared.frame.PlainFrame.{PlainFrame as Plain};
 
@@ -13,15 +13,15 @@ use crate::fault::FrameFault;
 use crate::frame::PlainFrame;
 use crate::kind::Kind;
 use chunk_codec::{get_chunk, get_name};
-use chunk_spelling::SpellFault;
+use chunk_codec_spec::SpellFault;
+use containers::Items;
 use plan_base::{Chunk, Family, Host, Limit, Name, Packet};
-use plan_items::Items;
 use service_api::{Advert, AdvertRow, AdvertRows};
 use std::alloc::Global;
 use wire_bytes::Cursor;
 
 /// A number of four bytes.
-#[tactic(auto, unfolding(chunk_spelling::specs::Scan::number_field))]
+#[tactic(auto, unfolding(chunk_codec_spec::specs::Scan::number_field))]
 pub fn word_of(c: &mut Cursor<'_>) -> Result<u32, FrameFault>
     ensures { Gives result c.new (number w32 (from_front c.old)) }
 {
@@ -29,7 +29,7 @@ pub fn word_of(c: &mut Cursor<'_>) -> Result<u32, FrameFault>
 }
 
 /// A number of eight bytes.
-#[tactic(auto, unfolding(chunk_spelling::specs::Scan::number_field))]
+#[tactic(auto, unfolding(chunk_codec_spec::specs::Scan::number_field))]
 pub fn serial_of(c: &mut Cursor<'_>) -> Result<u64, FrameFault>
     ensures { Gives result c.new (number w64 (from_front c.old)) }
 {
@@ -49,7 +49,7 @@ pub fn magic_of(c: &mut Cursor<'_>) -> Result<u32, FrameFault>
 }
 
 /// The version, which is 1.
-#[tactic(auto, unfolding(crate::specs::Fields::version_at, chunk_spelling::specs::Scan::number_field))]
+#[tactic(auto, unfolding(crate::specs::Fields::version_at, chunk_codec_spec::specs::Scan::number_field))]
 fn version_of(c: &mut Cursor<'_>) -> Result<u8, FrameFault>
     ensures { Gives result c.new (version_at (from_front c.old)) }
 {
@@ -61,7 +61,7 @@ fn version_of(c: &mut Cursor<'_>) -> Result<u8, FrameFault>
 }
 
 /// The kind.
-#[tactic(auto, unfolding(crate::specs::Fields::kind_at, chunk_spelling::specs::Scan::number_field))]
+#[tactic(auto, unfolding(crate::specs::Fields::kind_at, chunk_codec_spec::specs::Scan::number_field))]
 fn kind_of(c: &mut Cursor<'_>) -> Result<Kind, FrameFault>
     ensures { Gives result c.new (kind_at (from_front c.old)) }
 {
@@ -123,7 +123,7 @@ pub fn packet_of(alloc: Global, c: &mut Cursor<'_>) -> Result<PlainFrame, FrameF
 }
 
 /// How many rows an advert has.
-#[tactic(auto, unfolding(crate::specs::Fields::count_at, chunk_spelling::specs::Scan::number_field))]
+#[tactic(auto, unfolding(crate::specs::Fields::count_at, chunk_codec_spec::specs::Scan::number_field))]
 pub fn count_of(c: &mut Cursor<'_>) -> Result<u16, FrameFault>
     ensures { Gives result c.new (count_at (from_front c.old)) }
 {

@@ -1,5 +1,5 @@
 ghost use Rattle.std.specs.Prelude.{◌≡◌, ◌⊎◌, ◌≤◌, length, Some, IfOk, IfErr, MatchResult};
-ghost use Rattle.chunk_spelling.specs.Spelling.{from_front};
+ghost use Rattle.chunk_codec_spec.specs.Spelling.{from_front};
 ghost use Rattle.packet_frame.specs.Reading.{Gives};
 ghost use Rattle.packet_frame.specs.Forms.{reads};
 ghost use Rattle.packet_frame.specs.Versions.{either_version_at, form_of, form_at, stamped_forms, stamped_of_fields, stamped_at};
@@ -19,7 +19,7 @@ use std::alloc::Global;
 use wire_bytes::Cursor;
 
 /// The version, which is 1 or 2.
-#[tactic(auto, unfolding(crate::specs::Versions::either_version_at, chunk_spelling::specs::Scan::number_field))]
+#[tactic(auto, unfolding(crate::specs::Versions::either_version_at, chunk_codec_spec::specs::Scan::number_field))]
 fn either_version_of(c: &mut Cursor<'_>) -> Result<u8, FrameFault>
     ensures { Gives result c.new (either_version_at (from_front c.old)) }
 {
@@ -48,7 +48,7 @@ fn form_with(version: u8, kind: u8) -> Option<Form>
 }
 
 /// The kind behind a version.
-#[tactic(auto, unfolding(crate::specs::Versions::form_at, chunk_spelling::specs::Scan::number_field))]
+#[tactic(auto, unfolding(crate::specs::Versions::form_at, chunk_codec_spec::specs::Scan::number_field))]
 fn form_behind(c: &mut Cursor<'_>, version: u8) -> Result<Form, FrameFault>
     ensures { Gives result c.new (form_at version (from_front c.old)) }
 {

@@ -1,4 +1,4 @@
-//! Frames on the wire: packets, adverts and asks, each with one spelling in at most 16,512 bytes.
+//! Frames as bytes: read with their faults, written, and kept as their bytes on their way between nodes.
 #![tactic(auto)]
 
 mod checked;
@@ -11,6 +11,7 @@ mod laws;
 mod link;
 mod put;
 mod put_stamped;
+mod spelled;
 
 pub use checked::{Frame, Stamped, get_frame, get_frame2};
 pub use checked_chunks::CheckedPacket;
@@ -22,3 +23,4 @@ pub use plan_base::{Stamp, Version};
 pub use put::{put_advert, put_ask, put_packet};
 pub use put_stamped::{put_advert2, put_packet2};
 pub use service_api::{Advert, AdvertRow, AdvertRows};
+pub use spelled::{EncodedFrame, What, copy_packet, with_handler};

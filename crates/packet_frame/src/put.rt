@@ -1,16 +1,15 @@
 ghost use Rattle.std.specs.Prelude.{◌≡◌, ◌++◌, ◌+◌, ◌≤◌, ◌<◌, ◌^◌, ◌∷◌, [], length, IsTrue, IfOk};
 ghost use Rattle.std.specs.List.{flat_map};
 ghost use Rattle.std.specs.Int.{w16, w32, w64, to_be_bytes};
-ghost use Rattle.chunk_spelling.specs.Values.{chunk_bytes};
-ghost use Rattle.chunk_spelling.specs.Spelling.{a_whole_chunk};
+ghost use Rattle.chunk_codec_spec.specs.Values.{chunk_bytes};
+ghost use Rattle.chunk_codec_spec.specs.Spelling.{a_whole_chunk};
 ghost use Rattle.packet_frame.specs.Bytes.{head_bytes, row_bytes, rows_bytes, packet_bytes, frame_bytes};
 ghost use Rattle.packet_frame.specs.Forms.{FrameFits};
 ghost use Rattle.packet_frame.specs.Frames.{SpellsFrame};
 ghost use Rattle.packet_frame.specs.declared.frame.PlainFrame.{PlainFrame as Plain};
 
 use checked_chunks::{CheckedChunk, CheckedPacket};
-use chunk_ranges::may_be_spelled;
-use chunk_writer::{put_chunk, put_name};
+use chunk_codec::{may_be_spelled, put_chunk, put_name};
 use plan_base::{Bytes, Chunk, Family, Host, NoMemory};
 use service_api::{Advert, AdvertRow};
 use std::alloc::Global;

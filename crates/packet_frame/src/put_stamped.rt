@@ -6,7 +6,7 @@ ghost use Rattle.packet_frame.specs.declared.frame.PlainFrame.{PlainFrame as Pla
 
 use crate::put::{put_carried, put_rows, put_way, size_of, spellable};
 use checked_chunks::CheckedPacket;
-use chunk_writer::put_name;
+use chunk_codec::put_name;
 use plan_base::{Bytes, Name, NoMemory, Stamp};
 use service_api::Advert;
 use std::alloc::Global;

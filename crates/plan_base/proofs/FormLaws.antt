@@ -3,7 +3,7 @@ use Rattle.std.proofs.Common.{◌≡◌, ◌-◌, Bool, ◌&&◌, refl, ap, sym,
 use Rattle.std.proofs.lemmas.List.{length-map, take-map}
 use Rattle.std.specs.Prelude.{map, nat_le, is_some}
 use Rattle.std.specs.List.{list_all}
-use Rattle.plan_items.proofs.Lists.{list_all-map, list_all-same}
+use Rattle.containers.proofs.Lists.{list_all-map, list_all-same}
 use Rattle.plan_base.specs.declared.tree.Ty.{Ty, Ty-F, out-Ty, map-Ty, fold_out-Ty}
 use Rattle.plan_base.specs.declared.tree.Expr.{Expr, Expr-F, out-Expr, roll-out-Expr, map-Expr, fold_out-Expr, para-roll-Expr}
 use Rattle.plan_base.specs.declared.tree.Clause.{Clause, out-Clause, roll-out-Clause, fold-Clause, fold_out-Clause, para-Clause, para-roll-Clause}

@@ -2,7 +2,7 @@
 use Rattle.std.proofs.Common.{◌≡◌, ℕ, zero, suc, ◌≤◌, ◌∙◌, sym, ap, refl, Bool, true, false, max, List, [], ◌∷◌, map, arith}
 use Rattle.std.specs.List.{fold}
 use Rattle.std.specs.Prelude.{IsTrue, ◌↔◌}
-use Rattle.plan_items.proofs.Bools.{and_left, and_right, and_both}
+use Rattle.containers.proofs.Bools.{and_left, and_right, and_both}
 use Rattle.plan_base.specs.declared.tree.Ty.{Ty, Ty-F, out-Ty, roll-Ty, roll-out-Ty, map-Ty, fold_out-Ty}
 use Rattle.plan_base.specs.Trees.{TyLayer}
 use Rattle.plan_base.specs.Sizes.{type_depth, type_depth_level}

@@ -8,7 +8,7 @@ use Rattle.std.specs.Char.{is_ascii_alphabetic}
 use Rattle.std.specs.List.{list_all, list_any}
 use Rattle.std.specs.Prelude.{codes, not, ◌==◌}
 use Rattle.std.specs.Str.{bytes_eq}
-use Rattle.plan_items.proofs.Bools.{and_left, and_right}
+use Rattle.containers.proofs.Bools.{and_left, and_right}
 use Rattle.plan_base.specs.Words.{is_word_byte, is_word, reserved_words, is_reserved, is_name, IsName}
 
 pub is_word_none : (w : List ℕ) → length w < 1 → is_word w ≡ false

@@ -1,6 +1,6 @@
 ghost use Rattle.std.specs.Prelude.{◌≡◌, ◌↔◌, IsTrue, [], ◌∷◌, ◌++◌, ◌<◌, length, get_or, IfOk, OnOk, OnErr};
 
-use crate::NoMemory;
+use crate::memory::NoMemory;
 use std::alloc::{AllocError, Global};
 use std::marker::Model;
 

@@ -6,12 +6,12 @@ use std::marker::Model;
 
 /// At most `N` bytes, which contracts see as their list. They stand at the end of `N` places.
 #[derive(Drop)]
-pub struct Letters<const N: usize> {
+pub struct InlineBytes<const N: usize> {
     all: [u8; N],
     start: usize,
 }
 
-impl<const N: usize> Model for Letters<N> {
+impl<const N: usize> Model for InlineBytes<N> {
     ghost use Rattle.std.specs.Prelude.{List, ℕ, ◌≤◌, drop};
     ghost use Rattle.std.specs.Coded.{coded_list, coded_ℕ};
 
@@ -24,13 +24,13 @@ impl<const N: usize> Model for Letters<N> {
     ghost invariant = { λ l. l.start ≤ N };
 }
 
-impl<const N: usize> Letters<N> {
+impl<const N: usize> InlineBytes<N> {
     /// No bytes.
     #[inline(always)]
-    pub fn none() -> Letters<N>
+    pub fn none() -> InlineBytes<N>
         ensures { result ≡ [] }
     {
-        Letters {
+        InlineBytes {
             all: [0; N],
             start: N,
         }
@@ -50,11 +50,11 @@ impl<const N: usize> Letters<N> {
 
     /// The bytes of a word. Condition: at most `N`.
     #[inline(always)]
-    pub fn of(word: &[u8]) -> Letters<N>
+    pub fn of(word: &[u8]) -> InlineBytes<N>
         requires { length word.now ≤ N }
         ensures { result ≡ word.now }
     {
-        let mut letters = Letters::none();
+        let mut letters = InlineBytes::none();
         letters.put(word);
         letters
     }
@@ -70,10 +70,10 @@ impl<const N: usize> Letters<N> {
 
     /// The same bytes.
     #[inline(always)]
-    pub fn copy(&self) -> Letters<N>
+    pub fn copy(&self) -> InlineBytes<N>
         ensures { result ≡ self.now }
     {
-        Letters {
+        InlineBytes {
             all: self.all,
             start: self.start,
         }

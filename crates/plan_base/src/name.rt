@@ -3,9 +3,9 @@ ghost use Rattle.std.specs.List.{list_all, list_any};
 ghost use Rattle.std.specs.Str.{bytes_eq};
 ghost use Rattle.plan_base.specs.Words.{is_word_byte, is_word, is_reserved, is_name, IsName};
 
-use crate::NoMemory;
-use crate::letters::Letters;
-use plan_items::{Items, Shared};
+use crate::letters::InlineBytes;
+use crate::memory::NoMemory;
+use containers::{Items, Shared};
 use std::alloc::{AllocError, Global};
 use std::marker::Model;
 use thiserror::Error;
@@ -15,7 +15,7 @@ use thiserror::Error;
 /// A word begins with a letter; letters, digits and `_` may follow, all of them ASCII. A copy of a name is one more owner of
 /// its bytes.
 pub struct Name {
-    bytes: Shared<Letters<32>>,
+    bytes: Shared<InlineBytes<32>>,
 }
 
 // (with a drop of its own, so that what lets a name go need not prove again how its bytes are dropped)
@@ -75,7 +75,7 @@ impl Name {
         if !is_name(bytes) {
             return Err(NameFault::BadName);
         }
-        let bytes = Shared::new(alloc, Letters::of(bytes))?;
+        let bytes = Shared::new(alloc, InlineBytes::of(bytes))?;
         Ok(Name { bytes })
     }
 
@@ -85,7 +85,7 @@ impl Name {
         requires { IsName word.now }
         ensures { IfOk result (λ n. n ≡ word.now) }
     {
-        let bytes = Shared::new(alloc, Letters::of(word))?;
+        let bytes = Shared::new(alloc, InlineBytes::of(word))?;
         Ok(Name { bytes })
     }
 

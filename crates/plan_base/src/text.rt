@@ -2,24 +2,24 @@ ghost use Rattle.std.specs.Prelude.{◌≡◌, ◌↔◌, IsTrue, [], ◌∷◌,
 ghost use Rattle.std.specs.Str.{IsUtf8};
 ghost use Rattle.plan_base.specs.Held.{held_bytes};
 
-use crate::NoMemory;
-use crate::letters::Letters;
-use plan_items::Items;
+use crate::letters::InlineBytes;
+use crate::memory::NoMemory;
+use containers::Items;
 use std::alloc::{AllocError, Global};
 use std::marker::Model;
 
 /// The bytes of a text.
 #[derive(Drop)]
-pub enum Held {
+pub enum TextRepr {
     /// At most 16, which take no memory.
-    Short(Letters<16>),
+    Short(InlineBytes<16>),
     /// Any number, in memory of their own.
     Long(Vec<u8>),
 }
 
 /// A text, which contracts see as the list of its UTF-8 bytes. A short one takes no memory.
 pub struct Text {
-    held: Held,
+    held: TextRepr,
     alloc: Global,
 }
 
@@ -46,12 +46,12 @@ impl Model for Text {
 }
 
 /// The same bytes.
-fn copied(alloc: Global, held: &Held) -> Result<Held, AllocError>
+fn copied(alloc: Global, held: &TextRepr) -> Result<TextRepr, AllocError>
     ensures { IfOk result (λ h. held_bytes h ≡ held_bytes held.now) }
 {
     match held {
-        Held::Short(few) => Ok(Held::Short(few.copy())),
-        Held::Long(all) => Ok(Held::Long(Vec::from_slice(alloc, all.as_slice())?)),
+        TextRepr::Short(few) => Ok(TextRepr::Short(few.copy())),
+        TextRepr::Long(all) => Ok(TextRepr::Long(Vec::from_slice(alloc, all.as_slice())?)),
     }
 }
 
@@ -61,7 +61,7 @@ impl Text {
         ensures { result ≡ [] }
     {
         Text {
-            held: Held::Short(Letters::none()),
+            held: TextRepr::Short(InlineBytes::none()),
             alloc,
         }
     }
@@ -72,14 +72,14 @@ impl Text {
     {
         let alloc = *v.allocator();
         if v.len() <= 16 {
-            let few = Letters::of(v.as_slice());
+            let few = InlineBytes::of(v.as_slice());
             return Text {
-                held: Held::Short(few),
+                held: TextRepr::Short(few),
                 alloc,
             };
         }
         Text {
-            held: Held::Long(v),
+            held: TextRepr::Long(v),
             alloc,
         }
     }
@@ -104,8 +104,8 @@ impl Text {
         ensures { result.now ≡ self.now }
     {
         match &self.held {
-            Held::Short(few) => few.as_slice(),
-            Held::Long(all) => all.as_slice(),
+            TextRepr::Short(few) => few.as_slice(),
+            TextRepr::Long(all) => all.as_slice(),
         }
     }
 

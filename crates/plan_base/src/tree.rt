@@ -1,5 +1,8 @@
-use crate::{Bytes, Dev, Family, Host, Name, Names, Text};
-use plan_items::{Boxed, Items, Shared};
+use crate::bytes::Bytes;
+use crate::ids::{Dev, Family, Host};
+use crate::name::{Name, Names};
+use crate::text::Text;
+use containers::{Boxed, Items, Shared};
 
 /// A list of types.
 pub type Tys = Items<Ty>;

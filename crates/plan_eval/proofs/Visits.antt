@@ -7,10 +7,10 @@ use Rattle.plan_base.specs.declared.tree.Chunk.{Chunk}
 use Rattle.plan_base.specs.declared.tree.Value.{Value}
 use Rattle.plan_base.specs.declared.tree.Ty.{Ty}
 use Rattle.plan_base.specs.declared.tree.Fun.{Fun}
-use Rattle.typing_rules.specs.TypingNames.{place_of}
-use Rattle.typing_rules.specs.TypingOrder.{fun_of}
-use Rattle.plan_items.proofs.Options.{some-same}
-use Rattle.typing_rules.specs.Typing.{IsTypedChunk, within}
+use Rattle.plan_types_spec.specs.TypingNames.{place_of}
+use Rattle.plan_types_spec.specs.TypingOrder.{fun_of}
+use Rattle.containers.proofs.Options.{some-same}
+use Rattle.plan_types_spec.specs.Typing.{IsTypedChunk, within}
 use Rattle.checked_chunks.specs.Kept.{IsCheckedChunk}
 use Rattle.service_api.specs.declared.ctx.Ctx.{Ctx}
 use Rattle.service_api.specs.Services.{ServiceState, IsGood, IsGoodValue, IsGoodChunk, IsGoodNote, AreGoodRows}

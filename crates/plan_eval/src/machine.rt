@@ -19,16 +19,16 @@ ghost use Rattle.plan_meaning.specs.Meaning.{meaning};
 
 use crate::task::{DEPTH, Task, passes_on, perform};
 use crate::top_code::top_code;
+use containers::{Items, Shared};
 use eval_direct::evaluate;
 use eval_flow::{Flow, Here, ProgramSize, Rest, size_of, stack_rest};
 use eval_steps::{Activation, Activations, Codes, Mode, expr_from};
 use plan_base::{Chunk, Exn, Program, Value};
-use plan_copies::copy_values;
-use plan_items::{Items, Shared};
+use plan_base_copy::copy_values;
 use plan_meaning::EvalStop;
 use service_api::Services;
 use std::alloc::Global;
-use visit_state::State;
+use visit_state::EvalState;
 
 /// A value came of the innermost expression, on the stack.
 fn land_value(outer: &mut Activations, top: Activation, v: Value) -> Result<Mode, EvalStop>
@@ -124,7 +124,7 @@ fn run_in<S: Services>(
     top: &Activation,
     code: &Shared<Program>,
     task: Task,
-    state: &mut State,
+    state: &mut EvalState,
     svc: &mut S,
 ) -> Result<Flow, EvalStop>
     requires open { IsSome (S.stands svc.old).begun }
@@ -175,7 +175,7 @@ fn run_top<S: Services>(
     last: &mut ProgramSize,
     top: &Activation,
     task: Task,
-    state: &mut State,
+    state: &mut EvalState,
     svc: &mut S,
 ) -> Result<Flow, EvalStop>
     requires open { IsSome (S.stands svc.old).begun }
@@ -212,7 +212,7 @@ fn begin<S: Services>(
     last: &mut ProgramSize,
     outer: &mut Activations,
     top: Activation,
-    state: &mut State,
+    state: &mut EvalState,
     svc: &mut S,
 ) -> Result<Mode, EvalStop>
     requires open { IsSome (S.stands svc.old).begun }
@@ -241,7 +241,7 @@ fn give<S: Services>(
     outer: &mut Activations,
     top: Activation,
     v: Value,
-    state: &mut State,
+    state: &mut EvalState,
     svc: &mut S,
 ) -> Result<Mode, EvalStop>
     requires open { IsSome (S.stands svc.old).begun }
@@ -276,7 +276,7 @@ fn raise<S: Services>(
     outer: &mut Activations,
     top: Activation,
     x: Exn,
-    state: &mut State,
+    state: &mut EvalState,
     svc: &mut S,
 ) -> Result<Mode, EvalStop>
     requires open { IsSome (S.stands svc.old).begun }
@@ -315,7 +315,7 @@ fn turn<S: Services>(
     outer: &mut Activations,
     top: Activation,
     how: Mode,
-    state: &mut State,
+    state: &mut EvalState,
     svc: &mut S,
 ) -> Result<Mode, EvalStop>
     requires open { IsSome (S.stands svc.old).begun }
@@ -346,7 +346,7 @@ fn run<S: Services>(
     first: ProgramSize,
     activations: Activations,
     start: Mode,
-    state: &mut State,
+    state: &mut EvalState,
     svc: &mut S,
 ) -> Result<Value, EvalStop>
     requires open { IsSome (S.stands svc.old).begun }
@@ -433,7 +433,7 @@ fn run_first<S: Services>(
     size: u64,
     chunk: &Chunk,
     fun: usize,
-    state: &mut State,
+    state: &mut EvalState,
     svc: &mut S,
 ) -> Result<Flow, EvalStop>
     requires open { IsSome (S.stands svc.old).begun }
@@ -477,7 +477,7 @@ pub fn run_from<S: Services>(
     first: ProgramSize,
     chunk: &Chunk,
     fun: usize,
-    state: &mut State,
+    state: &mut EvalState,
     svc: &mut S,
 ) -> Result<Value, EvalStop>
     requires open { IsSome (S.stands svc.old).begun }

@@ -15,7 +15,7 @@ use plan_base::{Exn, Expr, Value};
 use plan_meaning::EvalStop;
 use service_api::Services;
 use std::alloc::Global;
-use visit_state::State;
+use visit_state::EvalState;
 
 /// How many levels of evaluation stand on the native stack at once.
 pub const DEPTH: u64 = 256;
@@ -49,7 +49,7 @@ fn give<S: Services>(
     e: &Expr,
     frame: StackFrame,
     v: Value,
-    state: &mut State,
+    state: &mut EvalState,
     svc: &mut S,
 ) -> Result<Flow, EvalStop>
     requires open { IsSome (S.stands svc.old).begun }
@@ -79,7 +79,7 @@ fn raise<S: Services>(
     e: &Expr,
     frame: &StackFrame,
     x: Exn,
-    state: &mut State,
+    state: &mut EvalState,
     svc: &mut S,
 ) -> Result<Flow, EvalStop>
     requires open { IsSome (S.stands svc.old).begun }
@@ -108,7 +108,7 @@ pub fn perform<S: Services>(
     here: &Here<'_>,
     e: &Expr,
     task: Task,
-    state: &mut State,
+    state: &mut EvalState,
     svc: &mut S,
 ) -> Result<Flow, EvalStop>
     requires open { IsSome (S.stands svc.old).begun }

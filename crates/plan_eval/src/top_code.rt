@@ -4,9 +4,9 @@ ghost use Rattle.plan_meaning.specs.declared.stop.EvalStop.TheVariants.{NoMemory
 ghost use Rattle.plan_eval.specs.declared.task.Task.{Task};
 ghost use Rattle.plan_eval.specs.Tasks.{Performs};
 
+use containers::Shared;
 use eval_steps::{Activation, Codes};
 use plan_base::Program;
-use plan_items::Shared;
 use plan_meaning::EvalStop;
 
 /// The program of an activation.

@@ -1,7 +1,7 @@
 //! The visit of a packet.
 ghost use Rattle.std.specs.Prelude.{◌≡◌, ◌↔◌, ◌+◌, ◌≤◌, ◌∷◌, [], length, All, IfOk, OnOk, IsSome, Some, min};
 ghost use Rattle.plan_base.specs.declared.tree.Fun.{Fun as AFun};
-ghost use Rattle.typing_rules.specs.TypingOrder.{fun_of};
+ghost use Rattle.plan_types_spec.specs.TypingOrder.{fun_of};
 ghost use Rattle.service_api.specs.Services.{AreGoodRows, IsGoodChunk};
 ghost use Rattle.plan_base.specs.Sizes.{code_size};
 ghost use Rattle.plan_meaning.specs.Visit.{IsVisit, IsGoodEnd, NoteHasTypes, allowance, bounds, spent_visit};
@@ -14,15 +14,15 @@ ghost use Rattle.visit_state.specs.Meets.{Meets};
 
 use crate::machine::run_from;
 use checked_chunks::CheckedPacket;
+use containers::Items;
 use eval_flow::{ProgramSize, enters};
 use eval_steps::Codes;
 use plan_base::{Chunk, Family, NoMemory, Value};
-use plan_items::Items;
 use plan_meaning::{EvalStop, Outcome, Visit};
+use plan_types_spec::place_of;
 use service_api::{Ctx, Services};
 use std::alloc::Global;
-use typing_rules::place_of;
-use visit_state::{ALLOWANCE, State};
+use visit_state::{ALLOWANCE, EvalState};
 
 /// A visit that has no effect at all.
 fn visit_without_effect(alloc: Global, bound: u32) -> Visit
@@ -52,7 +52,7 @@ fn run_chunk<S: Services>(
     alloc: Global,
     chunk: &Chunk,
     size: u64,
-    state: &mut State,
+    state: &mut EvalState,
     svc: &mut S,
 ) -> Result<Value, EvalStop>
     requires size { size ≡ min (code_size chunk.now.code) 18446744073709551615 }
@@ -99,7 +99,7 @@ fn visit_chunk<S: Services>(
     ensures begun { (S.stands svc.new).begun ≡ (S.stands svc.old).begun }
 {
     let around = ctx.copy(alloc)?;
-    let mut state = State::new(alloc, around, family, ALLOWANCE);
+    let mut state = EvalState::new(alloc, around, family, ALLOWANCE);
     match run_chunk(alloc, chunk, size, &mut state, svc) {
         Ok(v) => Ok(state.into_visit(Outcome::Value(v))),
         Err(EvalStop::Raised(x)) => Ok(state.into_visit(Outcome::Raised(x))),

@@ -3,7 +3,7 @@ use Rattle.std.proofs.Common.{◌≡◌, ℕ, suc, ◌+◌, ◌<◌, ◌≤◌, 
 use Rattle.std.proofs.lemmas.Bool.Decides.{nat_tests}
 use Rattle.std.specs.Char.{is_ascii_digit}
 use Rattle.std.specs.List.{list_all, prefix_len}
-use Rattle.plan_items.proofs.Bools.{and_left, and_right}
+use Rattle.containers.proofs.Bools.{and_left, and_right}
 use Rattle.plan_base.specs.Words.{is_word_byte, is_word}
 use Rattle.plan_lexer.specs.Faults.{◌>>=◌}
 use Rattle.plan_lexer.specs.Numerals.{digits_len, number_of, number_at, number_behind}

@@ -9,10 +9,10 @@ use Rattle.std.specs.Fmt.{decimal}
 use Rattle.std.specs.List.{list_all, flat_map}
 use Rattle.std.specs.Str.{IsUtf8}
 use lib.Utf8.{encode, encodes, scalar, scalars}
-use Rattle.plan_items.proofs.Bools.{and_left, and_right}
+use Rattle.containers.proofs.Bools.{and_left, and_right}
 use Rattle.plan_lexer.specs.CharItems.{hex_value, escaped_character}
 use Rattle.plan_lexer.specs.Numerals.{number_from, number_of}
-use Rattle.printed_forms.specs.Literals.{int_text, host_text, dev_text, part_text, hex_digit, hex_pair, byte_text, string_text, char_text, blob_text}
+use Rattle.plan_printer_spec.specs.Literals.{int_text, host_text, dev_text, part_text, hex_digit, hex_pair, byte_text, string_text, char_text, blob_text}
 use Rattle.plan_lexer.specs.TokenForms.{IsDigits, SpellsItem, plain, wide, letter, digits, SpellsItems, no_items, an_item, SpellsPairs, no_pairs, a_pair, Spells, int, negative, host, dev, part, char, string, blob}
 use Rattle.plan_lexer.proofs.WordLemmas.{and_both}
 use Rattle.plan_lexer.specs.declared.token.TokenKind.TheVariants as kind

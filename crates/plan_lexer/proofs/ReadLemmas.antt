@@ -5,7 +5,7 @@ use Rattle.std.proofs.lemmas.Str.{length-encode, len_utf8_bounds}
 use Rattle.std.specs.Char.{is_ascii_digit}
 use Rattle.std.specs.List.{list_all, prefix_len}
 use lib.Utf8.{encode}
-use Rattle.plan_items.proofs.Bools.{and_left, and_right}
+use Rattle.containers.proofs.Bools.{and_left, and_right}
 use Rattle.plan_lexer.specs.CharItems.{item_at, hex_value}
 use Rattle.plan_lexer.specs.Quoted.{with_front, string_from, char_at, char_by}
 use Rattle.plan_lexer.specs.Hexed.{blob_from}

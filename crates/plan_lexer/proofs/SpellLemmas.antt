@@ -3,7 +3,7 @@ use Rattle.std.proofs.Common.{◌≡◌, ◌≢◌, ℕ, suc, ◌+◌, ◌^◌, 
 use Rattle.std.proofs.lemmas.Bool.Decides.{nat_tests}
 use Rattle.std.specs.Char.{is_ascii_digit, is_ascii_alphabetic}
 use Rattle.std.specs.List.{list_all}
-use Rattle.plan_items.proofs.Bools.{and_left, and_right}
+use Rattle.containers.proofs.Bools.{and_left, and_right}
 use Rattle.plan_base.specs.Words.{is_word_byte, is_word, is_name, IsName, is_reserved}
 use Rattle.plan_base.proofs.WordLaws.{is_word_cons, is_word_none}
 use Rattle.plan_lexer.specs.Quoted.{string_at}

@@ -1,7 +1,7 @@
 ghost use Rattle.std.specs.Prelude.{◌≡◌, ℕ, ◌+◌, ◌^◌, ◌≤◌, ◌<◌, ◌&&◌, ◌==◌, length, get_or, IfOk};
 ghost use Rattle.plan_lexer.specs.Gaps.{is_blank, left_by, opens, closes, comment_at, gap_at};
 
-use crate::LexFault;
+use crate::fault::LexFault;
 use crate::text::byte_at;
 
 /// What stands before a byte of a comment, as far as it may open or close one.

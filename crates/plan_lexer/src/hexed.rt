@@ -4,7 +4,7 @@ ghost use Rattle.plan_lexer.specs.CharItems.{pair_value};
 ghost use Rattle.plan_lexer.specs.Quoted.{with_front};
 ghost use Rattle.plan_lexer.specs.Hexed.{blob_from, blob_at, IsFront};
 
-use crate::LexFault;
+use crate::fault::LexFault;
 use crate::item::hex_value;
 use crate::text::after;
 use memchr::memchr;

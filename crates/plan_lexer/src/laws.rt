@@ -4,7 +4,7 @@ ghost use Rattle.std.specs.Char.{IsScalar};
 ghost use Rattle.std.specs.Str.{IsUtf8};
 ghost use Rattle.plan_lexer.specs.Scanning.{token_at, Toks, Refuses, IsAnswered};
 ghost use Rattle.plan_lexer.specs.TokenForms.{Spells, EndsBefore, HasForm, IsFront};
-ghost use Rattle.printed_forms.specs.Literals.{int_text, host_text, dev_text, part_text, char_text, string_text, blob_text};
+ghost use Rattle.plan_printer_spec.specs.Literals.{int_text, host_text, dev_text, part_text, char_text, string_text, blob_text};
 ghost use Rattle.plan_lexer.specs.declared.fault.LexFault.{LexFault};
 ghost use Rattle.plan_lexer.specs.declared.fault.LexFault.TheVariants as fault;
 ghost use Rattle.plan_lexer.specs.declared.token.Token.{Token};

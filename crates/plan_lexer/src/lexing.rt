@@ -3,9 +3,10 @@ ghost use Rattle.plan_lexer.specs.Scanning.{Toks, Refuses, with_move};
 ghost use Rattle.plan_lexer.specs.TokenRules.{AreTokens};
 ghost use Rattle.plan_lexer.specs.declared.token.Token.{Token};
 
+use crate::fault::LexFault;
 use crate::scan::move_at;
 use crate::text::after;
-use crate::{LexFault, Token, TokenKind, Tokens};
+use crate::token::{Token, TokenKind, Tokens};
 use std::alloc::{AllocError, Global};
 
 /// No tokens yet, with room for those of most arguments.

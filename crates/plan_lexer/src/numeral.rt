@@ -2,7 +2,7 @@ ghost use Rattle.std.specs.Prelude.{◌≡◌, ℕ, ◌+◌, ◌-◌, ◌*◌, �
 ghost use Rattle.std.specs.Char.{is_ascii_digit};
 ghost use Rattle.plan_lexer.specs.Numerals.{number_of, digits_len, number_at, number_behind};
 
-use crate::LexFault;
+use crate::fault::LexFault;
 
 /// How many digits a text begins with.
 fn digits(text: &[u8]) -> usize

@@ -2,7 +2,7 @@ ghost use Rattle.std.specs.Prelude.{◌≡◌, ℕ, ◌+◌, ◌^◌, ◌≤◌,
 ghost use Rattle.plan_lexer.specs.Faults.{Gives};
 ghost use Rattle.plan_lexer.specs.Quoted.{string_at, char_at};
 
-use crate::LexFault;
+use crate::fault::LexFault;
 use crate::item::{CharItem, item_at};
 use crate::text::byte_at;
 use plan_base::Text;

@@ -4,14 +4,15 @@ ghost use Rattle.plan_lexer.specs.Faults.{Gives};
 ghost use Rattle.plan_lexer.specs.Scanning.{int_at, negative_at, host_at, dev_at, part_at, hash_at, symbol_by, signed_at, token_at, move_at};
 ghost use Rattle.plan_lexer.specs.Tables.{symbol_at};
 
+use crate::fault::LexFault;
 use crate::gap::gap_at;
 use crate::hexed::blob_at;
 use crate::numeral::{number_at, number_behind};
 use crate::quoted::{char_at, string_at};
 use crate::tables::symbol_at;
 use crate::text::byte_at;
+use crate::token::TokenKind;
 use crate::word::word_at;
-use crate::{LexFault, TokenKind};
 use std::alloc::Global;
 
 /// The number that a text at `at` begins with.

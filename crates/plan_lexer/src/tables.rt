@@ -2,7 +2,7 @@ ghost use Rattle.std.specs.Prelude.{◌≡◌, ◌≤◌, length, IfSome};
 ghost use Rattle.plan_lexer.specs.Tables.{key_text, key_of, symbol_text, symbol_at, single, symbol_of};
 
 use crate::text::byte_at;
-use crate::{Key, Symbol};
+use crate::token::{Key, Symbol};
 
 impl Key {
     /// The reserved word.

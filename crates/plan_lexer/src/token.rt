@@ -1,5 +1,5 @@
+use containers::Items;
 use plan_base::{Bytes, Name, Text};
-use plan_items::Items;
 
 /// A reserved word.
 #[derive(Clone, Copy, PartialEq, Eq)]

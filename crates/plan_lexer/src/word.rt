@@ -4,8 +4,9 @@ ghost use Rattle.plan_lexer.specs.Faults.{Gives};
 ghost use Rattle.plan_lexer.specs.WordTokens.{word_len, word_kind, word_at};
 ghost use Rattle.plan_base.specs.Words.{is_word_byte, is_word};
 
+use crate::fault::LexFault;
 use crate::tables::key_of;
-use crate::{LexFault, TokenKind};
+use crate::token::TokenKind;
 use plan_base::Name;
 use std::alloc::Global;
 

@@ -12,7 +12,7 @@ use Rattle.plan_meaning.specs.declared.outcome.Visit.{Visit}
 use Rattle.plan_meaning.specs.State.{VisitState}
 use Rattle.plan_meaning.specs.Run.{After, gave, stopped, RunStep}
 use Rattle.plan_meaning.specs.Safe.{IsGoodState}
-use Rattle.plan_meaning.specs.Visit.{IsVisit, Ends, begun_state, ended_visit, spent_visit}
+use Rattle.plan_meaning.specs.Visit.{IsVisit, Ends, begun_state, ended_visit}
 use Rattle.service_api.specs.Services.{IsGoodChunk}
 use Rattle.plan_meaning.specs.Laws.{IsSpent, more, after_more, with_allowance, VisitEnds, VisitsAlike, NoneSuffices}
 use Rattle.plan_meaning.proofs.Halting.{more_lasts}

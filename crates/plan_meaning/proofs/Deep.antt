@@ -2,7 +2,7 @@
 use Rattle.std.proofs.Common.{◌≡◌, ℕ, ◌<◌, sym, subst}
 use Rattle.plan_base.specs.declared.tree.Chunk.{Chunk}
 use Rattle.plan_base.specs.declared.tree.Value.{Value}
-use Rattle.typing_rules.specs.Typing.{IsTypedChunk, within}
+use Rattle.plan_types_spec.specs.Typing.{IsTypedChunk, within}
 use Rattle.plan_base.specs.WellFormed.{IsWellFormedChunk}
 use Rattle.service_api.specs.Services.{IsGoodChunk}
 use Rattle.plan_meaning.specs.State.{VisitState}

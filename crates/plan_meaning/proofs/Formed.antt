@@ -18,8 +18,8 @@ use Rattle.plan_base.specs.Sizes.{weight, weight_level, chunk_weight, nesting, c
 use Rattle.plan_base.proofs.SizeLaws.{weight_out, value_depth_out, type_depth_out, chunk_nesting_is}
 use Rattle.plan_base.specs.WellFormed.{has_from_to, formed_type, well_formed_type, well_formed_svc, well_formed_fun, formed_expr, formed_expr_level, well_formed_expr, formed_value, formed_value_level, formed_chunk, well_formed_text, well_formed_value, well_formed_chunk, well_formed_program, IsWellFormedValue, IsWellFormedChunk}
 use Rattle.plan_base.proofs.FormLaws.{formed_value_out, formed_chunk_is, formed_expr_out}
-use Rattle.typing_rules.specs.Typing.{IsSmall, HasType, unit, bool, int, char, str, blob, host, dev, list, tuple, chunk, HaveTypes, and_value, AllHaveType, and_item}
-use Rattle.plan_items.proofs.Bools.{and_left, and_right, and_both}
+use Rattle.plan_types_spec.specs.Typing.{IsSmall, HasType, unit, bool, int, char, str, blob, host, dev, list, tuple, chunk, HaveTypes, and_value, AllHaveType, and_item}
+use Rattle.containers.proofs.Bools.{and_left, and_right, and_both}
 use Rattle.plan_meaning.proofs.Totals.{largest_within, largest_bounds, count_within}
 
 -- ---- tests that hold together

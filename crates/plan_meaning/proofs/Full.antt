@@ -7,10 +7,10 @@ use Rattle.plan_base.specs.declared.tree.Chunk.{Chunk}
 use Rattle.plan_base.specs.Trees.{ValueLayer}
 use Rattle.plan_base.specs.WellFormed.{typed_value_level, program_has_types, value_has_types, chunk_has_types}
 use Rattle.plan_base.proofs.FormLaws.{value_has_types_out, chunk_has_types_is}
-use Rattle.typing_rules.specs.Typing.{HasType, HaveTypes, AllHaveType, IsTypedChunk}
-use Rattle.typing_rules.specs.Typing as y
+use Rattle.plan_types_spec.specs.Typing.{HasType, HaveTypes, AllHaveType, IsTypedChunk}
+use Rattle.plan_types_spec.specs.Typing as y
 use Rattle.checked_chunks.proofs.Whole.{program_whole}
-use Rattle.plan_items.proofs.Bools.{and_both}
+use Rattle.containers.proofs.Bools.{and_both}
 
 holds_all : (v : Value) (l : ValueLayer) → out-Value v ≡ l → typed_value_level value_has_types chunk_has_types l ≡ true → value_has_types v ≡ true
 holds_all v l o h = value_has_types_out v ∙ (ap (typed_value_level value_has_types chunk_has_types) o ∙ h)

@@ -11,8 +11,8 @@ use Rattle.plan_base.specs.declared.tree.Svc.{Svc}
 use Rattle.plan_base.specs.declared.tree.Value.{Value}
 use Rattle.plan_base.specs.declared.tree.Chunk.{Chunk}
 use Rattle.plan_base.specs.Sizes.{weight}
-use Rattle.typing_rules.specs.Rules.{Given, gives, raises, unfit, too_large}
-use Rattle.typing_rules.specs.Typed.{Fits}
+use Rattle.plan_types_spec.specs.Rules.{Given, gives, raises, unfit, too_large}
+use Rattle.plan_types_spec.specs.Typed.{Fits}
 use Rattle.service_api.specs.declared.answer.Answer.{Answer}
 use Rattle.service_api.specs.declared.answer.Answer.TheVariants.{Gives, Raises}
 use Rattle.service_api.specs.declared.router.Hop.{Hop}

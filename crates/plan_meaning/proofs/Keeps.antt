@@ -18,16 +18,16 @@ use Rattle.plan_base.specs.Trees.{ValueLayer}
 use Rattle.plan_base.specs.Sizes.{weight, weight_level, chunk_weight, value_depth}
 use Rattle.plan_base.proofs.SizeLaws.{weight_out}
 use Rattle.plan_base.specs.WellFormed.{well_formed_text}
-use Rattle.typing_rules.specs.Typing.{IsSmall, HasType}
-use Rattle.typing_rules.specs.TypingNames.{of_list, takes, makes, kind_of, joining, listing, is_joined, is_joined_at}
-use Rattle.typing_rules.specs.Rules as rules
-use Rattle.typing_rules.specs.Rules.{Given, gives, raises, unfit, limited_value, joined_values, put_first, binary, found_value, part, first_item, later_items, of_one, primitive, printed_int, printed_host, too_large}
-use Rattle.plan_items.proofs.Bools.{and_both, and_left}
-use Rattle.typing_rules.proofs.Fitting.{list_shape}
-use Rattle.typing_rules.proofs.Shapes.{Shape, shape_of, shape_at}
+use Rattle.plan_types_spec.specs.Typing.{IsSmall, HasType}
+use Rattle.plan_types_spec.specs.TypingNames.{of_list, takes, makes, kind_of, joining, listing, is_joined, is_joined_at}
+use Rattle.plan_types_spec.specs.Rules as rules
+use Rattle.plan_types_spec.specs.Rules.{Given, gives, raises, unfit, limited_value, joined_values, put_first, binary, found_value, part, first_item, later_items, of_one, primitive, printed_int, printed_host, too_large}
+use Rattle.containers.proofs.Bools.{and_both, and_left}
+use Rattle.plan_types_spec.proofs.Fitting.{list_shape}
+use Rattle.plan_types_spec.proofs.Shapes.{Shape, shape_of, shape_at}
 use Rattle.plan_meaning.proofs.Totals.{largest_within, largest_bounds}
 use Rattle.plan_meaning.proofs.Formed.{at_most, IsFormed, AllFormed, shapes, shape_level, depth_level, a_unit, a_bool, an_int, a_host, a_dev, a_str, a_list, small_blob, small_list, items_formed, items_type, parts_formed}
-use Rattle.typing_rules.specs.Typed.{Fits}
+use Rattle.plan_types_spec.specs.Typed.{Fits}
 
 -- a value that is well formed where it is small, or no value
 abbrev pub Keeps : Given → Type 0

@@ -12,8 +12,7 @@ use Rattle.plan_base.specs.declared.tree.Svc.{Svc}
 use Rattle.plan_base.specs.declared.tree.Value.{Value}
 use Rattle.plan_base.specs.declared.tree.Chunk.{Chunk}
 use Rattle.plan_base.specs.Sizes.{weight, nesting}
-use Rattle.typing_rules.specs.Typing.{IsSmall, HasType}
-use Rattle.typing_rules.specs.Rules.{Given, too_large}
+use Rattle.plan_types_spec.specs.Typing.{IsSmall, HasType}
 use Rattle.service_api.specs.declared.answer.Note.{Note}
 use Rattle.service_api.specs.declared.answer.Answer.{Answer}
 use Rattle.service_api.specs.declared.answer.Answer.TheVariants.{Gives, Raises}
@@ -23,12 +22,10 @@ use Rattle.service_api.specs.Routes.{hop, default_route}
 use Rattle.service_api.specs.Services.{Served, served_call, called_services, IsGoodValue, IsGoodChunk, AreGoodValues, IsGoodAnswer, IsGoodServed, IsGoodNote, IsGoodOptionNote, AreGoodRows}
 use Rattle.plan_meaning.specs.declared.stop.EvalStop.TheVariants.{Raised, WorkSpent, Wrong, NoMemory}
 use Rattle.plan_meaning.specs.State.{VisitState}
-use Rattle.plan_meaning.specs.Run.{After, gave, stopped, RunStep, Run, «next», ◌>>=◌, ◌>>◌, pure, stop, raise, or_wrong, given_value, otherwise, rescue, spend, is_too_large, serve, answered_call, notes_after}
+use Rattle.plan_meaning.specs.Run.{After, gave, stopped, RunStep, pure, raise, spend, is_too_large, serve, answered_call, notes_after}
 use Rattle.plan_meaning.specs.Meaning.{no_bound, is_paid, bound_of, sent_packet, sent_by, send_remote, is_next, not_neighbour, send_neighbour}
 use Rattle.plan_meaning.specs.Safe.{AreGoodNotes, IsGoodSent, IsGoodState, Holds, IsRight, Yields}
 use Rattle.plan_meaning.proofs.Formed.{IsFormed, well_formed}
-use Rattle.typing_rules.specs.Typed.{Fits}
-use Rattle.plan_meaning.proofs.Keeps.{Keeps}
 
 pub raised_not_wrong : (x : Exn) → Raised x ≢ Wrong
 raised_not_wrong x e = cc

@@ -8,7 +8,7 @@ use Rattle.std.specs.Str.{bytes_eq}
 use Rattle.std.proofs.lemmas.List.{append-nil, reverse-append, length-take}
 use Rattle.std.proofs.lemmas.Bool.{leb-true}
 use Rattle.std.proofs.lemmas.Bool.Decides.{nat_tests}
-use Rattle.plan_items.proofs.Options.{none-some, some-same}
+use Rattle.containers.proofs.Options.{none-some, some-same}
 use Rattle.plan_base.specs.declared.name.Name.{Name}
 use Rattle.plan_base.specs.declared.ids.Host.{Host}
 use Rattle.plan_base.specs.declared.ids.Dev.{Dev}
@@ -29,28 +29,28 @@ use Rattle.plan_base.specs.declared.tree.Chunk.{Chunk}
 use Rattle.plan_base.specs.Trees.{ExprLayer}
 use Rattle.plan_base.specs.Sizes.{weight, weight_level, chunk_weight, nesting, nesting_level, chunk_nesting, largest_by}
 use Rattle.plan_base.proofs.SizeLaws.{weight_out, nesting_out, chunk_weight_is, chunk_nesting_is}
-use Rattle.typing_rules.specs.Typing.{IsSmall, literal_type, HasTy, literal, variable, empty, raising, tuple, part, of_items, primitive, serving, call, choice, binder, sequence, both, either, negation, calculation, join, comparison, order, prefix, handling, fold_left, fold_right, packing, evaluation, remote, neighbour, HaveTys, no_parts, and_part, ClausesHaveTy, no_clauses, and_clause, Typed, HasType, unit, bool, int, char, str, blob, host, dev, list, chunk, HaveTypes, no_values, and_value, AllHaveType, no_items, and_item, IsTypedChunk, within, IsShallow}
+use Rattle.plan_types_spec.specs.Typing.{IsSmall, literal_type, HasTy, literal, variable, empty, raising, tuple, part, of_items, primitive, serving, call, choice, binder, sequence, both, either, negation, calculation, join, comparison, order, prefix, handling, fold_left, fold_right, packing, evaluation, remote, neighbour, HaveTys, no_parts, and_part, ClausesHaveTy, no_clauses, and_clause, Typed, HasType, unit, bool, int, char, str, blob, host, dev, list, chunk, HaveTypes, no_values, and_value, AllHaveType, no_items, and_item, IsTypedChunk, within, IsShallow}
 use Rattle.plan_base.specs.WellFormed.{has_from_to, names_all_but_last, well_formed_type, formed_expr, formed_chunk, well_formed_program, IsWellFormedProgram, IsWellFormedExpr}
-use Rattle.typing_rules.specs.Typing as typing
-use Rattle.typing_rules.specs.TypingNames.{place_of, service_of, prim_of, binding, param_types, part_of, of_list, makes}
-use Rattle.typing_rules.specs.Rules as rules
+use Rattle.plan_types_spec.specs.Typing as typing
+use Rattle.plan_types_spec.specs.TypingNames.{place_of, service_of, prim_of, binding, param_types, part_of, of_list, makes}
+use Rattle.plan_types_spec.specs.Rules as rules
 use Rattle.service_api.specs.Services.{IsGoodChunk, AreGoodValues}
 use Rattle.plan_meaning.specs.State.{VisitState}
 use Rattle.plan_meaning.specs.Run.{Run, ◌>>◌, pure}
 use Rattle.plan_meaning.specs.Meaning as m
-use Rattle.plan_meaning.specs.Meaning.{Env, Runs, as_bool, bool_at, as_int, int_at, as_host, host_at, as_dev, dev_at, as_chunk, chunk_at, as_items, items_at, value_of, value_if, bound_behind, bound, values_behind, values, entered_function, applied_at, applied_function, served_or, called_by, called_name, left_along, right_along, handled_exception, visited_chunk, opened_at, opened_expression, node, meaning, catches}
+use Rattle.plan_meaning.specs.Meaning.{Env, as_bool, bool_at, as_int, int_at, as_host, host_at, as_dev, dev_at, as_chunk, chunk_at, as_items, items_at, value_of, bound_behind, bound, values_behind, values, entered_function, applied_at, applied_function, served_or, called_by, called_name, left_along, right_along, handled_exception, visited_chunk, opened_at, opened_expression, node, meaning, catches}
 use Rattle.plan_meaning.specs.Safe.{HasEnv, IsGoodState, Yields}
-use Rattle.plan_items.proofs.Bools.{and_left, and_right, both_true}
-use Rattle.typing_rules.proofs.Shapes.{shape_at}
+use Rattle.containers.proofs.Bools.{and_left, and_right, both_true}
+use Rattle.plan_types_spec.proofs.Shapes.{shape_at}
 use Rattle.plan_meaning.proofs.Totals.{sum_bounds, largest_bounds}
 use Rattle.plan_meaning.proofs.Formed as form
-use Rattle.plan_meaning.proofs.Formed.{IsFormed, AllFormed, FormedLevel, formed_of, well_formed, level_formed, items_formed}
+use Rattle.plan_meaning.proofs.Formed.{AllFormed, FormedLevel, formed_of, well_formed, level_formed, items_formed}
 use Rattle.plan_meaning.proofs.Keeps as keeps
 use Rattle.plan_meaning.proofs.Keeps.{Keeps}
-use Rattle.typing_rules.specs.Typed.{Fits}
-use Rattle.typing_rules.proofs.Fitting as given
+use Rattle.plan_types_spec.specs.Typed.{Fits}
+use Rattle.plan_types_spec.proofs.Fitting as given
 use Rattle.plan_meaning.proofs.Right.{Good, Mild}
-use Rattle.plan_meaning.proofs.Halting.{Halts, HaltsAt, Inv, pure_halts, raise_halts, known_halts, cond_halts, mild_halts, then_halts, known_then_halts, rescue_halts, given_halts, whole_halts, paid_halts, remote_halts, neighbour_halts, serve_halts}
+use Rattle.plan_meaning.proofs.Halting.{Halts, Inv, pure_halts, raise_halts, known_halts, cond_halts, mild_halts, then_halts, known_then_halts, rescue_halts, given_halts, whole_halts, paid_halts, remote_halts, neighbour_halts, serve_halts}
 use Rattle.plan_meaning.proofs.Within.{meaning_is_fixed}
 use Rattle.plan_meaning.specs.Laws.{EndsFrom}
 

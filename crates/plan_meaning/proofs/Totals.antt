@@ -1,7 +1,7 @@
 -- Sums and greatest numbers of lists, and sizes of values.
 use Rattle.std.proofs.Common.{ℕ, ◌+◌, ◌≤◌, max, List, [], ◌∷◌, length, arith}
 use Rattle.std.specs.List.{fold, sum_by}
-use Rattle.plan_items.proofs.Lists.{sum_from, largest_from}
+use Rattle.containers.proofs.Lists.{sum_from, largest_from}
 use Rattle.plan_base.specs.declared.tree.Value.{Value, Value-F, out-Value}
 use Rattle.plan_base.specs.Trees.{ValueLayer}
 use Rattle.plan_base.specs.Sizes.{weight, weight_level, chunk_weight, largest_by}

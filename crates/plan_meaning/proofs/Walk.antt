@@ -15,9 +15,9 @@ use Rattle.plan_base.specs.declared.tree.Program.{Program}
 use Rattle.plan_base.specs.declared.tree.Value.{Value}
 use Rattle.plan_base.specs.declared.tree.Chunk.{Chunk}
 use Rattle.plan_base.specs.Trees.{ExprLayer}
-use Rattle.typing_rules.specs.TypingNames.{place_of, service_of, prim_of}
+use Rattle.plan_types_spec.specs.TypingNames.{place_of, service_of, prim_of}
 use Rattle.plan_base.specs.Sizes.{weight}
-use Rattle.typing_rules.specs.Rules.{Given, gives, raises, unfit, too_large, binary, part, primitive}
+use Rattle.plan_types_spec.specs.Rules.{Given, gives, raises, unfit, too_large, binary, part, primitive}
 use Rattle.plan_meaning.specs.declared.stop.EvalStop.{EvalStop}
 use Rattle.plan_meaning.specs.declared.stop.EvalStop.TheVariants.{Raised, WorkSpent}
 use Rattle.plan_meaning.specs.Run.{RunStep, Run, ◌>>=◌, pure, stop, wrong, or_wrong, given_value, rescue, spend, weighed_value, is_too_large, whole, serve}

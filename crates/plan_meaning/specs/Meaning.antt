@@ -19,11 +19,11 @@ use Rattle.plan_base.specs.declared.tree.Value as value
 use Rattle.plan_base.specs.declared.tree.Chunk.{Chunk}
 use Rattle.plan_base.specs.declared.tree.Packet.{Packet}
 use Rattle.plan_base.specs.Trees.{ExprLayer, ValueLayer}
-use Rattle.typing_rules.specs.TypingNames.{place_of, service_of, prim_of}
-use Rattle.typing_rules.specs.Rules.{binary, part, primitive, exception, no_service}
+use Rattle.plan_types_spec.specs.TypingNames.{place_of, service_of, prim_of}
+use Rattle.plan_types_spec.specs.Rules.{binary, part, primitive, exception, no_service}
 use Rattle.service_api.specs.declared.router.Hop.{Hop}
 use Rattle.service_api.specs.declared.router.Hop.TheVariants.{To, NoService, NoRoute}
-use Rattle.service_api.specs.Routes.{hop, own_device, default_route}
+use Rattle.service_api.specs.Routes.{hop, default_route}
 use Rattle.plan_meaning.specs.declared.binding.Binding.{Binding}
 use Rattle.plan_meaning.specs.declared.stop.EvalStop.TheVariants.{WorkSpent}
 use Rattle.plan_meaning.specs.State.{VisitState}

@@ -5,11 +5,11 @@ use Rattle.plan_base.specs.declared.tree.Exn.{Exn}
 use Rattle.plan_base.specs.declared.tree.Svc.{Svc}
 use Rattle.plan_base.specs.declared.tree.Value.{Value}
 use Rattle.plan_base.specs.Sizes.{weight, nesting}
-use Rattle.typing_rules.specs.Rules.{Given, gives, raises, unfit, too_large}
+use Rattle.plan_types_spec.specs.Rules.{Given, gives, raises, unfit, too_large}
 use Rattle.service_api.specs.declared.answer.Note.{Note}
 use Rattle.service_api.specs.declared.answer.Answer.{Answer}
 use Rattle.service_api.specs.declared.answer.Answer.TheVariants.{Gives, Raises}
-use Rattle.service_api.specs.Services.{Served, ServiceState, served_call, called_services}
+use Rattle.service_api.specs.Services.{Served, served_call, called_services}
 use Rattle.plan_meaning.specs.declared.stop.EvalStop.{EvalStop}
 use Rattle.plan_meaning.specs.declared.stop.EvalStop.TheVariants.{Raised, WorkSpent, Wrong}
 use Rattle.plan_meaning.specs.State.{VisitState}

@@ -1,5 +1,5 @@
+use containers::Items;
 use plan_base::{Name, Value};
-use plan_items::Items;
 
 /// A name with the value that it is bound to.
 #[derive(Drop)]

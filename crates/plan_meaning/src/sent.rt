@@ -1,6 +1,6 @@
 use checked_chunks::CheckedPacket;
+use containers::Items;
 use plan_base::Dev;
-use plan_items::Items;
 
 /// A packet that a visit sends, with the device that it leaves by.
 #[derive(Drop)]

@@ -6,9 +6,9 @@ use Rattle.plan_lexer.proofs.ScanLemmas.{Toks-unique, refused_only}
 use Rattle.plan_lexer.specs.declared.token.Token.{Token}
 use Rattle.plan_lexer.specs.declared.fault.LexFault.{LexFault}
 use Rattle.plan_lexer.specs.declared.fault.LexFault.TheVariants as lexing
-use Rattle.plan_grammar.specs.declared.fault.ParseFault.{ParseFault}
-use Rattle.plan_grammar.specs.declared.fault.ParseFault.TheVariants.{Expected, TooDeep, TooMany, NoMemory}
-use Rattle.plan_grammar.specs.Ahead.{Answers}
+use Rattle.plan_parser_exprs.specs.declared.fault.ParseFault.{ParseFault}
+use Rattle.plan_parser_exprs.specs.declared.fault.ParseFault.TheVariants.{Expected, TooDeep, TooMany, NoMemory}
+use Rattle.plan_parser_exprs.specs.Ahead.{Answers}
 use Rattle.plan_parser.specs.declared.value_fault.ValueFault.{ValueFault}
 use Rattle.plan_parser.specs.declared.value_fault.ValueFault.TheVariants as faults
 use Rattle.plan_parser.specs.ReadTexts.{Reads, by_tokens, by_reading, Fails, no_tokens, no_value}

@@ -2,12 +2,12 @@
 use Rattle.std.proofs.Common.{◌≡◌, ◌+◌, ◌-◌, ◌<◌, ◌≤◌, ℕ, zero, suc, true, false, length, Result, Ok, Err, refl, sym, ◌∙◌, ap, subst, arith}
 use Rattle.std.specs.Prelude.{nat_lt}
 use Rattle.std.proofs.lemmas.Bool.Decides.{nat_tests}
-use Rattle.plan_grammar.specs.declared.fault.ParseFault.{ParseFault}
+use Rattle.plan_parser_exprs.specs.declared.fault.ParseFault.{ParseFault}
 use Rattle.plan_base.specs.declared.limit.Limit.TheVariants as limits
-use Rattle.plan_grammar.specs.declared.level.Level.TheVariants as levels
-use Rattle.plan_grammar.specs.declared.node.Node.{Node}
-use Rattle.plan_grammar.specs.Ahead.{Front, ◌>>=◌, Gives, place, behind}
-use Rattle.plan_grammar.specs.Exprs.{expr_to}
+use Rattle.plan_parser_exprs.specs.declared.level.Level.TheVariants as levels
+use Rattle.plan_parser_exprs.specs.declared.node.Node.{Node}
+use Rattle.plan_parser_exprs.specs.Ahead.{Front, ◌>>=◌, Gives, place, behind}
+use Rattle.plan_parser_exprs.specs.Exprs.{expr_to}
 use Rattle.plan_parser.specs.declared.signature.Head.{Head}
 use Rattle.plan_parser.specs.declared.program.Gathered.{Gathered}
 use Rattle.plan_parser.specs.Signatures.{head_at}

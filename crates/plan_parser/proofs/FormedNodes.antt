@@ -7,7 +7,7 @@ use Rattle.std.proofs.lemmas.List.{length-map}
 use Rattle.std.proofs.lemmas.List.Sums.{sum_by-cons}
 use Rattle.std.proofs.lemmas.List.Folds.{fold-map}
 use Rattle.std.proofs.lemmas.Bool.Decides.{nat_tests}
-use Rattle.plan_items.proofs.Bools.{both}
+use Rattle.containers.proofs.Bools.{both}
 use Rattle.plan_base.specs.declared.name.Name.{Name}
 use Rattle.plan_base.specs.declared.tree.Op.TheVariants as ops
 use Rattle.plan_base.specs.declared.tree.Expr.{Expr, Expr-F, roll-Expr, out-roll-Expr}
@@ -17,13 +17,13 @@ use Rattle.plan_base.specs.Sizes.{largest_by, expr_depth, expr_depth_level, clau
 use Rattle.plan_base.specs.WellFormed.{formed_expr, formed_expr_level}
 use Rattle.plan_base.proofs.SizeLaws.{expr_depth_out, expr_nodes_out}
 use Rattle.plan_base.proofs.FormLaws.{formed_expr_out}
-use Rattle.plan_grammar.specs.declared.joint.Joint.{Joint}
-use Rattle.plan_grammar.specs.declared.joint.Joint.TheVariants as joints
-use Rattle.plan_grammar.specs.declared.node.Below.{Below}
-use Rattle.plan_grammar.specs.declared.node.Node.{Node}
-use Rattle.plan_grammar.specs.declared.node.Bound.{Bound}
-use Rattle.plan_grammar.specs.declared.node.Caught.{Caught}
-use Rattle.plan_grammar.specs.Nodes.{all_at, trees, leaf, over, over_one, over_two, over_three, over_four, over_list, joined_nodes, bracketed_nodes, bound, let_of, clauses_of, bodies, try_of}
+use Rattle.plan_parser_exprs.specs.declared.joint.Joint.{Joint}
+use Rattle.plan_parser_exprs.specs.declared.joint.Joint.TheVariants as joints
+use Rattle.plan_parser_exprs.specs.declared.node.Below.{Below}
+use Rattle.plan_parser_exprs.specs.declared.node.Node.{Node}
+use Rattle.plan_parser_exprs.specs.declared.node.Bound.{Bound}
+use Rattle.plan_parser_exprs.specs.declared.node.Caught.{Caught}
+use Rattle.plan_parser_exprs.specs.Nodes.{all_at, trees, leaf, over, over_one, over_two, over_three, over_four, over_list, joined_nodes, bracketed_nodes, bound, let_of, clauses_of, bodies, try_of}
 use Rattle.plan_parser.proofs.FormedTypes.{Each, Good}
 
 pub record Sound (n : Node) : Type 0 where

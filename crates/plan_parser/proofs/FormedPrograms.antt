@@ -5,7 +5,7 @@ use Rattle.std.specs.List.{list_all, sum_by}
 use Rattle.std.proofs.lemmas.Bool.{le-leb}
 use Rattle.std.proofs.lemmas.List.Sums.{sum_by_push}
 use Rattle.std.proofs.lemmas.Bool.Decides.{nat_tests}
-use Rattle.plan_items.proofs.Bools.{both}
+use Rattle.containers.proofs.Bools.{both}
 use Rattle.plan_base.specs.declared.limit.Limit.{Limit}
 use Rattle.plan_base.specs.declared.limit.Limit.TheVariants as limits
 use Rattle.plan_base.specs.declared.tree.Svc.{Svc}
@@ -18,14 +18,14 @@ use Rattle.plan_lexer.specs.declared.token.Token.{Token}
 use Rattle.plan_lexer.specs.declared.token.Key.TheVariants as keys
 use Rattle.plan_lexer.specs.declared.token.Symbol.TheVariants as symbols
 use Rattle.plan_lexer.specs.TokenRules.{AreTokens}
-use Rattle.plan_grammar.specs.declared.fault.ParseFault.{ParseFault}
-use Rattle.plan_grammar.specs.declared.fault.ParseFault.TheVariants.{Expected}
-use Rattle.plan_grammar.specs.declared.fault.Wanted.TheVariants as wanted
-use Rattle.plan_grammar.specs.declared.level.Level.TheVariants as levels
-use Rattle.plan_grammar.specs.declared.node.Node.{Node}
-use Rattle.plan_grammar.specs.Ahead.{Front, ◌>>=◌, place, behind, is_symbol, is_key, Answers}
-use Rattle.plan_grammar.specs.Begins.{begins_type, begins_name}
-use Rattle.plan_grammar.specs.Nodes.{all_at}
+use Rattle.plan_parser_exprs.specs.declared.fault.ParseFault.{ParseFault}
+use Rattle.plan_parser_exprs.specs.declared.fault.ParseFault.TheVariants.{Expected}
+use Rattle.plan_parser_exprs.specs.declared.fault.Wanted.TheVariants as wanted
+use Rattle.plan_parser_exprs.specs.declared.level.Level.TheVariants as levels
+use Rattle.plan_parser_exprs.specs.declared.node.Node.{Node}
+use Rattle.plan_parser_exprs.specs.Ahead.{Front, ◌>>=◌, place, behind, is_symbol, is_key, Answers}
+use Rattle.plan_parser_exprs.specs.Begins.{begins_type, begins_name}
+use Rattle.plan_parser_exprs.specs.Nodes.{all_at}
 use Rattle.plan_parser.proofs.FormedTypes.{Kinds, Holds, Any, step, choose, behind_kinds, symbol_holds, Each, each_last, each_test, Between, more_holds, Good, type_holds}
 use Rattle.plan_parser.proofs.FormedNodes.{Sound}
 use Rattle.plan_parser.proofs.FormedReads.{name_holds, expr_holds}

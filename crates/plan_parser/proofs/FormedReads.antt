@@ -5,7 +5,7 @@ use Rattle.std.specs.List.{list_all}
 use Rattle.std.proofs.Math.Seq.{take-append_seam}
 use Rattle.std.proofs.lemmas.Bool.{le-leb}
 use Rattle.std.proofs.lemmas.Str.{is_utf8-from_IsUtf8}
-use Rattle.plan_items.proofs.Bools.{both}
+use Rattle.containers.proofs.Bools.{both}
 use Rattle.plan_base.specs.declared.limit.Limit.{Limit}
 use Rattle.plan_base.specs.declared.limit.Limit.TheVariants as limits
 use Rattle.plan_base.specs.declared.name.Name.{Name}
@@ -21,25 +21,25 @@ use Rattle.plan_lexer.specs.declared.token.Key.{Key}
 use Rattle.plan_lexer.specs.declared.token.Key.TheVariants as keys
 use Rattle.plan_lexer.specs.declared.token.Symbol.{Symbol}
 use Rattle.plan_lexer.specs.declared.token.Symbol.TheVariants as symbols
-use Rattle.plan_grammar.specs.declared.fault.Wanted.TheVariants as wanted
-use Rattle.plan_grammar.specs.declared.joint.Joint.{Joint}
-use Rattle.plan_grammar.specs.declared.joint.Chain.{Chain}
-use Rattle.plan_grammar.specs.declared.joint.Chain.TheVariants as chains
-use Rattle.plan_grammar.specs.declared.joint.Joint.TheVariants as joints
+use Rattle.plan_parser_exprs.specs.declared.fault.Wanted.TheVariants as wanted
+use Rattle.plan_parser_exprs.specs.declared.joint.Joint.{Joint}
+use Rattle.plan_parser_exprs.specs.declared.joint.Chain.{Chain}
+use Rattle.plan_parser_exprs.specs.declared.joint.Chain.TheVariants as chains
+use Rattle.plan_parser_exprs.specs.declared.joint.Joint.TheVariants as joints
 use Rattle.plan_base.specs.declared.tree.Op.TheVariants as ops
-use Rattle.plan_grammar.specs.declared.level.Level.{Level}
-use Rattle.plan_grammar.specs.declared.level.Level.TheVariants as levels
-use Rattle.plan_grammar.specs.declared.node.Node.{Node}
-use Rattle.plan_grammar.specs.declared.node.Bound.{Bound}
-use Rattle.plan_grammar.specs.declared.node.Caught.{Caught}
-use Rattle.plan_grammar.specs.declared.node.FoldParts.{FoldParts}
-use Rattle.plan_grammar.specs.declared.node.SendParts.{SendParts}
-use Rattle.plan_grammar.specs.Ahead.{Front, Reader, place, behind, kind_in, next_kind, is_symbol, is_key, need_key, name_kind, name_at}
-use Rattle.plan_grammar.specs.Begins.{begins_operand, begins_expr}
-use Rattle.plan_grammar.specs.Joints.{joint_of}
-use Rattle.plan_grammar.specs.Nodes.{leaf, joined_nodes, clauses_of}
-use Rattle.plan_grammar.specs.Exprs.{literal_key, literal, literal_from, opens_at, need_open, chain_step, chain_from, catch_at, clause_follows, items_from, arguments_behind, arguments, call, name_operand, chunk, tuple, single, grouped_expression, parens_behind, parens, typed_nil, listing, brackets_behind, brackets, binding, bindings_from, let_form, clause, clauses_from, try_form, raise_typed, raise_plain, raise_form, before_comma, before_close, fold_parts, foldl_form, foldr_form, eval_form, send_parts, remote_form, neighbor_form, key_form, symbol_form, picked_part, operand_kind, operand, chained_operands, product, addition, before_list, listed_operands, compared_operands, comparison, negation, negated_operand, conjunction, disjunction, condition, low, before_next, whole, at_level, expr_to}
-use Rattle.plan_grammar.proofs.Builds.{clauses_last}
+use Rattle.plan_parser_exprs.specs.declared.level.Level.{Level}
+use Rattle.plan_parser_exprs.specs.declared.level.Level.TheVariants as levels
+use Rattle.plan_parser_exprs.specs.declared.node.Node.{Node}
+use Rattle.plan_parser_exprs.specs.declared.node.Bound.{Bound}
+use Rattle.plan_parser_exprs.specs.declared.node.Caught.{Caught}
+use Rattle.plan_parser_exprs.specs.declared.node.FoldParts.{FoldParts}
+use Rattle.plan_parser_exprs.specs.declared.node.SendParts.{SendParts}
+use Rattle.plan_parser_exprs.specs.Ahead.{Front, Reader, place, behind, kind_in, next_kind, is_symbol, is_key, need_key, name_kind, name_at}
+use Rattle.plan_parser_exprs.specs.Begins.{begins_operand, begins_expr}
+use Rattle.plan_parser_exprs.specs.Joints.{joint_of}
+use Rattle.plan_parser_exprs.specs.Nodes.{leaf, joined_nodes, clauses_of}
+use Rattle.plan_parser_exprs.specs.Exprs.{literal_key, literal, literal_from, opens_at, need_open, chain_step, chain_from, catch_at, clause_follows, items_from, arguments_behind, arguments, call, name_operand, chunk, tuple, single, grouped_expression, parens_behind, parens, typed_nil, listing, brackets_behind, brackets, binding, bindings_from, let_form, clause, clauses_from, try_form, raise_typed, raise_plain, raise_form, before_comma, before_close, fold_parts, foldl_form, foldr_form, eval_form, send_parts, remote_form, neighbor_form, key_form, symbol_form, picked_part, operand_kind, operand, chained_operands, product, addition, before_list, listed_operands, compared_operands, comparison, negation, negated_operand, conjunction, disjunction, condition, low, before_next, whole, at_level, expr_to}
+use Rattle.plan_parser_exprs.proofs.Builds.{clauses_last}
 use Rattle.plan_parser.proofs.FormedTypes.{Kinds, Holds, Any, step, choose, weaken, behind_kinds, symbol_holds, opens_holds, Each, each_last, Between, more_holds, more_some, Good, type_holds}
 use Rattle.plan_parser.proofs.FormedNodes.{Sound, leaf_sound, joined_sound, then_sound, foldl_sound, foldr_sound, not_sound, eval_sound, part_sound, if_sound, remote_sound, neighbor_sound, call_sound, chunk_sound, tuple_sound, bracketed_sound, SoundBound, let_sound, SoundCaught, SoundClauses, try_sound}
 

@@ -4,7 +4,7 @@ use Rattle.std.specs.Prelude.{◌&&◌, ◌==◌, nat_le, nat_lt, if◌then◌el
 use Rattle.std.specs.List.{list_all}
 use Rattle.std.proofs.lemmas.Bool.{le-leb}
 use Rattle.std.proofs.lemmas.Bool.Decides.{nat_tests}
-use Rattle.plan_items.proofs.Bools.{both}
+use Rattle.containers.proofs.Bools.{both}
 use Rattle.plan_base.specs.declared.limit.Limit.{Limit}
 use Rattle.plan_base.specs.declared.limit.Limit.TheVariants as limits
 use Rattle.plan_base.specs.declared.tree.Ty.{Ty, Ty-F, roll-Ty, out-roll-Ty}
@@ -21,13 +21,13 @@ use Rattle.plan_lexer.specs.declared.token.Key.TheVariants as keys
 use Rattle.plan_lexer.specs.declared.token.Symbol.{Symbol}
 use Rattle.plan_lexer.specs.declared.token.Symbol.TheVariants as symbols
 use Rattle.plan_lexer.specs.TokenRules.{IsKind}
-use Rattle.plan_grammar.specs.declared.fault.ParseFault.{ParseFault}
-use Rattle.plan_grammar.specs.declared.fault.ParseFault.TheVariants.{TooDeep}
-use Rattle.plan_grammar.specs.declared.fault.Wanted.{Wanted}
-use Rattle.plan_grammar.specs.declared.fault.Wanted.TheVariants as wanted
-use Rattle.plan_grammar.specs.Ahead.{Front, Reader, ◌>>=◌, place, behind, next_kind, is_symbol, need_symbol}
-use Rattle.plan_grammar.specs.Begins.{simple_type, kind_type, begins_type}
-use Rattle.plan_grammar.specs.Types.{opens, more, type_or_fault, after_lists, list_words, behind_lists, is_list_word, lists_of, judged_type, tuple_type, single_type, group_type, base_type, whole_type, type_to}
+use Rattle.plan_parser_exprs.specs.declared.fault.ParseFault.{ParseFault}
+use Rattle.plan_parser_exprs.specs.declared.fault.ParseFault.TheVariants.{TooDeep}
+use Rattle.plan_parser_exprs.specs.declared.fault.Wanted.{Wanted}
+use Rattle.plan_parser_exprs.specs.declared.fault.Wanted.TheVariants as wanted
+use Rattle.plan_parser_exprs.specs.Ahead.{Front, Reader, ◌>>=◌, place, behind, next_kind, is_symbol, need_symbol}
+use Rattle.plan_parser_exprs.specs.Begins.{simple_type, kind_type, begins_type}
+use Rattle.plan_parser_exprs.specs.Types.{opens, more, type_or_fault, after_lists, list_words, behind_lists, is_list_word, lists_of, judged_type, tuple_type, single_type, group_type, base_type, whole_type, type_to}
 
 pub left_of_both : (b c : Bool) → (b && c) ≡ true → b ≡ true
 left_of_both true c h = refl

@@ -5,7 +5,7 @@ use Rattle.std.specs.List.{list_all, fold}
 use Rattle.std.proofs.lemmas.Bool.{le-leb}
 use Rattle.std.proofs.lemmas.List.{length-map}
 use Rattle.std.proofs.lemmas.Bool.Decides.{nat_tests}
-use Rattle.plan_items.proofs.Bools.{both}
+use Rattle.containers.proofs.Bools.{both}
 use Rattle.plan_base.specs.declared.limit.Limit.TheVariants as limits
 use Rattle.plan_base.specs.declared.tree.Ty.{Ty, Ty-F, roll-Ty}
 use Rattle.plan_base.specs.declared.tree.Value.{Value, Value-F, roll-Value, out-roll-Value}
@@ -24,11 +24,11 @@ use Rattle.plan_lexer.specs.declared.token.Key.{Key}
 use Rattle.plan_lexer.specs.declared.token.Key.TheVariants as keys
 use Rattle.plan_lexer.specs.declared.token.Symbol.TheVariants as symbols
 use Rattle.plan_lexer.specs.TokenRules.{AreTokens}
-use Rattle.plan_grammar.specs.declared.fault.ParseFault.{ParseFault}
-use Rattle.plan_grammar.specs.declared.fault.ParseFault.TheVariants.{TooDeep}
-use Rattle.plan_grammar.specs.declared.fault.Wanted.TheVariants as wanted
-use Rattle.plan_grammar.specs.Ahead.{Front, Reader, ◌>>=◌, place, behind, next_kind, is_symbol, need_symbol}
-use Rattle.plan_grammar.specs.Types.{opens}
+use Rattle.plan_parser_exprs.specs.declared.fault.ParseFault.{ParseFault}
+use Rattle.plan_parser_exprs.specs.declared.fault.ParseFault.TheVariants.{TooDeep}
+use Rattle.plan_parser_exprs.specs.declared.fault.Wanted.TheVariants as wanted
+use Rattle.plan_parser_exprs.specs.Ahead.{Front, Reader, ◌>>=◌, place, behind, next_kind, is_symbol, need_symbol}
+use Rattle.plan_parser_exprs.specs.Types.{opens}
 use Rattle.plan_parser.specs.declared.item.TypedValue.{TypedValue}
 use Rattle.plan_parser.specs.Values.{typed_value, literal_key, literal, literal_from, begins_value, tuple_of, list_of, judged_item, fits, tuple_from, tuple, grouped_value, parens, like, listing, typed_nil, brackets, value_at, value_to, nothing_follows, argument_at, arguments_from, arguments_behind, value_of, args_of}
 use Rattle.plan_parser.proofs.FormedTypes.{Kinds, Holds, Any, step, choose, behind_kinds, symbol_holds, Each, each_test, Between, more_holds, more_some, Good, formed_of, formed_roll, depth_roll, type_holds}

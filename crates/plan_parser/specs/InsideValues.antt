@@ -2,8 +2,8 @@
 use Rattle.std.specs.Prelude.{ℕ, Result}
 use Rattle.std.specs.declared.alloc.Global.{Global}
 use denote.Ref.{MutBor}
-use Rattle.plan_grammar.specs.declared.fault.ParseFault.{ParseFault}
-use Rattle.plan_grammar.specs.Ahead.{Front, Gives}
+use Rattle.plan_parser_exprs.specs.declared.fault.ParseFault.{ParseFault}
+use Rattle.plan_parser_exprs.specs.Ahead.{Front, Gives}
 use Rattle.plan_parser.specs.declared.item.TypedValue.{TypedValue}
 use Rattle.plan_parser.specs.Values.{value_to}
 

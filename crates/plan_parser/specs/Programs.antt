@@ -7,14 +7,14 @@ use Rattle.plan_base.specs.declared.tree.Fun.{Fun}
 use Rattle.plan_base.specs.Sizes.{program_nodes}
 use Rattle.plan_lexer.specs.declared.token.Token.{Token}
 use Rattle.plan_lexer.specs.declared.token.Key.TheVariants as keys
-use Rattle.plan_grammar.specs.declared.fault.ParseFault.{ParseFault}
-use Rattle.plan_grammar.specs.declared.fault.ParseFault.TheVariants.{Expected, TooDeep, TooMany}
-use Rattle.plan_grammar.specs.declared.fault.Wanted.TheVariants as wanted
-use Rattle.plan_grammar.specs.declared.level.Level.TheVariants as levels
-use Rattle.plan_grammar.specs.declared.node.Node.{Node}
-use Rattle.plan_grammar.specs.Ahead.{Front, Reader, ◌>>=◌, place, behind, is_key, name_at}
-use Rattle.plan_grammar.specs.Nodes.{all_at}
-use Rattle.plan_grammar.specs.Exprs.{expr_to}
+use Rattle.plan_parser_exprs.specs.declared.fault.ParseFault.{ParseFault}
+use Rattle.plan_parser_exprs.specs.declared.fault.ParseFault.TheVariants.{Expected, TooDeep, TooMany}
+use Rattle.plan_parser_exprs.specs.declared.fault.Wanted.TheVariants as wanted
+use Rattle.plan_parser_exprs.specs.declared.level.Level.TheVariants as levels
+use Rattle.plan_parser_exprs.specs.declared.node.Node.{Node}
+use Rattle.plan_parser_exprs.specs.Ahead.{Front, Reader, ◌>>=◌, place, behind, is_key, name_at}
+use Rattle.plan_parser_exprs.specs.Nodes.{all_at}
+use Rattle.plan_parser_exprs.specs.Exprs.{expr_to}
 use Rattle.plan_parser.specs.declared.signature.Head.{Head}
 use Rattle.plan_parser.specs.declared.program.Gathered.{Gathered}
 use Rattle.plan_parser.specs.Signatures.{service_at, head_at}

@@ -5,11 +5,11 @@ use Rattle.plan_base.specs.declared.tree.Ty.{Ty}
 use Rattle.plan_base.specs.declared.tree.Svc.{Svc}
 use Rattle.plan_base.specs.declared.tree.Param.{Param}
 use Rattle.plan_lexer.specs.declared.token.Symbol.TheVariants as symbols
-use Rattle.plan_grammar.specs.declared.fault.ParseFault.TheVariants.{Expected}
-use Rattle.plan_grammar.specs.declared.fault.Wanted.TheVariants as wanted
-use Rattle.plan_grammar.specs.Ahead.{Front, Reader, ◌>>=◌, place, behind, is_word, is_symbol, need_symbol, name_at}
-use Rattle.plan_grammar.specs.Begins.{begins_type, begins_name}
-use Rattle.plan_grammar.specs.Types.{more, type_to}
+use Rattle.plan_parser_exprs.specs.declared.fault.ParseFault.TheVariants.{Expected}
+use Rattle.plan_parser_exprs.specs.declared.fault.Wanted.TheVariants as wanted
+use Rattle.plan_parser_exprs.specs.Ahead.{Reader, ◌>>=◌, place, behind, is_symbol, need_symbol, name_at}
+use Rattle.plan_parser_exprs.specs.Begins.{begins_type, begins_name}
+use Rattle.plan_parser_exprs.specs.Types.{more, type_to}
 use Rattle.plan_parser.specs.declared.signature.Head.{Head}
 
 -- a type where nothing is open; of 160 constructs each may open

@@ -13,11 +13,11 @@ use Rattle.plan_lexer.specs.declared.token.TokenKind.TheVariants as kinds
 use Rattle.plan_lexer.specs.declared.token.Key.{Key}
 use Rattle.plan_lexer.specs.declared.token.Key.TheVariants as keys
 use Rattle.plan_lexer.specs.declared.token.Symbol.TheVariants as symbols
-use Rattle.plan_grammar.specs.declared.fault.ParseFault.{ParseFault}
-use Rattle.plan_grammar.specs.declared.fault.ParseFault.TheVariants.{Expected, TooDeep}
-use Rattle.plan_grammar.specs.declared.fault.Wanted.TheVariants as wanted
-use Rattle.plan_grammar.specs.Ahead.{Front, Reader, ◌>>=◌, place, behind, next_kind, is_symbol, need_symbol}
-use Rattle.plan_grammar.specs.Types.{opens, more, type_to}
+use Rattle.plan_parser_exprs.specs.declared.fault.ParseFault.{ParseFault}
+use Rattle.plan_parser_exprs.specs.declared.fault.ParseFault.TheVariants.{Expected, TooDeep}
+use Rattle.plan_parser_exprs.specs.declared.fault.Wanted.TheVariants as wanted
+use Rattle.plan_parser_exprs.specs.Ahead.{Front, Reader, ◌>>=◌, place, behind, next_kind, is_symbol, need_symbol}
+use Rattle.plan_parser_exprs.specs.Types.{opens, more, type_to}
 use Rattle.plan_parser.specs.declared.item.TypedValue.{TypedValue}
 
 -- a value with its type

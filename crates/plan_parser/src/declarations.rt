@@ -1,15 +1,15 @@
 //! Reading declarations.
 ghost use Rattle.std.specs.Prelude.{◌≡◌, ◌≤◌, ◌<◌, ◌-◌, ◌∷◌, ◌++◌, [], length, Result, Ok, Err, IfErr, OnOk};
-ghost use Rattle.plan_grammar.specs.Ahead.{Gives, Answers};
-ghost use Rattle.plan_grammar.specs.Nodes.{all_at};
+ghost use Rattle.plan_parser_exprs.specs.Ahead.{Gives, Answers};
+ghost use Rattle.plan_parser_exprs.specs.Nodes.{all_at};
 ghost use Rattle.plan_parser.specs.Programs as spec;
 
 use crate::program::Gathered;
 use crate::signature::{Head, MOST_OPEN, head_at, service_at};
+use containers::Items;
 use plan_base::{Draft, Expr, Fun, Limit, Name, Places, Svc};
-use plan_grammar::{Ahead, Level, MOST_DEPTH, Node, ParseFault, Wanted, expr_to, name_at};
-use plan_items::Items;
 use plan_lexer::{Key, Token};
+use plan_parser_exprs::{Ahead, Level, MOST_DEPTH, Node, ParseFault, Wanted, expr_to, name_at};
 use std::alloc::Global;
 
 /// The services, exceptions or functions that a program may have.

@@ -1,13 +1,13 @@
 //! Values with their types.
 ghost use Rattle.std.specs.Prelude.{◌≡◌, [], ◌∷◌, ◌++◌, Result, Ok, Err, Some, None, is_some, IfErr, OnOk};
-ghost use Rattle.plan_grammar.specs.Ahead.{Gives, Answers, next_kind};
+ghost use Rattle.plan_parser_exprs.specs.Ahead.{Gives, Answers, next_kind};
 ghost use Rattle.plan_parser.specs.Values as spec;
 
+use containers::{Boxed, Items};
 use plan_base::{Dev, Host, Ty, Tys, Value, Values};
-use plan_copies::Copied;
-use plan_grammar::{Ahead, ParseFault, Wanted};
-use plan_items::{Boxed, Items};
+use plan_base_copy::TryClone;
 use plan_lexer::{Key, Symbol, TokenKind};
+use plan_parser_exprs::{Ahead, ParseFault, Wanted};
 use std::alloc::Global;
 
 /// A value with its type.

@@ -1,7 +1,7 @@
 ghost use Rattle.std.specs.Prelude.{◌≡◌, ℕ, List, Ok, Err};
 ghost use Rattle.plan_base.specs.declared.tree.Draft.{Draft};
 ghost use Rattle.plan_lexer.specs.declared.token.Token.{Token};
-ghost use Rattle.plan_grammar.specs.declared.fault.ParseFault.{ParseFault};
+ghost use Rattle.plan_parser_exprs.specs.declared.fault.ParseFault.{ParseFault};
 ghost use Rattle.plan_parser.specs.Programs.{program_of, IsAnswered};
 
 /// Tokens are one program or have one first refusal, and not both.

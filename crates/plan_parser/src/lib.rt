@@ -13,6 +13,6 @@ mod values;
 
 pub use laws::one_answer;
 pub use parsing::parse;
-pub use plan_grammar::{ParseFault, Wanted};
+pub use plan_parser_exprs::{ParseFault, Wanted};
 pub use value_fault::ValueFault;
 pub use value_texts::{parse_args, parse_value};

@@ -2,13 +2,13 @@ ghost use Rattle.std.specs.Prelude.{◌≡◌, ◌≤◌, ◌⊎◌, length, Res
 ghost use Rattle.plan_base.specs.declared.tree.Draft.{Draft};
 ghost use Rattle.plan_base.specs.WellFormed.{IsWellFormedProgram};
 ghost use Rattle.plan_lexer.specs.TokenRules.{AreTokens};
-ghost use Rattle.plan_grammar.specs.Ahead.{Answers};
+ghost use Rattle.plan_parser_exprs.specs.Ahead.{Answers};
 ghost use Rattle.plan_parser.specs.Programs.{program_of, Placed};
 
 use crate::declarations::{declarations, finish_draft};
 use plan_base::Draft;
-use plan_grammar::ParseFault;
 use plan_lexer::{Token, Tokens};
+use plan_parser_exprs::ParseFault;
 use std::alloc::Global;
 
 /// What the reading of a program gives, unless memory runs out.

@@ -1,10 +1,10 @@
 //! What has been read of a program.
 ghost use Rattle.std.specs.Prelude.{Result, Ok, Err};
-ghost use Rattle.plan_grammar.specs.Ahead.{Answers};
+ghost use Rattle.plan_parser_exprs.specs.Ahead.{Answers};
 ghost use Rattle.plan_parser.specs.Programs as spec;
 
 use plan_base::{Draft, Funs, Names, Places, Program, Svcs};
-use plan_grammar::ParseFault;
+use plan_parser_exprs::ParseFault;
 
 /// The declarations that were read, with their places and those of the expressions.
 pub struct Gathered {

@@ -1,14 +1,16 @@
 //! Reading the head of a declaration.
 ghost use Rattle.std.specs.Prelude.{◌≡◌, ◌≤◌, ◌-◌, ◌∷◌, [], length, Result, Ok, Err};
-ghost use Rattle.plan_grammar.specs.Ahead.{Gives, Answers, ◌>>=◌ as and_then, need_symbol};
-ghost use Rattle.plan_grammar.specs.Types.{past, more};
-ghost use Rattle.plan_grammar.specs.Begins as begins;
+ghost use Rattle.plan_parser_exprs.specs.Ahead.{Gives, Answers, ◌>>=◌ as and_then, need_symbol};
+ghost use Rattle.plan_parser_exprs.specs.Types.{past, more};
+ghost use Rattle.plan_parser_exprs.specs.Begins as begins;
 ghost use Rattle.plan_parser.specs.Signatures as spec;
 
+use containers::Items;
 use plan_base::{Limit, Name, Param, Params, Svc, Ty, Tys};
-use plan_grammar::{Ahead, ParseFault, Wanted, begins_type, name_at, one_type, past_type, type_to};
-use plan_items::Items;
 use plan_lexer::Symbol;
+use plan_parser_exprs::{
+    Ahead, ParseFault, Wanted, begins_type, name_at, one_type, past_type, type_to,
+};
 use std::alloc::Global;
 
 /// The constructs that may be open at a place.
@@ -40,7 +42,7 @@ fn inner_type(alloc: Global, ahead: &mut Ahead<'_>) -> Result<Ty, ParseFault>
 }
 
 /// Further types behind commas.
-#[tactic(auto, using(plan_grammar::proofs::Mores::more_ends, plan_grammar::proofs::Mores::more_past, plan_grammar::proofs::Mores::more_stops, plan_grammar::proofs::Mores::more_steps))]
+#[tactic(auto, using(plan_parser_exprs::proofs::Mores::more_ends, plan_parser_exprs::proofs::Mores::more_past, plan_parser_exprs::proofs::Mores::more_stops, plan_parser_exprs::proofs::Mores::more_steps))]
 fn more_types(alloc: Global, ahead: &mut Ahead<'_>, types: Tys) -> Result<Tys, ParseFault>
     requires { length types ≤ 8 }
     ensures { Gives (more spec.inner_type begins.begins_type Symbol.Comma Limit.Parameters
@@ -126,7 +128,7 @@ fn service_of(alloc: Global, ahead: &mut Ahead<'_>, name: Name) -> Result<Svc, P
     }
 }
 
-#[tactic(auto, unfolding(plan_grammar::specs::Begins::begins_name))]
+#[tactic(auto, unfolding(plan_parser_exprs::specs::Begins::begins_name))]
 fn begins_name(ahead: &Ahead<'_>) -> bool
     ensures { result ≡ begins.begins_name ahead.now }
 {
@@ -134,7 +136,7 @@ fn begins_name(ahead: &Ahead<'_>) -> bool
 }
 
 /// The fault at the ninth parameter, which the comma before it announces.
-#[tactic(auto, unfolding(plan_grammar::specs::Types::past))]
+#[tactic(auto, unfolding(plan_parser_exprs::specs::Types::past))]
 fn past_param(ahead: &Ahead<'_>) -> ParseFault
     ensures { result ≡ past begins.begins_name Limit.Parameters Wanted.AName ahead.now }
 {
@@ -160,7 +162,7 @@ fn param_at(alloc: Global, ahead: &mut Ahead<'_>) -> Result<Param, ParseFault>
 }
 
 /// Further parameters behind commas.
-#[tactic(auto, using(plan_grammar::proofs::Mores::more_ends, plan_grammar::proofs::Mores::more_past, plan_grammar::proofs::Mores::more_stops, plan_grammar::proofs::Mores::more_steps))]
+#[tactic(auto, using(plan_parser_exprs::proofs::Mores::more_ends, plan_parser_exprs::proofs::Mores::more_past, plan_parser_exprs::proofs::Mores::more_stops, plan_parser_exprs::proofs::Mores::more_steps))]
 fn more_params(alloc: Global, ahead: &mut Ahead<'_>, params: Params) -> Result<Params, ParseFault>
     requires { length params ≤ 8 }
     ensures { Gives (more spec.param_at begins.begins_name Symbol.Comma Limit.Parameters

@@ -1,6 +1,6 @@
 use plan_base::NoMemory;
-use plan_grammar::ParseFault;
 use plan_lexer::LexFault;
+use plan_parser_exprs::ParseFault;
 use std::alloc::AllocError;
 
 /// Why a text is no value or no arguments.

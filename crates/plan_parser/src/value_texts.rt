@@ -2,8 +2,8 @@ ghost use Rattle.std.specs.Prelude.{◌≡◌, ◌≤◌, ◌⊎◌, ◌-◌, �
 ghost use Rattle.std.specs.List.{list_all};
 ghost use Rattle.plan_base.specs.declared.tree.Value.{Value};
 ghost use Rattle.plan_base.specs.WellFormed.{IsWellFormedValue, ValueHasTypes, well_formed_value, value_has_types};
-ghost use Rattle.plan_grammar.specs.Ahead.{Gives, Answers};
-ghost use Rattle.plan_grammar.specs.Types.{more};
+ghost use Rattle.plan_parser_exprs.specs.Ahead.{Gives, Answers};
+ghost use Rattle.plan_parser_exprs.specs.Types.{more};
 ghost use Rattle.plan_parser.specs.Values as spec;
 ghost use Rattle.plan_parser.specs.Values.{value_of, args_of};
 ghost use Rattle.plan_parser.specs.ReadTexts.{Reads, Fails};
@@ -11,10 +11,10 @@ ghost use Rattle.plan_parser.specs.ReadTexts.{Reads, Fails};
 use crate::item::{TypedValue, begins_value, one_value};
 use crate::value_fault::ValueFault;
 use crate::values::{MOST_NESTED, past_value, value_to};
+use containers::Items;
 use plan_base::{Limit, Value, Values};
-use plan_grammar::{Ahead, MOST_ARGUMENTS, ParseFault, Wanted};
-use plan_items::Items;
 use plan_lexer::{Symbol, Token, lex};
+use plan_parser_exprs::{Ahead, MOST_ARGUMENTS, ParseFault, Wanted};
 use std::alloc::Global;
 
 /// Refuses what follows.
@@ -43,7 +43,7 @@ fn argument_at(alloc: Global, ahead: &mut Ahead<'_>) -> Result<Value, ParseFault
 }
 
 /// Further arguments behind commas.
-#[tactic(auto, using(plan_grammar::proofs::Mores::more_ends, plan_grammar::proofs::Mores::more_past, plan_grammar::proofs::Mores::more_stops, plan_grammar::proofs::Mores::more_steps))]
+#[tactic(auto, using(plan_parser_exprs::proofs::Mores::more_ends, plan_parser_exprs::proofs::Mores::more_past, plan_parser_exprs::proofs::Mores::more_stops, plan_parser_exprs::proofs::Mores::more_steps))]
 fn more_arguments(alloc: Global, ahead: &mut Ahead<'_>, args: Values) -> Result<Values, ParseFault>
     requires { length args ≤ 8 }
     ensures { Gives (more spec.argument_at spec.begins_value Symbol.Comma Limit.Arguments

@@ -1,19 +1,19 @@
 //! Reading values.
 ghost use Rattle.std.specs.Prelude.{◌≡◌, ◌≤◌, ◌+◌, ◌-◌, [], ◌∷◌, length, Result, Ok, Err};
 ghost use Rattle.plan_base.specs.Sizes.{type_depth};
-ghost use Rattle.plan_grammar.specs.Ahead.{Gives, Answers, next_kind};
-ghost use Rattle.plan_grammar.specs.Types.{past, more};
+ghost use Rattle.plan_parser_exprs.specs.Ahead.{Gives, Answers, next_kind};
+ghost use Rattle.plan_parser_exprs.specs.Types.{past, more};
 ghost use Rattle.plan_parser.specs.Values as spec;
 ghost use Rattle.plan_parser.specs.Values.{value_to};
 ghost use Rattle.plan_parser.specs.InsideValues.{ReadsValues};
 
 use crate::item::{TypedValue, begins_value, list_of, literal_at, one_value, tuple_of, with_type};
+use containers::Items;
 use plan_base::{Limit, Ty, Value, Values};
-use plan_equality::Same;
-use plan_grammar::{Ahead, MOST_ITEMS, MOST_PARTS, ParseFault, Wanted, opens, type_to};
-use plan_items::Items;
+use plan_base_eq::SameAs;
+use plan_base_size::HasDepth;
 use plan_lexer::Symbol;
-use plan_sizes::Deep;
+use plan_parser_exprs::{Ahead, MOST_ITEMS, MOST_PARTS, ParseFault, Wanted, opens, type_to};
 use std::alloc::Global;
 
 /// The lists and tuples that may stand inside each other.
@@ -31,7 +31,7 @@ pub struct ValueReader<F> {
 }
 
 /// The fault at a value past a limit, which the comma before it announces.
-#[tactic(auto, unfolding(plan_grammar::specs::Types::past))]
+#[tactic(auto, unfolding(plan_parser_exprs::specs::Types::past))]
 pub fn past_value(ahead: &Ahead<'_>, limit: Limit) -> ParseFault
     ensures { result ≡ past spec.begins_value limit Wanted.AValue ahead.now }
 {
@@ -77,7 +77,7 @@ impl<F: Fn(Global, u32, u32, &mut Ahead<'_>) -> Result<TypedValue, ParseFault>> 
     }
 
     /// Further parts behind commas.
-    #[tactic(auto, using(plan_grammar::proofs::Mores::more_ends, plan_grammar::proofs::Mores::more_past, plan_grammar::proofs::Mores::more_stops, plan_grammar::proofs::Mores::more_steps))]
+    #[tactic(auto, using(plan_parser_exprs::proofs::Mores::more_ends, plan_parser_exprs::proofs::Mores::more_past, plan_parser_exprs::proofs::Mores::more_stops, plan_parser_exprs::proofs::Mores::more_steps))]
     fn more_parts(
         &self,
         ahead: &mut Ahead<'_>,
@@ -184,7 +184,7 @@ impl<F: Fn(Global, u32, u32, &mut Ahead<'_>) -> Result<TypedValue, ParseFault>> 
     }
 
     /// Further items of that type behind commas.
-    #[tactic(auto, using(plan_grammar::proofs::Mores::more_ends, plan_grammar::proofs::Mores::more_past, plan_grammar::proofs::Mores::more_stops, plan_grammar::proofs::Mores::more_steps))]
+    #[tactic(auto, using(plan_parser_exprs::proofs::Mores::more_ends, plan_parser_exprs::proofs::Mores::more_past, plan_parser_exprs::proofs::Mores::more_stops, plan_parser_exprs::proofs::Mores::more_steps))]
     fn more_items(&self, ahead: &mut Ahead<'_>, t: &Ty, items: Values) -> Result<Values, ParseFault>
         requires reads { ReadsValues self.now.outside self.now.room (F.pre self.now.read)
             (F.post self.now.read) }

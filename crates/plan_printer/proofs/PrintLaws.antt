@@ -4,8 +4,8 @@ use Rattle.std.specs.Prelude.{map, codes}
 use Rattle.plan_base.specs.declared.tree.Ty.{Ty, Ty-F, out-Ty, map-Ty, fold_out-Ty}
 use Rattle.plan_base.specs.declared.tree.Expr.{Expr, Expr-F, out-Expr, map-Expr, fold_out-Expr}
 use Rattle.plan_base.specs.declared.tree.Clause.{Clause, fold-Clause, fold_out-Clause}
-use Rattle.printed_forms.specs.Pieces.{listed_pieces, commas}
-use Rattle.printed_forms.specs.Printed.{empty_text, values_text, type_text_level, type_text, expr_text_level, expr_text, clause_text_level, clause_text}
+use Rattle.plan_printer_spec.specs.Pieces.{listed_pieces, commas}
+use Rattle.plan_printer_spec.specs.Printed.{empty_text, values_text, type_text_level, type_text, expr_text_level, expr_text, clause_text_level, clause_text}
 
 pub listed-map : {X A : Type 0} (between first : List A) (f : X → List A) (xs : List X) → listed_pieces between first (λ s. s) (map f xs) ≡ listed_pieces between first f xs
 listed-map between first f [] = refl

@@ -7,8 +7,8 @@ use Rattle.plan_base.specs.declared.tree.Value.{Value, Value-F, out-Value, roll-
 use Rattle.plan_base.specs.declared.tree.Chunk.{Chunk, Chunk-F, roll-Chunk, out-roll-Chunk, fold-Chunk, fold_out-Chunk}
 use Rattle.plan_base.specs.Sizes.{name_size, type_size, code_size, weight_level, weight, chunk_weight}
 use Rattle.plan_base.proofs.SizeLaws.{weight_out}
-use Rattle.printed_forms.specs.Pieces.{listed_pieces}
-use Rattle.printed_forms.specs.Printed.{chunk_text_of, chunk_text, value_text_level, Shown, shown_level, shown_chunk_level, value_text}
+use Rattle.plan_printer_spec.specs.Pieces.{listed_pieces}
+use Rattle.plan_printer_spec.specs.Printed.{chunk_text_of, chunk_text, value_text_level, Shown, shown_level, shown_chunk_level, value_text}
 
 shown_value : Value → Shown
 shown_value = fold-Value Shown Shown shown_level shown_chunk_level

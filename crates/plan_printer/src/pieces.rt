@@ -1,9 +1,9 @@
 ghost use Rattle.std.specs.Prelude.{◌≡◌, ◌++◌, ◌||◌, ◌==◌, ◌<◌, nat_lt, OnOk};
 ghost use Rattle.std.specs.Fmt.{decimal};
 ghost use Rattle.std.specs.List.{flat_map};
-ghost use Rattle.printed_forms.specs.Literals.{int_text, host_text, dev_text, hex_digit, hex_pair, byte_text, string_text, blob_text};
-ghost use Rattle.printed_forms.specs.Pieces.{scalar_text};
-ghost use Rattle.printed_forms.specs.Printed.{bool_text};
+ghost use Rattle.plan_printer_spec.specs.Literals.{int_text, host_text, dev_text, hex_digit, hex_pair, byte_text, string_text, blob_text};
+ghost use Rattle.plan_printer_spec.specs.Pieces.{scalar_text};
+ghost use Rattle.plan_printer_spec.specs.Printed.{bool_text};
 
 use plan_base::{Bytes, Name, NoMemory};
 use std::alloc::Global;
@@ -40,7 +40,7 @@ pub(crate) fn put_decimal(alloc: Global, number: u64, out: &mut Bytes) -> Result
 }
 
 /// A number with its sign, `~` before a negative one.
-#[tactic(auto, unfolding(printed_forms::specs::Literals::int_text), using(std::proofs::Common::append_assoc))]
+#[tactic(auto, unfolding(plan_printer_spec::specs::Literals::int_text), using(std::proofs::Common::append_assoc))]
 pub(crate) fn put_int(alloc: Global, number: i64, out: &mut Bytes) -> Result<(), NoMemory>
     ensures { OnOk result (out.new ≡ out.old ++ int_text number) }
 {
@@ -52,7 +52,7 @@ pub(crate) fn put_int(alloc: Global, number: i64, out: &mut Bytes) -> Result<(),
 }
 
 /// A host.
-#[tactic(auto, unfolding(printed_forms::specs::Literals::host_text), using(std::proofs::Common::append_assoc))]
+#[tactic(auto, unfolding(plan_printer_spec::specs::Literals::host_text), using(std::proofs::Common::append_assoc))]
 pub(crate) fn put_host(alloc: Global, number: u32, out: &mut Bytes) -> Result<(), NoMemory>
     ensures { OnOk result (out.new ≡ out.old ++ host_text number) }
 {
@@ -61,7 +61,7 @@ pub(crate) fn put_host(alloc: Global, number: u32, out: &mut Bytes) -> Result<()
 }
 
 /// A device.
-#[tactic(auto, unfolding(printed_forms::specs::Literals::dev_text), using(std::proofs::Common::append_assoc))]
+#[tactic(auto, unfolding(plan_printer_spec::specs::Literals::dev_text), using(std::proofs::Common::append_assoc))]
 pub(crate) fn put_dev(alloc: Global, number: u32, out: &mut Bytes) -> Result<(), NoMemory>
     ensures { OnOk result (out.new ≡ out.old ++ dev_text number) }
 {
@@ -100,7 +100,7 @@ fn is_control(byte: u8) -> bool
 }
 
 /// A byte of a text between such quotes.
-#[tactic(auto, unfolding(printed_forms::specs::Literals::byte_text), using(std::proofs::Common::append_assoc))]
+#[tactic(auto, unfolding(plan_printer_spec::specs::Literals::byte_text), using(std::proofs::Common::append_assoc))]
 fn put_byte(quote: u8, byte: u8, out: &mut Bytes) -> Result<(), NoMemory>
     ensures { OnOk result (out.new ≡ out.old ++ byte_text quote byte) }
 {
@@ -134,7 +134,7 @@ fn put_bytes(quote: u8, bytes: &[u8], out: &mut Bytes) -> Result<(), NoMemory>
 }
 
 /// A string of these bytes.
-#[tactic(auto, unfolding(printed_forms::specs::Literals::string_text), using(std::proofs::Common::append_assoc))]
+#[tactic(auto, unfolding(plan_printer_spec::specs::Literals::string_text), using(std::proofs::Common::append_assoc))]
 pub(crate) fn put_string(bytes: &[u8], out: &mut Bytes) -> Result<(), NoMemory>
     ensures { OnOk result (out.new ≡ out.old ++ string_text bytes.now) }
 {
@@ -144,7 +144,7 @@ pub(crate) fn put_string(bytes: &[u8], out: &mut Bytes) -> Result<(), NoMemory>
 }
 
 /// A char by its scalar value. A number that is none prints as nothing.
-#[tactic(auto, unfolding(printed_forms::specs::Literals::char_text, printed_forms::specs::Pieces::scalar_text), using(std::proofs::Common::append_assoc))]
+#[tactic(auto, unfolding(plan_printer_spec::specs::Literals::char_text, plan_printer_spec::specs::Pieces::scalar_text), using(std::proofs::Common::append_assoc))]
 pub(crate) fn put_char(code: u32, out: &mut Bytes) -> Result<(), NoMemory>
     ensures { OnOk result (out.new ≡ out.old ++ scalar_text code) }
 {
@@ -169,7 +169,7 @@ fn put_hex(bytes: &[u8], out: &mut Bytes) -> Result<(), NoMemory>
 }
 
 /// A blob of these bytes.
-#[tactic(auto, unfolding(printed_forms::specs::Literals::blob_text), using(std::proofs::Common::append_assoc))]
+#[tactic(auto, unfolding(plan_printer_spec::specs::Literals::blob_text), using(std::proofs::Common::append_assoc))]
 pub(crate) fn put_blob(bytes: &[u8], out: &mut Bytes) -> Result<(), NoMemory>
     ensures { OnOk result (out.new ≡ out.old ++ blob_text bytes.now) }
 {

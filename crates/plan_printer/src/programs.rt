@@ -1,8 +1,8 @@
 ghost use Rattle.std.specs.Prelude.{◌≡◌, ◌++◌, [], codes, OnOk, OnErr};
 ghost use Rattle.std.specs.Fmt.{decimal};
 ghost use Rattle.std.specs.List.{flat_map};
-ghost use Rattle.printed_forms.specs.Pieces.{listed_pieces, commas};
-ghost use Rattle.printed_forms.specs.Printed.{type_text, op_text, nil_text, raise_text, expr_text, catch_text, clause_text, svc_text, exn_text, param_text, fun_text, program_text};
+ghost use Rattle.plan_printer_spec.specs.Pieces.{listed_pieces, commas};
+ghost use Rattle.plan_printer_spec.specs.Printed.{type_text, op_text, nil_text, raise_text, expr_text, catch_text, clause_text, svc_text, exn_text, param_text, fun_text, program_text};
 
 use crate::pieces::{
     put, put_blob, put_bool, put_char, put_decimal, put_dev, put_host, put_int, put_named,
@@ -24,7 +24,7 @@ pub fn print_program(alloc: Global, program: &Program, out: &mut Bytes) -> Resul
 }
 
 /// The spelling of an operator.
-#[tactic(auto, unfolding(printed_forms::specs::Printed::op_text))]
+#[tactic(auto, unfolding(plan_printer_spec::specs::Printed::op_text))]
 fn op_spelling(op: Op) -> &'static [u8]
     ensures { result.now ≡ op_text op }
 {
@@ -450,7 +450,7 @@ fn put_funs(alloc: Global, funs: &[Fun], out: &mut Bytes) -> Result<(), NoMemory
 }
 
 /// A program.
-#[tactic(auto, unfolding(printed_forms::specs::Printed::program_text), using(std::proofs::Common::append_assoc))]
+#[tactic(auto, unfolding(plan_printer_spec::specs::Printed::program_text), using(std::proofs::Common::append_assoc))]
 fn put_program(alloc: Global, program: &Program, out: &mut Bytes) -> Result<(), NoMemory>
     ensures { OnOk result (out.new ≡ out.old ++ program_text program.now) }
 {

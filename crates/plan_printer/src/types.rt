@@ -1,6 +1,6 @@
 ghost use Rattle.std.specs.Prelude.{◌≡◌, ◌++◌, [], OnOk, OnErr};
-ghost use Rattle.printed_forms.specs.Pieces.{listed_pieces};
-ghost use Rattle.printed_forms.specs.Printed.{type_text, empty_text};
+ghost use Rattle.plan_printer_spec.specs.Pieces.{listed_pieces};
+ghost use Rattle.plan_printer_spec.specs.Printed.{type_text, empty_text};
 
 use crate::pieces::put;
 use plan_base::{Bytes, NoMemory, Ty};

@@ -1,6 +1,6 @@
 ghost use Rattle.std.specs.Prelude.{◌≡◌, ◌++◌, OnOk, OnErr};
-ghost use Rattle.printed_forms.specs.Pieces.{commas};
-ghost use Rattle.printed_forms.specs.Printed.{value_text, chunk_text};
+ghost use Rattle.plan_printer_spec.specs.Pieces.{commas};
+ghost use Rattle.plan_printer_spec.specs.Printed.{value_text, chunk_text};
 
 use crate::pieces::{
     put, put_blob, put_bool, put_char, put_decimal, put_dev, put_host, put_int, put_named,
@@ -8,7 +8,7 @@ use crate::pieces::{
 };
 use crate::types::put_empty;
 use plan_base::{Bytes, Chunk, NoMemory, Value};
-use plan_sizes::chunk_weight;
+use plan_base_size::chunk_weight;
 use std::alloc::Global;
 
 /// Appends the printed form of a value. A chunk shows its entry and its weight alone. Where memory is refused, `out` stays.
@@ -81,7 +81,7 @@ pub fn put_values(alloc: Global, values: &[Value], out: &mut Bytes) -> Result<()
 }
 
 /// A chunk in a value, by its entry and its weight as a value.
-#[tactic(auto, unfolding(printed_forms::specs::Printed::chunk_text), using(std::proofs::Common::append_assoc))]
+#[tactic(auto, unfolding(plan_printer_spec::specs::Printed::chunk_text), using(std::proofs::Common::append_assoc))]
 fn put_chunk(alloc: Global, c: &Chunk, out: &mut Bytes) -> Result<(), NoMemory>
     ensures { OnOk result (out.new ≡ out.old ++ chunk_text c.now) }
 {

@@ -2,17 +2,17 @@
 use Rattle.std.proofs.Common.{◌≡◌, ◌≢◌, ◌∙◌, refl, subst}
 use Rattle.std.specs.Prelude.{Result, Ok, Err, IsErrAnd, MatchResult}
 use Rattle.plan_base.specs.declared.tree.Program.{Program}
-use Rattle.typing_rules.specs.declared.type_fault.TypeFault.{TypeFault}
-use Rattle.typing_rules.specs.declared.type_fault.TypeFault.TheVariants.{NoMemory}
+use Rattle.plan_types_spec.specs.declared.type_fault.TypeFault.{TypeFault}
+use Rattle.plan_types_spec.specs.declared.type_fault.TypeFault.TheVariants.{NoMemory}
 use Rattle.plan_base.specs.WellFormed.{IsWellFormedProgram, ProgramHasTypes}
-use Rattle.typing_rules.specs.Typing.{Typed}
-use Rattle.typing_rules.specs.TypingFills.{Fills}
-use Rattle.typing_rules.specs.TypingOrder.{annotated_program}
+use Rattle.plan_types_spec.specs.Typing.{Typed}
+use Rattle.plan_types_spec.specs.TypingFills.{Fills}
+use Rattle.plan_types_spec.specs.TypingOrder.{annotated_program}
 use Rattle.plan_types.specs.Checks.{Gives}
 use Rattle.checked_chunks.specs.Kept.{IsChecked}
 use Rattle.plan_types.proofs.Formed.{filled_formed}
 use Rattle.checked_chunks.proofs.Whole.{program_whole}
-use Rattle.typing_rules.proofs.Programs.{annotated_sound, annotated_complete, fills_itself, fills_full, depths_kept}
+use Rattle.plan_types_spec.proofs.Programs.{annotated_sound, annotated_complete, fills_itself, fills_full, depths_kept}
 
 -- an answer fills the draft in, and keeps what a checked program keeps
 pub checked_by : (d k : Program) → annotated_program d ≡ Ok k → IsWellFormedProgram d → Fills d k × IsChecked k

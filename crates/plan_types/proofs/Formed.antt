@@ -8,8 +8,8 @@ use Rattle.std.proofs.lemmas.List.{length-map, take-map}
 use Rattle.std.proofs.lemmas.List.Sums.{sum-map}
 use Rattle.std.proofs.lemmas.List.Folds.{list_all-append, list_all-map, find_at}
 use Rattle.std.proofs.lemmas.Bool.{leb-true, le-leb}
-use Rattle.plan_items.proofs.Bools.{and_left, and_right, and_both}
-use Rattle.plan_items.proofs.Lists.{largest_from}
+use Rattle.containers.proofs.Bools.{and_left, and_right, and_both}
+use Rattle.containers.proofs.Lists.{largest_from}
 use Rattle.plan_base.specs.declared.name.Name.{Name}
 use Rattle.plan_base.specs.declared.prim.Primitive.{Primitive}
 use Rattle.plan_base.specs.declared.prim.Primitive.TheVariants.{Hd, Tl, Length, IntToString, HostToString, StringToBlob, BlobLength, BlobPart}
@@ -25,14 +25,14 @@ use Rattle.plan_base.specs.declared.tree.Program.{Program}
 use Rattle.plan_base.specs.Trees.{TyLayer, ExprLayer}
 use Rattle.plan_base.specs.Sizes.{largest_by, type_depth_level, type_depth, expr_depth_level, expr_depth, clause_depth, expr_nodes_level, expr_nodes, clause_nodes, program_nodes}
 use Rattle.plan_base.proofs.SizeLaws.{largest_by-map, type_depth_out, expr_depth_out, expr_nodes_out}
-use Rattle.plan_base.specs.WellFormed.{has_from_to, formed_type_level, formed_type, well_formed_type, well_formed_option_type, names_all_but_last, formed_expr_level, formed_expr, well_formed_expr, well_formed_svc, well_formed_fun, well_formed_program, IsWellFormedProgram}
+use Rattle.plan_base.specs.WellFormed.{has_from_to, formed_type_level, formed_type, well_formed_type, names_all_but_last, formed_expr_level, formed_expr, well_formed_expr, well_formed_svc, well_formed_fun, well_formed_program, IsWellFormedProgram}
 use Rattle.plan_base.proofs.FormLaws.{formed_type_out, formed_expr_out}
-use Rattle.typing_rules.specs.Typing.{Ctx, literal_type, IsShallow}
-use Rattle.typing_rules.specs.TypingNames.{service_of, place_of, binds, binding, param_types, of_list, takes, makes, part_of}
-use Rattle.typing_rules.specs.TypingOrder.{items_of_layer, items_of, parts_of_layer, parts_of, want_at, fun_of, earlier}
-use Rattle.typing_rules.specs.TypingFills.{Suits, Becomes, PartsBecome, ClausesBecome, FunFills, Fills}
-use Rattle.typing_rules.specs.TypingFills.{Becomes as B, PartsBecome as P, ClausesBecome as C}
-use Rattle.typing_rules.proofs.Layers.{and_then_some}
+use Rattle.plan_types_spec.specs.Typing.{Ctx, literal_type, IsShallow}
+use Rattle.plan_types_spec.specs.TypingNames.{service_of, place_of, binds, binding, param_types, of_list, takes, makes, part_of}
+use Rattle.plan_types_spec.specs.TypingOrder.{items_of_layer, items_of, parts_of_layer, parts_of, want_at, fun_of, earlier}
+use Rattle.plan_types_spec.specs.TypingFills.{Becomes, PartsBecome, ClausesBecome, FunFills, Fills}
+use Rattle.plan_types_spec.specs.TypingFills.{Becomes as B, PartsBecome as P, ClausesBecome as C}
+use Rattle.plan_types_spec.proofs.Layers.{and_then_some}
 
 -- ---- types
 

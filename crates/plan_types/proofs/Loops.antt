@@ -6,7 +6,7 @@ use Rattle.std.specs.Str.{bytes_eq}
 use Rattle.std.proofs.lemmas.List.{take_more, get_or_default}
 use Rattle.plan_base.specs.declared.name.Name.{Name}
 use Rattle.plan_base.specs.declared.tree.Param.{Param}
-use Rattle.typing_rules.specs.TypingNames.{binding, has_name, built_in}
+use Rattle.plan_types_spec.specs.TypingNames.{binding, has_name, built_in}
 
 binding-last : (n : Name) (ps : List Param) (p : Param) → binding n (ps ++ p ∷ []) ≡ (if bytes_eq p.name n then Some p.ty else binding n ps)
 binding-last n [] p = refl

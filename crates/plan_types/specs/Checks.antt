@@ -5,12 +5,12 @@ use Rattle.std.specs.declared.alloc.Global.{Global}
 use denote.Ref.{Bor, MutBor}
 use Rattle.plan_base.specs.declared.tree.Ty.{Ty}
 use Rattle.plan_base.specs.declared.tree.Expr.{Expr}
-use Rattle.typing_rules.specs.declared.type_fault.TypeFault.{TypeFault}
-use Rattle.typing_rules.specs.declared.type_fault.TypeFault.TheVariants.{NoMemory}
-use Rattle.typing_rules.specs.Typing.{Ctx}
-use Rattle.typing_rules.specs.TypingOrder.{Checking, Found, checked_expression}
+use Rattle.plan_types_spec.specs.declared.type_fault.TypeFault.{TypeFault}
+use Rattle.plan_types_spec.specs.declared.type_fault.TypeFault.TheVariants.{NoMemory}
+use Rattle.plan_types_spec.specs.Typing.{Ctx}
+use Rattle.plan_types_spec.specs.TypingOrder.{Checking, Found, checked_expression}
 use Rattle.plan_types.specs.declared.state.Scope.{Scope}
-use Rattle.plan_types.specs.declared.state.State.{State}
+use Rattle.plan_types.specs.declared.state.TypingState.{TypingState}
 
 -- the answer and the next number are as wanted, unless memory is refused
 abbrev pub Meets : {A : Type 0} → Result (A × ℕ) TypeFault → Result A TypeFault → ℕ → Type 0
@@ -32,10 +32,10 @@ abbrev pub below : Scope → ℕ → Ctx → Option Ty → Expr → Checking Fou
 below scope depth = checked_expression scope.code.now depth scope.seen
 
 -- a function value that checks expressions to a depth
-pub record Nests (depth : ℕ) (pre : Global → ℕ → Bor Scope → MutBor State → Option (Bor Ty) → Bor Expr → Type 0)
-    (post : Global → ℕ → Bor Scope → MutBor State → Option (Bor Ty) → Bor Expr → Result Found TypeFault → MutBor State → Type 0) : Type 0 where
-  pub callable : (alloc : Global) (scope : Bor Scope) (old : MutBor State) (want : Option (Bor Ty)) (e : Bor Expr) → pre alloc depth scope old want e
-  pub checks : (alloc : Global) (scope : Bor Scope) (old new : MutBor State) (want : Option (Bor Ty)) (e : Bor Expr) (r : Result Found TypeFault) → post alloc depth scope old want e r new
+pub record Nests (depth : ℕ) (pre : Global → ℕ → Bor Scope → MutBor TypingState → Option (Bor Ty) → Bor Expr → Type 0)
+    (post : Global → ℕ → Bor Scope → MutBor TypingState → Option (Bor Ty) → Bor Expr → Result Found TypeFault → MutBor TypingState → Type 0) : Type 0 where
+  pub callable : (alloc : Global) (scope : Bor Scope) (old : MutBor TypingState) (want : Option (Bor Ty)) (e : Bor Expr) → pre alloc depth scope old want e
+  pub checks : (alloc : Global) (scope : Bor Scope) (old new : MutBor TypingState) (want : Option (Bor Ty)) (e : Bor Expr) (r : Result Found TypeFault) → post alloc depth scope old want e r new
       → Meets (below scope.now depth old.now.ctx (option_copied want) e.now old.now.node) r new.now.node
-  pub keeps : (alloc : Global) (scope : Bor Scope) (old new : MutBor State) (want : Option (Bor Ty)) (e : Bor Expr) (r : Result Found TypeFault) → post alloc depth scope old want e r new
+  pub keeps : (alloc : Global) (scope : Bor Scope) (old new : MutBor TypingState) (want : Option (Bor Ty)) (e : Bor Expr) (r : Result Found TypeFault) → post alloc depth scope old want e r new
       → new.now.ctx ≡ old.now.ctx

@@ -3,17 +3,17 @@
 ghost use Rattle.std.specs.Prelude.{◌≡◌, ℕ, Some, IfOk, option_and_then};
 ghost use Rattle.std.specs.Option.{option_copied};
 ghost use Rattle.plan_base.specs.declared.tree.Expr.{out-Expr};
-ghost use Rattle.typing_rules.specs.TypingOrder as spec;
+ghost use Rattle.plan_types_spec.specs.TypingOrder as spec;
 ghost use Rattle.plan_types.specs.Checks.{Meets, Nests, below};
 
 use crate::checker::Checker;
 use crate::names::{binding, is_exception};
 use crate::settle::{items_of, list_of, settle_type, shallow};
-use crate::state::{Scope, State};
+use crate::state::{Scope, TypingState};
 use plan_base::{Expr, Name, NoMemory, Param, Place, Ty};
-use plan_copies::Copied;
+use plan_base_copy::TryClone;
+use plan_types_spec::TypeFault;
 use std::alloc::Global;
-use typing_rules::TypeFault;
 
 /// An expression and a type as they stand.
 fn copies(alloc: Global, e: &Expr, ty: &Ty) -> Result<(Expr, Ty), NoMemory>
@@ -52,7 +52,7 @@ fn literal(
 }
 
 /// A name that was bound.
-#[tactic(auto, unfolding(typing_rules::specs::TypingOrder::variable))]
+#[tactic(auto, unfolding(plan_types_spec::specs::TypingOrder::variable))]
 fn variable(
     alloc: Global,
     ctx: &[Param],
@@ -129,7 +129,7 @@ fn empty_of_items(
 }
 
 /// An empty list.
-#[tactic(auto, unfolding(typing_rules::specs::TypingOrder::empty))]
+#[tactic(auto, unfolding(plan_types_spec::specs::TypingOrder::empty))]
 fn empty(
     alloc: Global,
     at: u32,
@@ -174,7 +174,7 @@ fn raise_of_type(alloc: Global, name: &Name, ty: &Ty) -> Result<(Expr, Ty), NoMe
 }
 
 /// An exception raised.
-#[tactic(auto, unfolding(typing_rules::specs::TypingOrder::raising))]
+#[tactic(auto, unfolding(plan_types_spec::specs::TypingOrder::raising))]
 fn raising(
     alloc: Global,
     scope: &Scope<'_>,
@@ -209,7 +209,7 @@ impl<
         Global,
         usize,
         &Scope<'_>,
-        &mut State,
+        &mut TypingState,
         Option<&Ty>,
         &Expr,
     ) -> Result<(Expr, Ty), TypeFault>,
@@ -219,7 +219,7 @@ impl<
     fn check_form(
         &self,
         scope: &Scope<'_>,
-        state: &mut State,
+        state: &mut TypingState,
         at: u32,
         want: Option<&Ty>,
         e: &Expr,
@@ -271,11 +271,11 @@ impl<
     }
 
     /// An expression takes the next number, and its parts the numbers after it.
-    #[tactic(auto, unfolding(typing_rules::specs::TypingOrder::expression))]
+    #[tactic(auto, unfolding(plan_types_spec::specs::TypingOrder::expression))]
     fn expression(
         &self,
         scope: &Scope<'_>,
-        state: &mut State,
+        state: &mut TypingState,
         want: Option<&Ty>,
         e: &Expr,
     ) -> Result<(Expr, Ty), TypeFault>
@@ -297,7 +297,7 @@ pub fn check_expr(
     alloc: Global,
     depth: usize,
     scope: &Scope<'_>,
-    state: &mut State,
+    state: &mut TypingState,
     want: Option<&Ty>,
     e: &Expr,
 ) -> Result<(Expr, Ty), TypeFault>

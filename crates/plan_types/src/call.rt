@@ -3,21 +3,21 @@
 ghost use Rattle.std.specs.Prelude.{ℕ, ◌≡◌, ◌∷◌, [], if◌then◌else◌, Some, IfOk};
 ghost use Rattle.std.specs.Option.{option_copied};
 ghost use Rattle.plan_base.specs.SameTypes.{same_type};
-ghost use Rattle.typing_rules.specs.TypingOrder as spec;
-ghost use Rattle.typing_rules.specs.TypingNames as names;
+ghost use Rattle.plan_types_spec.specs.TypingOrder as spec;
+ghost use Rattle.plan_types_spec.specs.TypingNames as names;
 ghost use Rattle.plan_types.specs.Checks.{Meets, Nests, below};
 
 use crate::checker::Checker;
 use crate::names::earlier;
 use crate::settle::{items_of, list_of, refuse_expr, settle_type};
-use crate::state::{Scope, State};
+use crate::state::{Scope, TypingState};
 use checked_chunks::fun_of;
+use containers::{Boxed, Items};
 use plan_base::{Expr, Exprs, Name, NoMemory, Param, Place, Primitive, Program, Ty, Tys};
-use plan_copies::Copied;
-use plan_equality::Same;
-use plan_items::{Boxed, Items};
+use plan_base_copy::TryClone;
+use plan_base_eq::SameAs;
+use plan_types_spec::{TypeFault, place_of, prim_of, service_of};
 use std::alloc::Global;
-use typing_rules::{TypeFault, place_of, prim_of, service_of};
 
 /// The types of parameters.
 fn param_types(alloc: Global, params: &[Param]) -> Result<Tys, NoMemory>
@@ -235,17 +235,17 @@ impl<
         Global,
         usize,
         &Scope<'_>,
-        &mut State,
+        &mut TypingState,
         Option<&Ty>,
         &Expr,
     ) -> Result<(Expr, Ty), TypeFault>,
 > Checker<F> {
     /// Arguments, each with the type that is wanted of it.
-    #[tactic(auto, unfolding(typing_rules::specs::TypingOrder::arguments))]
+    #[tactic(auto, unfolding(plan_types_spec::specs::TypingOrder::arguments))]
     fn arguments(
         &self,
         scope: &Scope<'_>,
-        state: &mut State,
+        state: &mut TypingState,
         at: u32,
         wants: &Tys,
         es: &Exprs,
@@ -269,11 +269,11 @@ impl<
     }
 
     /// A call by its parameters' types and its result's.
-    #[tactic(auto, unfolding(typing_rules::specs::TypingOrder::applied_call))]
+    #[tactic(auto, unfolding(plan_types_spec::specs::TypingOrder::applied_call))]
     fn check_call(
         &self,
         scope: &Scope<'_>,
-        state: &mut State,
+        state: &mut TypingState,
         at: u32,
         want: Option<&Ty>,
         f: &Name,
@@ -300,11 +300,11 @@ impl<
     }
 
     /// A primitive that takes one list of any type.
-    #[tactic(auto, unfolding(typing_rules::specs::TypingOrder::of_items))]
+    #[tactic(auto, unfolding(plan_types_spec::specs::TypingOrder::of_items))]
     fn of_items(
         &self,
         scope: &Scope<'_>,
-        state: &mut State,
+        state: &mut TypingState,
         at: u32,
         want: Option<&Ty>,
         f: &Name,
@@ -333,11 +333,11 @@ impl<
     }
 
     /// A primitive.
-    #[tactic(auto, unfolding(typing_rules::specs::TypingOrder::primitive))]
+    #[tactic(auto, unfolding(plan_types_spec::specs::TypingOrder::primitive))]
     fn primitive(
         &self,
         scope: &Scope<'_>,
-        state: &mut State,
+        state: &mut TypingState,
         at: u32,
         want: Option<&Ty>,
         f: &Name,
@@ -364,11 +364,11 @@ impl<
     }
 
     /// A function of the program, which must be an earlier one.
-    #[tactic(auto, unfolding(typing_rules::specs::TypingOrder::function))]
+    #[tactic(auto, unfolding(plan_types_spec::specs::TypingOrder::function))]
     fn function(
         &self,
         scope: &Scope<'_>,
-        state: &mut State,
+        state: &mut TypingState,
         at: u32,
         want: Option<&Ty>,
         f: &Name,
@@ -395,11 +395,11 @@ impl<
     }
 
     /// A call of a primitive, a service or a function.
-    #[tactic(auto, unfolding(typing_rules::specs::TypingOrder::call))]
+    #[tactic(auto, unfolding(plan_types_spec::specs::TypingOrder::call))]
     pub fn call(
         &self,
         scope: &Scope<'_>,
-        state: &mut State,
+        state: &mut TypingState,
         at: u32,
         want: Option<&Ty>,
         f: &Name,
@@ -424,7 +424,7 @@ impl<
     fn wanting_list(
         &self,
         scope: &Scope<'_>,
-        state: &mut State,
+        state: &mut TypingState,
         item: &Ty,
         e: &Boxed<Expr>,
     ) -> Result<Boxed<Expr>, TypeFault>
@@ -446,11 +446,11 @@ impl<
     }
 
     /// `foldl`.
-    #[tactic(auto, unfolding(typing_rules::specs::TypingOrder::fold_left, typing_rules::specs::TypingOrder::folding))]
+    #[tactic(auto, unfolding(plan_types_spec::specs::TypingOrder::fold_left, plan_types_spec::specs::TypingOrder::folding))]
     pub fn fold_left(
         &self,
         scope: &Scope<'_>,
-        state: &mut State,
+        state: &mut TypingState,
         at: u32,
         want: Option<&Ty>,
         f: &Name,
@@ -487,11 +487,11 @@ impl<
     }
 
     /// `foldr`.
-    #[tactic(auto, unfolding(typing_rules::specs::TypingOrder::fold_right, typing_rules::specs::TypingOrder::folding))]
+    #[tactic(auto, unfolding(plan_types_spec::specs::TypingOrder::fold_right, plan_types_spec::specs::TypingOrder::folding))]
     pub fn fold_right(
         &self,
         scope: &Scope<'_>,
-        state: &mut State,
+        state: &mut TypingState,
         at: u32,
         want: Option<&Ty>,
         f: &Name,
@@ -528,11 +528,11 @@ impl<
     }
 
     /// A chunk literal, whose entry is any function of the program.
-    #[tactic(auto, unfolding(typing_rules::specs::TypingOrder::packing))]
+    #[tactic(auto, unfolding(plan_types_spec::specs::TypingOrder::packing))]
     pub fn packing(
         &self,
         scope: &Scope<'_>,
-        state: &mut State,
+        state: &mut TypingState,
         at: u32,
         want: Option<&Ty>,
         f: &Name,

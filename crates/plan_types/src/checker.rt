@@ -3,15 +3,15 @@
 
 ghost use Rattle.std.specs.Prelude.{◌≡◌, ◌≢◌, ◌++◌, ◌∷◌, [], ◌≤◌, length, Some, Ok, Err, OnOk, MatchResult};
 ghost use Rattle.std.specs.Option.{option_copied};
-ghost use Rattle.typing_rules.specs.TypingOrder as spec;
+ghost use Rattle.plan_types_spec.specs.TypingOrder as spec;
 ghost use Rattle.plan_types.specs.Checks.{Leaves, Meets, Nests, below};
 
 use crate::settle::want_at;
-use crate::state::{Scope, State};
+use crate::state::{Scope, TypingState};
+use containers::{Boxed, Items};
 use plan_base::{Clause, Clauses, Expr, Exprs, Name, NoMemory, Ty, Tys};
-use plan_items::{Boxed, Items};
+use plan_types_spec::TypeFault;
 use std::alloc::Global;
-use typing_rules::TypeFault;
 
 /// The function that checks expressions, and the depth to which it does.
 #[derive(Clone, Copy)]
@@ -26,7 +26,7 @@ impl<
         Global,
         usize,
         &Scope<'_>,
-        &mut State,
+        &mut TypingState,
         Option<&Ty>,
         &Expr,
     ) -> Result<(Expr, Ty), TypeFault>,
@@ -35,7 +35,7 @@ impl<
     pub fn run(
         &self,
         scope: &Scope<'_>,
-        state: &mut State,
+        state: &mut TypingState,
         want: Option<&Ty>,
         e: &Expr,
     ) -> Result<(Expr, Ty), TypeFault>
@@ -48,11 +48,11 @@ impl<
     }
 
     /// An expression of which a type is wanted.
-    #[tactic(auto, unfolding(typing_rules::specs::TypingOrder::wanting))]
+    #[tactic(auto, unfolding(plan_types_spec::specs::TypingOrder::wanting))]
     pub fn wanting(
         &self,
         scope: &Scope<'_>,
-        state: &mut State,
+        state: &mut TypingState,
         ty: &Ty,
         e: &Expr,
     ) -> Result<Expr, TypeFault>
@@ -74,7 +74,7 @@ impl<
     pub fn wanting_boxed(
         &self,
         scope: &Scope<'_>,
-        state: &mut State,
+        state: &mut TypingState,
         ty: &Ty,
         e: &Boxed<Expr>,
     ) -> Result<Boxed<Expr>, TypeFault>
@@ -93,7 +93,7 @@ impl<
     pub fn run_boxed(
         &self,
         scope: &Scope<'_>,
-        state: &mut State,
+        state: &mut TypingState,
         want: Option<&Ty>,
         e: &Boxed<Expr>,
     ) -> Result<(Boxed<Expr>, Ty), TypeFault>
@@ -115,11 +115,11 @@ impl<
     }
 
     /// Adds parts from the left, and their types.
-    #[tactic(auto, unfolding(typing_rules::specs::TypingOrder::parts_from))]
+    #[tactic(auto, unfolding(plan_types_spec::specs::TypingOrder::parts_from))]
     fn add_parts(
         &self,
         scope: &Scope<'_>,
-        state: &mut State,
+        state: &mut TypingState,
         wants: Option<&Tys>,
         mut all: &[Expr],
         done: &mut Exprs,
@@ -143,7 +143,7 @@ impl<
     pub fn parts(
         &self,
         scope: &Scope<'_>,
-        state: &mut State,
+        state: &mut TypingState,
         wants: Option<&Tys>,
         all: &[Expr],
     ) -> Result<(Exprs, Tys), TypeFault>
@@ -169,7 +169,7 @@ impl<
     fn clause(
         &self,
         scope: &Scope<'_>,
-        state: &mut State,
+        state: &mut TypingState,
         ty: &Ty,
         clause: &Clause,
     ) -> Result<Clause, TypeFault>
@@ -192,11 +192,11 @@ impl<
     }
 
     /// Clauses from the first, each with the wanted type.
-    #[tactic(auto, unfolding(typing_rules::specs::TypingOrder::clauses_from))]
+    #[tactic(auto, unfolding(plan_types_spec::specs::TypingOrder::clauses_from))]
     pub fn clauses(
         &self,
         scope: &Scope<'_>,
-        state: &mut State,
+        state: &mut TypingState,
         ty: &Ty,
         mut all: &[Clause],
     ) -> Result<Clauses, TypeFault>

@@ -2,36 +2,36 @@
 
 ghost use Rattle.std.specs.Prelude.{ℕ, ◌≡◌, ◌++◌, ◌∷◌, [], IfOk, OnOk, OnErr};
 ghost use Rattle.std.specs.Option.{option_copied};
-ghost use Rattle.typing_rules.specs.TypingNames.{binds};
-ghost use Rattle.typing_rules.specs.TypingOrder as spec;
+ghost use Rattle.plan_types_spec.specs.TypingNames.{binds};
+ghost use Rattle.plan_types_spec.specs.TypingOrder as spec;
 ghost use Rattle.plan_types.specs.Checks.{Meets, Nests, below};
 
 use crate::checker::Checker;
 use crate::names::any_unknown;
 use crate::settle::{part_in, parts_of, settle_type, shallow};
-use crate::state::{Scope, State};
+use crate::state::{Scope, TypingState};
+use containers::Boxed;
 use plan_base::{Clauses, Expr, Exprs, Name, NoMemory, Param, Params, Place, Ty};
-use plan_copies::Copied;
-use plan_items::Boxed;
+use plan_base_copy::TryClone;
+use plan_types_spec::TypeFault;
 use std::alloc::Global;
-use typing_rules::TypeFault;
 
 impl<
     F: Fn(
         Global,
         usize,
         &Scope<'_>,
-        &mut State,
+        &mut TypingState,
         Option<&Ty>,
         &Expr,
     ) -> Result<(Expr, Ty), TypeFault>,
 > Checker<F> {
     /// A tuple.
-    #[tactic(auto, unfolding(typing_rules::specs::TypingOrder::tuple))]
+    #[tactic(auto, unfolding(plan_types_spec::specs::TypingOrder::tuple))]
     pub fn tuple(
         &self,
         scope: &Scope<'_>,
-        state: &mut State,
+        state: &mut TypingState,
         at: u32,
         want: Option<&Ty>,
         es: &Exprs,
@@ -56,11 +56,11 @@ impl<
     }
 
     /// A part of a tuple.
-    #[tactic(auto, unfolding(typing_rules::specs::TypingOrder::part))]
+    #[tactic(auto, unfolding(plan_types_spec::specs::TypingOrder::part))]
     pub fn part(
         &self,
         scope: &Scope<'_>,
-        state: &mut State,
+        state: &mut TypingState,
         at: u32,
         want: Option<&Ty>,
         number: u8,
@@ -92,11 +92,11 @@ impl<
     }
 
     /// `if`.
-    #[tactic(auto, unfolding(typing_rules::specs::TypingOrder::choice))]
+    #[tactic(auto, unfolding(plan_types_spec::specs::TypingOrder::choice))]
     pub fn choice(
         &self,
         scope: &Scope<'_>,
-        state: &mut State,
+        state: &mut TypingState,
         want: Option<&Ty>,
         a: &Boxed<Expr>,
         b: &Boxed<Expr>,
@@ -129,11 +129,11 @@ impl<
     }
 
     /// A binding.
-    #[tactic(auto, unfolding(typing_rules::specs::TypingOrder::binder))]
+    #[tactic(auto, unfolding(plan_types_spec::specs::TypingOrder::binder))]
     pub fn binder(
         &self,
         scope: &Scope<'_>,
-        state: &mut State,
+        state: &mut TypingState,
         want: Option<&Ty>,
         name: &Name,
         ty: &Ty,
@@ -168,7 +168,7 @@ impl<
     fn inside(
         &self,
         scope: &Scope<'_>,
-        state: &mut State,
+        state: &mut TypingState,
         want: Option<&Ty>,
         name: &Name,
         ty: &Ty,
@@ -187,11 +187,11 @@ impl<
     }
 
     /// `a; b`.
-    #[tactic(auto, unfolding(typing_rules::specs::TypingOrder::sequence))]
+    #[tactic(auto, unfolding(plan_types_spec::specs::TypingOrder::sequence))]
     pub fn sequence(
         &self,
         scope: &Scope<'_>,
-        state: &mut State,
+        state: &mut TypingState,
         want: Option<&Ty>,
         a: &Boxed<Expr>,
         b: &Boxed<Expr>,
@@ -215,11 +215,11 @@ impl<
     }
 
     /// `and`.
-    #[tactic(auto, unfolding(typing_rules::specs::TypingOrder::both))]
+    #[tactic(auto, unfolding(plan_types_spec::specs::TypingOrder::both))]
     pub fn both(
         &self,
         scope: &Scope<'_>,
-        state: &mut State,
+        state: &mut TypingState,
         at: u32,
         want: Option<&Ty>,
         a: &Boxed<Expr>,
@@ -251,11 +251,11 @@ impl<
     }
 
     /// `or`.
-    #[tactic(auto, unfolding(typing_rules::specs::TypingOrder::either))]
+    #[tactic(auto, unfolding(plan_types_spec::specs::TypingOrder::either))]
     pub fn either(
         &self,
         scope: &Scope<'_>,
-        state: &mut State,
+        state: &mut TypingState,
         at: u32,
         want: Option<&Ty>,
         a: &Boxed<Expr>,
@@ -287,11 +287,11 @@ impl<
     }
 
     /// `not`.
-    #[tactic(auto, unfolding(typing_rules::specs::TypingOrder::negation))]
+    #[tactic(auto, unfolding(plan_types_spec::specs::TypingOrder::negation))]
     pub fn negation(
         &self,
         scope: &Scope<'_>,
-        state: &mut State,
+        state: &mut TypingState,
         at: u32,
         want: Option<&Ty>,
         a: &Boxed<Expr>,
@@ -309,11 +309,11 @@ impl<
     }
 
     /// `try`.
-    #[tactic(auto, unfolding(typing_rules::specs::TypingOrder::handling))]
+    #[tactic(auto, unfolding(plan_types_spec::specs::TypingOrder::handling))]
     pub fn handling(
         &self,
         scope: &Scope<'_>,
-        state: &mut State,
+        state: &mut TypingState,
         at: u32,
         want: Option<&Ty>,
         a: &Boxed<Expr>,
@@ -342,11 +342,11 @@ impl<
     }
 
     /// `eval`.
-    #[tactic(auto, unfolding(typing_rules::specs::TypingOrder::evaluation))]
+    #[tactic(auto, unfolding(plan_types_spec::specs::TypingOrder::evaluation))]
     pub fn evaluation(
         &self,
         scope: &Scope<'_>,
-        state: &mut State,
+        state: &mut TypingState,
         at: u32,
         want: Option<&Ty>,
         a: &Boxed<Expr>,
@@ -371,11 +371,11 @@ impl<
     }
 
     /// `OnRemote`.
-    #[tactic(auto, unfolding(typing_rules::specs::TypingOrder::remote))]
+    #[tactic(auto, unfolding(plan_types_spec::specs::TypingOrder::remote))]
     pub fn remote(
         &self,
         scope: &Scope<'_>,
-        state: &mut State,
+        state: &mut TypingState,
         at: u32,
         want: Option<&Ty>,
         a: &Boxed<Expr>,
@@ -412,11 +412,11 @@ impl<
     }
 
     /// `OnNeighbor`.
-    #[tactic(auto, unfolding(typing_rules::specs::TypingOrder::neighbour))]
+    #[tactic(auto, unfolding(plan_types_spec::specs::TypingOrder::neighbour))]
     pub fn neighbour(
         &self,
         scope: &Scope<'_>,
-        state: &mut State,
+        state: &mut TypingState,
         at: u32,
         want: Option<&Ty>,
         a: &Boxed<Expr>,

@@ -12,5 +12,5 @@ mod settle;
 mod state;
 mod typed;
 
+pub use plan_types_spec::{TypeFault, checking_is_typing, full_programs_stay, types_are_unique};
 pub use typed::{annotate, check, first_refusal};
-pub use typing_rules::{TypeFault, checking_is_typing, full_programs_stay, types_are_unique};

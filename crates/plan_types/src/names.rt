@@ -3,11 +3,11 @@
 ghost use Rattle.std.specs.Prelude.{◌≡◌, not, take, drop};
 ghost use Rattle.std.specs.List.{list_any};
 ghost use Rattle.std.specs.Option.{option_copied};
-ghost use Rattle.typing_rules.specs.TypingNames as spec;
-ghost use Rattle.typing_rules.specs.TypingOrder as order;
+ghost use Rattle.plan_types_spec.specs.TypingNames as spec;
+ghost use Rattle.plan_types_spec.specs.TypingOrder as order;
 
 use plan_base::{Clause, Fun, Name, Param, Program, Ty};
-use typing_rules::place_of;
+use plan_types_spec::place_of;
 
 /// Whether a name stands among others.
 pub fn has_name(names: &[Name], name: &Name) -> bool

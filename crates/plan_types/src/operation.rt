@@ -3,23 +3,23 @@
 ghost use Rattle.std.specs.Prelude.{◌≡◌};
 ghost use Rattle.std.specs.Option.{option_copied};
 ghost use Rattle.plan_base.specs.declared.tree.Expr.TheVariants as x;
-ghost use Rattle.typing_rules.specs.TypingOrder as spec;
+ghost use Rattle.plan_types_spec.specs.TypingOrder as spec;
 ghost use Rattle.plan_types.specs.Checks.{Meets, Nests, below};
 
 use crate::checker::Checker;
 use crate::settle::{is_joined, is_ordered, items_of, list_of, settle_type, shallow};
-use crate::state::{Scope, State};
+use crate::state::{Scope, TypingState};
+use containers::Boxed;
 use plan_base::{Expr, NoMemory, Op, Place, Ty};
-use plan_items::Boxed;
+use plan_types_spec::TypeFault;
 use std::alloc::Global;
-use typing_rules::TypeFault;
 
 impl<
     F: Fn(
         Global,
         usize,
         &Scope<'_>,
-        &mut State,
+        &mut TypingState,
         Option<&Ty>,
         &Expr,
     ) -> Result<(Expr, Ty), TypeFault>,
@@ -28,7 +28,7 @@ impl<
     fn second_operand(
         &self,
         scope: &Scope<'_>,
-        state: &mut State,
+        state: &mut TypingState,
         at: u32,
         want: Option<&Ty>,
         op: Op,
@@ -62,7 +62,7 @@ impl<
     fn joined_operand(
         &self,
         scope: &Scope<'_>,
-        state: &mut State,
+        state: &mut TypingState,
         at: u32,
         want: Option<&Ty>,
         op: Op,
@@ -90,11 +90,11 @@ impl<
     }
 
     /// Two numbers and an operator that gives a number.
-    #[tactic(auto, unfolding(typing_rules::specs::TypingOrder::calculation))]
+    #[tactic(auto, unfolding(plan_types_spec::specs::TypingOrder::calculation))]
     fn calculation(
         &self,
         scope: &Scope<'_>,
-        state: &mut State,
+        state: &mut TypingState,
         at: u32,
         want: Option<&Ty>,
         op: Op,
@@ -124,11 +124,11 @@ impl<
     }
 
     /// `^`.
-    #[tactic(auto, unfolding(typing_rules::specs::TypingOrder::join))]
+    #[tactic(auto, unfolding(plan_types_spec::specs::TypingOrder::join))]
     fn join(
         &self,
         scope: &Scope<'_>,
-        state: &mut State,
+        state: &mut TypingState,
         at: u32,
         want: Option<&Ty>,
         op: Op,
@@ -156,11 +156,11 @@ impl<
     }
 
     /// `=` and `<>`.
-    #[tactic(auto, unfolding(typing_rules::specs::TypingOrder::comparison))]
+    #[tactic(auto, unfolding(plan_types_spec::specs::TypingOrder::comparison))]
     fn comparison(
         &self,
         scope: &Scope<'_>,
-        state: &mut State,
+        state: &mut TypingState,
         at: u32,
         want: Option<&Ty>,
         op: Op,
@@ -190,11 +190,11 @@ impl<
     }
 
     /// `<` and its like.
-    #[tactic(auto, unfolding(typing_rules::specs::TypingOrder::order))]
+    #[tactic(auto, unfolding(plan_types_spec::specs::TypingOrder::order))]
     fn order(
         &self,
         scope: &Scope<'_>,
-        state: &mut State,
+        state: &mut TypingState,
         at: u32,
         want: Option<&Ty>,
         op: Op,
@@ -222,11 +222,11 @@ impl<
     }
 
     /// `::`.
-    #[tactic(auto, unfolding(typing_rules::specs::TypingOrder::prefix))]
+    #[tactic(auto, unfolding(plan_types_spec::specs::TypingOrder::prefix))]
     fn prefix(
         &self,
         scope: &Scope<'_>,
-        state: &mut State,
+        state: &mut TypingState,
         at: u32,
         want: Option<&Ty>,
         op: Op,
@@ -262,11 +262,11 @@ impl<
     }
 
     /// An operator between two operands.
-    #[tactic(auto, unfolding(typing_rules::specs::TypingOrder::operation))]
+    #[tactic(auto, unfolding(plan_types_spec::specs::TypingOrder::operation))]
     pub fn operation(
         &self,
         scope: &Scope<'_>,
-        state: &mut State,
+        state: &mut TypingState,
         at: u32,
         want: Option<&Ty>,
         op: Op,

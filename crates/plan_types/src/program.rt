@@ -1,20 +1,20 @@
 //! The checking of a whole program: its declarations, its bodies, and its size.
 
 ghost use Rattle.std.specs.Prelude.{◌≡◌, ◌++◌, ◌∷◌, [], Some, map, IfOk, OnOk};
-ghost use Rattle.typing_rules.specs.Typing.{param_names};
-ghost use Rattle.typing_rules.specs.TypingNames as names;
-ghost use Rattle.typing_rules.specs.TypingOrder as spec;
+ghost use Rattle.plan_types_spec.specs.Typing.{param_names};
+ghost use Rattle.plan_types_spec.specs.TypingNames as names;
+ghost use Rattle.plan_types_spec.specs.TypingOrder as spec;
 ghost use Rattle.plan_types.specs.Checks.{Gives};
 
 use crate::body::check_expr;
 use crate::names::{has_name, is_built_in};
-use crate::state::{Scope, State};
+use crate::state::{Scope, TypingState};
+use containers::Items;
 use plan_base::{Expr, Fun, Funs, Name, Names, NoMemory, Param, Params, Place, Program, Svc, Ty};
-use plan_copies::{Copied, copy_names, copy_params, copy_svcs};
-use plan_items::Items;
-use plan_sizes::code_size;
+use plan_base_copy::{TryClone, copy_names, copy_params, copy_svcs};
+use plan_base_size::code_size;
+use plan_types_spec::{TypeFault, prim_of};
 use std::alloc::Global;
-use typing_rules::{TypeFault, prim_of};
 
 /// The depth of expressions that a well-formed program keeps.
 const MOST_DEPTH: usize = 64;
@@ -38,7 +38,7 @@ fn is_prim(name: &Name) -> bool
 }
 
 /// Services, each with a new name that no primitive has; the number of the declaration after them.
-#[tactic(auto, unfolding(typing_rules::specs::TypingOrder::services_from))]
+#[tactic(auto, unfolding(plan_types_spec::specs::TypingOrder::services_from))]
 fn services(alloc: Global, mut all: &[Svc], at: u32) -> Result<u32, TypeFault>
     ensures { Gives (spec.services_from [] all.entry.now at) result }
 {
@@ -66,7 +66,7 @@ fn is_taken(taken: &[Name], name: &Name) -> bool
 }
 
 /// Exceptions, each with a new name that no built-in one has.
-#[tactic(auto, unfolding(typing_rules::specs::TypingOrder::exceptions_from))]
+#[tactic(auto, unfolding(plan_types_spec::specs::TypingOrder::exceptions_from))]
 fn exceptions(alloc: Global, mut all: &[Name], at: u32) -> Result<u32, TypeFault>
     ensures { Gives (spec.exceptions_from names.built_in all.entry.now at) result }
 {
@@ -111,7 +111,7 @@ fn svc_names(alloc: Global, svcs: &[Svc]) -> Result<Names, NoMemory>
 
 /// Functions, each with a new name that no primitive and no service has, and with parameters of
 /// different names.
-#[tactic(auto, unfolding(typing_rules::specs::TypingOrder::functions_from))]
+#[tactic(auto, unfolding(plan_types_spec::specs::TypingOrder::functions_from))]
 fn functions(alloc: Global, before: Names, mut all: &[Fun], at: u32) -> Result<u32, TypeFault>
     ensures { Gives (spec.functions_from before all.entry.now at) result }
 {
@@ -132,7 +132,7 @@ fn functions(alloc: Global, before: Names, mut all: &[Fun], at: u32) -> Result<u
 }
 
 /// All declarations, in the order of the tree; their number.
-#[tactic(auto, unfolding(typing_rules::specs::TypingOrder::declarations))]
+#[tactic(auto, unfolding(plan_types_spec::specs::TypingOrder::declarations))]
 fn declarations(alloc: Global, code: &Program) -> Result<u32, TypeFault>
     ensures { Gives (spec.declarations code.now) result }
 {
@@ -154,7 +154,7 @@ fn body(
         d.now.body node) result }
 {
     let scope = Scope { code, seen };
-    let mut state = State {
+    let mut state = TypingState {
         ctx: copy_params(alloc, d.params.as_slice())?,
         node,
     };
@@ -216,7 +216,7 @@ fn add_fun(alloc: Global, funs: &mut Funs, d: &Fun, body: Expr) -> Result<(), No
 }
 
 /// The functions with the types of their bodies filled in, and the number of expressions.
-#[tactic(auto, unfolding(typing_rules::specs::TypingOrder::bodies_from))]
+#[tactic(auto, unfolding(plan_types_spec::specs::TypingOrder::bodies_from))]
 fn bodies(alloc: Global, code: &Program, mut all: &[Fun]) -> Result<(Funs, u32), TypeFault>
     ensures { Gives (spec.bodies_from code.now [] all.entry.now 0) result }
 {
@@ -253,7 +253,7 @@ fn with_funs(alloc: Global, code: &Program, funs: Funs) -> Result<Program, NoMem
 }
 
 /// The program, unless its code is too large.
-#[tactic(auto, unfolding(typing_rules::specs::TypingOrder::sized_program))]
+#[tactic(auto, unfolding(plan_types_spec::specs::TypingOrder::sized_program))]
 fn check_size(code: Program) -> Result<Program, TypeFault>
     ensures { result ≡ spec.sized_program code }
 {
@@ -265,7 +265,7 @@ fn check_size(code: Program) -> Result<Program, TypeFault>
 }
 
 /// The program with its types filled in, or the first refusal in the order of checking.
-#[tactic(auto, unfolding(typing_rules::specs::TypingOrder::annotated_program))]
+#[tactic(auto, unfolding(plan_types_spec::specs::TypingOrder::annotated_program))]
 pub fn annotate_program(alloc: Global, code: &Program) -> Result<Program, TypeFault>
     ensures { Gives (spec.annotated_program code.now) result }
 {

@@ -2,17 +2,17 @@
 
 ghost use Rattle.std.specs.Prelude.{◌≡◌, ◌≢◌, Some, None, Err, option_and_then, length};
 ghost use Rattle.std.specs.Option.{option_copied};
-ghost use Rattle.typing_rules.specs.TypingOrder as spec;
-ghost use Rattle.typing_rules.specs.TypingNames as names;
+ghost use Rattle.plan_types_spec.specs.TypingOrder as spec;
+ghost use Rattle.plan_types_spec.specs.TypingNames as names;
 ghost use Rattle.plan_types.specs.Checks.{Meets};
 
+use containers::Boxed;
 use plan_base::{Expr, NoMemory, Place, Primitive, Ty, Tys};
-use plan_copies::Copied;
-use plan_equality::Same;
-use plan_items::Boxed;
-use plan_sizes::Deep;
+use plan_base_copy::TryClone;
+use plan_base_eq::SameAs;
+use plan_base_size::HasDepth;
+use plan_types_spec::TypeFault;
 use std::alloc::Global;
-use typing_rules::TypeFault;
 
 /// The refusal of an expression, which is let go.
 pub fn refuse_expr(e: Expr, fault: TypeFault) -> Result<(Expr, Ty), TypeFault>
@@ -37,7 +37,7 @@ fn mismatch(alloc: Global, at: u32, wanted: &Ty, ty: Ty) -> TypeFault
 }
 
 /// The answer for an expression of that type, unless another type is wanted.
-#[tactic(auto, unfolding(typing_rules::specs::TypingOrder::settled_type))]
+#[tactic(auto, unfolding(plan_types_spec::specs::TypingOrder::settled_type))]
 pub fn settle_type(
     alloc: Global,
     at: u32,
@@ -61,7 +61,7 @@ pub fn settle_type(
 }
 
 /// The same for a type that may be too deep.
-#[tactic(auto, unfolding(typing_rules::specs::TypingOrder::shallow))]
+#[tactic(auto, unfolding(plan_types_spec::specs::TypingOrder::shallow))]
 pub fn shallow(
     alloc: Global,
     at: u32,

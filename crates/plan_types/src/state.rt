@@ -13,7 +13,7 @@ pub struct Scope<'a> {
 
 /// What the checking keeps on its way through a body.
 #[derive(Drop)]
-pub struct State {
+pub struct TypingState {
     /// The parameters and bindings in scope, the innermost last.
     pub ctx: Params,
     /// The number of the next expression, at most 2^32 - 1.

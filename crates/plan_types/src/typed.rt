@@ -3,17 +3,17 @@
 ghost use Rattle.std.specs.Prelude.{◌≡◌, ◌≢◌, Ok, Err, IsTrue, is_ok, IfOk, IfErr, MatchOption, MatchResult};
 ghost use Rattle.plan_base.specs.declared.tree.Program.{Program as Code};
 ghost use Rattle.plan_base.specs.WellFormed.{IsWellFormedProgram, ProgramHasTypes};
-ghost use Rattle.typing_rules.specs.Typing.{Typed};
-ghost use Rattle.typing_rules.specs.TypingFills.{Fills};
-ghost use Rattle.typing_rules.specs.TypingOrder.{annotated_program as answer};
+ghost use Rattle.plan_types_spec.specs.Typing.{Typed};
+ghost use Rattle.plan_types_spec.specs.TypingFills.{Fills};
+ghost use Rattle.plan_types_spec.specs.TypingOrder.{annotated_program as answer};
 ghost use Rattle.checked_chunks.specs.Kept.{IsChecked};
 
 use crate::program::annotate_program;
 use checked_chunks::Checked;
+use containers::Shared;
 use plan_base::{Draft, NoMemory, Program};
-use plan_items::Shared;
+use plan_types_spec::TypeFault;
 use std::alloc::Global;
-use typing_rules::TypeFault;
 
 /// Checks a well-formed draft: the types of `[]` and `raise` that are missing are taken from the wanted
 /// types. Else the first refusal in the order of checking.

@@ -2,7 +2,7 @@
 use Rattle.std.proofs.Common.{◌≡◌, ◌≢◌, List, [], ◌∷◌, length, get_or, refl, arith}
 use Rattle.plan_base.specs.declared.prim.Primitive.{Primitive}
 use Rattle.plan_base.specs.declared.tree.Value.{Value, out-Value}
-use Rattle.typing_rules.specs.Rules.{unfit, primitive_by, of_one, of_three}
+use Rattle.plan_types_spec.specs.Rules.{unfit, primitive_by, of_one, of_three}
 
 pub primitive_one : (p : Primitive) (xs : List Value) (d : Value) → length xs ≡ 1 → primitive_by p xs ≡ of_one p (out-Value (get_or xs 0 d))
 primitive_one p (a ∷ []) d h = refl

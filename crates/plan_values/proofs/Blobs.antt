@@ -4,7 +4,7 @@ use Rattle.std.specs.Prelude.{ℤ, pos, negsuc, ◌<ℤ◌, ◌≤ℤ◌, unsign
 use Rattle.std.proofs.Math.Facts.{ltb_yes}
 use Rattle.std.proofs.lemmas.Bool.{le-leb, lt-leb}
 use Rattle.plan_base.specs.declared.tree.Value.TheVariants as value
-use Rattle.typing_rules.specs.Rules.{blob_part, raises, gives, bad_index}
+use Rattle.plan_types_spec.specs.Rules.{blob_part, raises, gives, bad_index}
 
 pub place_below : (b : List ℕ) (i n : ℤ) → i <ℤ pos 0 → blob_part b i n ≡ raises bad_index
 place_below b (pos i) n h = let l : i < 0 = ltb_yes h.lt in absurd (omega arith)

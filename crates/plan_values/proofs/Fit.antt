@@ -5,12 +5,12 @@ use Rattle.plan_base.specs.declared.tree.Op.{Op}
 use Rattle.plan_base.specs.declared.tree.Ty.{Ty}
 use Rattle.plan_base.specs.declared.tree.Ty as ty
 use Rattle.plan_base.specs.declared.tree.Value.{Value}
-use Rattle.typing_rules.specs.Typing.{HasType, HaveTypes}
-use Rattle.typing_rules.specs.TypingNames.{part_of}
-use Rattle.typing_rules.specs.Rules as rules
-use Rattle.typing_rules.specs.Rules.{Given}
-use Rattle.typing_rules.specs.Typed.{OperatorTakes, PrimitiveTakes, Fits}
-use Rattle.typing_rules.proofs.Fitting.{operator_fits, selection_fits, primitive_fits}
+use Rattle.plan_types_spec.specs.Typing.{HasType, HaveTypes}
+use Rattle.plan_types_spec.specs.TypingNames.{part_of}
+use Rattle.plan_types_spec.specs.Rules as rules
+use Rattle.plan_types_spec.specs.Rules.{Given}
+use Rattle.plan_types_spec.specs.Typed.{OperatorTakes, PrimitiveTakes, Fits}
+use Rattle.plan_types_spec.proofs.Fitting.{operator_fits, selection_fits, primitive_fits}
 use Rattle.plan_values.specs.declared.fault.PrimFault.{PrimFault}
 use Rattle.plan_values.specs.declared.fault.PrimFault.TheVariants as fault
 use Rattle.plan_values.specs.Answers.{Answers, IsFit}

@@ -5,7 +5,7 @@ use Rattle.std.proofs.lemmas.List.{take_rest}
 use Rattle.plan_base.specs.declared.tree.Ty.{Ty}
 use Rattle.plan_base.specs.declared.tree.Value.{Value}
 use Rattle.plan_base.specs.declared.tree.Value.TheVariants as value
-use Rattle.typing_rules.specs.Rules.{first_item, later_items, gives, raises, empty}
+use Rattle.plan_types_spec.specs.Rules.{first_item, later_items, gives, raises, empty}
 
 pub first_there : (xs : List Value) (x : Value) → slice_get xs 0 ≡ Some x → first_item xs ≡ gives x
 first_there [] x e = cc

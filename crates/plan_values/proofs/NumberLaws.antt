@@ -5,7 +5,7 @@ use Rattle.std.specs.Int.{cast_unsigned, CanDivide}
 use Rattle.std.proofs.lemmas.Bool.{le-leb, lt-leb}
 use Rattle.std.proofs.lemmas.Bool.Decides.{nat_tests}
 use Rattle.plan_base.specs.declared.tree.Value.TheVariants as value
-use Rattle.typing_rules.specs.Rules.{is_zero, bounded_number, divided_number, remainder, gives, raises, overflow, division_by_zero}
+use Rattle.plan_types_spec.specs.Rules.{is_zero, bounded_number, divided_number, remainder, gives, raises, overflow, division_by_zero}
 
 pub bounded_in : (z : ℤ) → FitsSigned w64 z → bounded_number z ≡ gives (value.Int z)
 unfolding bounded_number

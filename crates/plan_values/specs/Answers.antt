@@ -3,8 +3,8 @@ use Rattle.std.specs.Prelude.{◌≡◌, Result, Ok, Err}
 use Rattle.plan_base.specs.declared.tree.Exn.{Exn}
 use Rattle.plan_base.specs.declared.tree.Ty.{Ty}
 use Rattle.plan_base.specs.declared.tree.Value.{Value}
-use Rattle.typing_rules.specs.Typing.{HasType}
-use Rattle.typing_rules.specs.Rules.{Given, gives, raises, unfit, limited_value}
+use Rattle.plan_types_spec.specs.Typing.{HasType}
+use Rattle.plan_types_spec.specs.Rules.{Given, gives, raises, unfit, limited_value}
 use Rattle.plan_values.specs.declared.fault.PrimFault.{PrimFault}
 use Rattle.plan_values.specs.declared.fault.PrimFault.TheVariants as fault
 

@@ -1,19 +1,19 @@
 ghost use Rattle.std.specs.Prelude.{◌≡◌, [], ◌∷◌, ◌++◌, IfOk, MatchOption};
 ghost use Rattle.plan_base.specs.declared.tree.Value.{out-Value};
 ghost use Rattle.plan_base.specs.declared.tree.Value.TheVariants as value;
-ghost use Rattle.typing_rules.specs.Rules as rules;
+ghost use Rattle.plan_types_spec.specs.Rules as rules;
 ghost use Rattle.plan_values.specs.Answers.{Answers, AnswersUnweighed};
 
-use crate::PrimFault;
+use crate::fault::PrimFault;
 use crate::raise::{bad_index, empty, too_large};
+use containers::{Boxed, Items};
 use plan_base::{Bytes, NoMemory, Text, Ty, Value, Values};
-use plan_copies::{Copied, copy_values};
-use plan_items::{Boxed, Items};
-use plan_sizes::weight;
+use plan_base_copy::{TryClone, copy_values};
+use plan_base_size::weight;
 use std::alloc::{AllocError, Global};
 
 /// The value, or `TooLarge` where it weighs more than 16,384 bytes.
-#[tactic(auto, unfolding(typing_rules::specs::Rules::limited_value))]
+#[tactic(auto, unfolding(plan_types_spec::specs::Rules::limited_value))]
 fn limit_value(alloc: Global, v: Value) -> Result<Value, PrimFault>
     ensures { Answers (rules.limited_value v) result }
 {

@@ -1,8 +1,8 @@
 ghost use Rattle.std.specs.Prelude.{◌+ℤ◌, ◌-ℤ◌, ◌*ℤ◌};
-ghost use Rattle.typing_rules.specs.Rules as rules;
+ghost use Rattle.plan_types_spec.specs.Rules as rules;
 ghost use Rattle.plan_values.specs.Answers.{Answers};
 
-use crate::PrimFault;
+use crate::fault::PrimFault;
 use crate::raise::{division_by_zero, overflow};
 use plan_base::Value;
 use std::alloc::Global;

@@ -1,19 +1,19 @@
 ghost use Rattle.std.specs.Prelude.{◌≡◌, not};
 ghost use Rattle.std.specs.Option as option;
 ghost use Rattle.plan_base.specs.declared.tree.Value.{out-Value};
-ghost use Rattle.typing_rules.specs.Rules as rules;
-ghost use Rattle.typing_rules.specs.Same.{same_value};
+ghost use Rattle.plan_types_spec.specs.Rules as rules;
+ghost use Rattle.plan_types_spec.specs.Same.{same_value};
 ghost use Rattle.plan_base.specs.declared.tree.Ty.{Ty as AType};
-ghost use Rattle.typing_rules.specs.Typing.{HasType};
-ghost use Rattle.typing_rules.specs.Typed.{OperatorTakes};
+ghost use Rattle.plan_types_spec.specs.Typing.{HasType};
+ghost use Rattle.plan_types_spec.specs.Typed.{OperatorTakes};
 ghost use Rattle.plan_values.specs.Answers.{Answers, IsFit};
 
-use crate::PrimFault;
+use crate::fault::PrimFault;
 use crate::lists::{join_values, put_first};
 use crate::numbers::{difference, product, quotient, remainder, sum};
 use crate::order::before;
 use plan_base::{Op, Value};
-use plan_equality::Same;
+use plan_base_eq::SameAs;
 use std::alloc::Global;
 
 /// The value or the exception of `a op b`, or `Unfit` where the operator doesn't take such operands: never where they have
@@ -26,7 +26,7 @@ pub fn binary(alloc: Global, op: Op, a: &Value, b: &Value) -> Result<Value, Prim
     apply_operator(alloc, op, a, b)
 }
 
-#[tactic(auto, unfolding(typing_rules::specs::Rules::binary))]
+#[tactic(auto, unfolding(plan_types_spec::specs::Rules::binary))]
 fn apply_operator(alloc: Global, op: Op, a: &Value, b: &Value) -> Result<Value, PrimFault>
     ensures { Answers (rules.binary op a.now b.now) result }
 {

@@ -2,16 +2,16 @@ ghost use Rattle.std.specs.Prelude.{◌≡◌, ◌-◌, List, Some, slice_get};
 ghost use Rattle.std.specs.Option.{option_copied};
 ghost use Rattle.plan_base.specs.declared.tree.Value.{out-Value};
 ghost use Rattle.plan_base.specs.declared.tree.Value.TheOpen.{Value-F as layer};
-ghost use Rattle.typing_rules.specs.Rules as rules;
+ghost use Rattle.plan_types_spec.specs.Rules as rules;
 ghost use Rattle.plan_base.specs.declared.tree.Ty.{Ty as AType};
 ghost use Rattle.plan_base.specs.declared.tree.Ty as ty;
-ghost use Rattle.typing_rules.specs.Typing.{HasType};
-ghost use Rattle.typing_rules.specs.TypingNames.{part_of};
+ghost use Rattle.plan_types_spec.specs.Typing.{HasType};
+ghost use Rattle.plan_types_spec.specs.TypingNames.{part_of};
 ghost use Rattle.plan_values.specs.Answers.{Answers, IsFit};
 
-use crate::PrimFault;
+use crate::fault::PrimFault;
 use plan_base::{Value, Values};
-use plan_copies::Copied;
+use plan_base_copy::TryClone;
 use std::alloc::Global;
 
 /// A copy of the part of a tuple with number `i`, from 1, or `Unfit` where `v` has no such part: never where its type has one.
@@ -23,7 +23,7 @@ pub fn part(alloc: Global, i: u8, v: &Value) -> Result<Value, PrimFault>
     part_in(alloc, i, v)
 }
 
-#[tactic(auto, unfolding(typing_rules::specs::Rules::part))]
+#[tactic(auto, unfolding(plan_types_spec::specs::Rules::part))]
 fn part_in(alloc: Global, i: u8, v: &Value) -> Result<Value, PrimFault>
     ensures { Answers (rules.part i v.now) result }
 {

@@ -2,13 +2,13 @@ ghost use Rattle.std.specs.Prelude.{◌≡◌, IfOk, List, pos};
 ghost use Rattle.plan_base.specs.declared.prim.Primitive.TheVariants as prim;
 ghost use Rattle.plan_base.specs.declared.tree.Value.{out-Value};
 ghost use Rattle.plan_base.specs.declared.tree.Value.TheVariants as value;
-ghost use Rattle.typing_rules.specs.Rules as rules;
+ghost use Rattle.plan_types_spec.specs.Rules as rules;
 ghost use Rattle.plan_base.specs.declared.tree.Ty.{Ty as AType};
-ghost use Rattle.typing_rules.specs.Typing.{HaveTypes};
-ghost use Rattle.typing_rules.specs.Typed.{PrimitiveTakes};
+ghost use Rattle.plan_types_spec.specs.Typing.{HaveTypes};
+ghost use Rattle.plan_types_spec.specs.Typed.{PrimitiveTakes};
 ghost use Rattle.plan_values.specs.Answers.{Answers, IsFit};
 
-use crate::PrimFault;
+use crate::fault::PrimFault;
 use crate::lists::{blob_part, first_item, later_items};
 use plan_base::{Bytes, Host, NoMemory, Primitive, Text, Value, Values};
 use std::alloc::Global;
@@ -23,7 +23,7 @@ pub fn primitive(alloc: Global, p: Primitive, args: &Values) -> Result<Value, Pr
     apply_primitive(alloc, p, args)
 }
 
-#[tactic(auto, unfolding(typing_rules::specs::Rules::primitive))]
+#[tactic(auto, unfolding(plan_types_spec::specs::Rules::primitive))]
 fn apply_primitive(alloc: Global, p: Primitive, args: &Values) -> Result<Value, PrimFault>
     ensures { Answers (rules.primitive p args.now) result }
 {

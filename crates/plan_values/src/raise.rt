@@ -1,9 +1,9 @@
 ghost use Rattle.std.specs.Prelude.{codes};
 ghost use Rattle.plan_base.specs.Words.{IsName};
-ghost use Rattle.typing_rules.specs.Rules as rules;
+ghost use Rattle.plan_types_spec.specs.Rules as rules;
 ghost use Rattle.plan_values.specs.Answers.{RaisesOnly};
 
-use crate::PrimFault;
+use crate::fault::PrimFault;
 use plan_base::{Exn, Name};
 use std::alloc::Global;
 

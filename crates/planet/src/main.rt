@@ -2,12 +2,12 @@
 //! processes of the program itself.
 #![tactic(auto)]
 
-use live_io::{HostClock, HostSpawner, UdpLink};
-use node_io::{HostFiles, HostSink};
+use host_io::{
+    HostClock, HostFiles, HostSink, HostSpawner, UdpLink, arguments_of, program_of, words_of,
+};
 use plan_base::NoMemory;
 use planet_cli::{Status, planet};
 use std::process::ExitCode;
-use system_words::{arguments_of, program_of, words_of};
 
 /// The exit code where there was no memory for the words.
 const NO_MEMORY: u8 = 7;

@@ -1,14 +1,12 @@
 -- What holds of each command that acts on a value of its file.
 use Rattle.std.proofs.Common.{◌≡◌, ◌≢◌, ◌⊎◌, inl, inr, ℕ, List, Result, Ok, Err, refl, sym, subst}
-use Rattle.network_plan.specs.declared.fleet.AskFile.{AskFile}
-use Rattle.network_plan.specs.declared.fleet.Fleet.{Fleet}
-use Rattle.network_plan.specs.declared.serve.ServeConfig.{ServeConfig}
+use Rattle.network_config.specs.declared.fleet.AskFile.{AskFile}
+use Rattle.network_config.specs.declared.fleet.Fleet.{Fleet}
+use Rattle.network_config.specs.declared.serve.ServeConfig.{ServeConfig}
 use Rattle.node_io.specs.Causes.{HasRisen}
-use Rattle.node_io.specs.Outsides.{Outside}
-use Rattle.node_io.specs.Sinks.{SinkState, Writes, WritesPrefix, FailsIn}
+use Rattle.node_io.specs.Sinks.{SinkState, WritesPrefix}
 use Rattle.node_io.proofs.SinkLaws.{prefix_none, prefix_all}
-use Rattle.fleet_run.specs.Asks.{ask_line, Asks, AskResult}
-use Rattle.fleet_run.specs.Runs.{RunsFleet}
+use Rattle.fleet_run.specs.Asks.{ask_line, Asks}
 use Rattle.fleet_run.specs.declared.fault.AskFault.{AskFault}
 use Rattle.fleet_run.specs.declared.fault.AskFault.TheVariants as asks
 use Rattle.fleet_run.specs.declared.fault.FleetFault.{FleetFault}
@@ -18,14 +16,14 @@ use Rattle.fleet_run.specs.declared.reports.FleetEnd.TheVariants.{Well, Failed}
 use Rattle.node_serve.specs.Desks.{Serving}
 use Rattle.node_serve.specs.declared.fault.ServeFault.{ServeFault}
 use Rattle.node_serve.specs.declared.fault.ServeFault.TheVariants as serves
-use Rattle.call_causes.specs.Causes.{IfRefused}
-use Rattle.call_causes.specs.declared.status.Cause.{Cause}
-use Rattle.call_causes.specs.declared.status.Cause.TheVariants.{Done, Usage, Refused, ReadFault, WriteFault, LinkFault, SpawnFault, NoMemory, NodesFailed}
-use Rattle.file_commands.specs.Renders.{Prints}
-use Rattle.run_commands.specs.Grown.{GrowsAs}
-use Rattle.live_commands.specs.Asks.{ask_cause, AsksAs, Wire}
-use Rattle.live_commands.specs.Fleets.{fleet_cause, RunsAs, Shop}
-use Rattle.live_commands.specs.Nodes.{serve_cause, ServesAs}
+use Rattle.exit_status.specs.Causes.{IfRefused}
+use Rattle.exit_status.specs.declared.status.Cause.{Cause}
+use Rattle.exit_status.specs.declared.status.Cause.TheVariants.{Done, Usage, Refused, ReadFault, WriteFault, LinkFault, SpawnFault, NoMemory, NodesFailed}
+use Rattle.planet_commands.specs.Renders.{Prints}
+use Rattle.planet_commands_run.specs.Grown.{GrowsAs}
+use Rattle.planet_commands_fleet.specs.Asks.{ask_cause, AsksAs, Wire}
+use Rattle.planet_commands_fleet.specs.Fleets.{fleet_cause, RunsAs, Shop}
+use Rattle.planet_commands_fleet.specs.Nodes.{serve_cause, ServesAs}
 use Rattle.planet_cli.specs.Outcomes.{Outcome, whole, runs, IsWhole, IsAccepted, WritesOut, BeginsOut}
 
 -- it ends with no cause of a reading, it is done only where its work was done, what stands is a prefix of it, and it is done where no

@@ -1,6 +1,6 @@
 -- The laws of `inject` and of `grow`.
 use Rattle.std.proofs.Common.{◌≡◌, ◌⊎◌, inl, inr, ℕ, IsTrue, List, Some, Result, Ok, Err, refl, sym, ap, ◌∙◌, subst}
-use Rattle.network_plan.specs.declared.fleet.AskFile.{AskFile}
+use Rattle.network_config.specs.declared.fleet.AskFile.{AskFile}
 use Rattle.node_io.specs.Causes.{HasRisen}
 use Rattle.node_io.specs.Outsides.{Outside}
 use Rattle.node_io.specs.Sinks.{SinkState, Writes}
@@ -8,16 +8,16 @@ use Rattle.fleet_run.specs.Asks.{Asks, ask_line, Bound, Sent}
 use Rattle.fleet_run.specs.declared.fault.AskFault.{AskFault}
 use Rattle.fleet_run.specs.declared.fault.AskFault.TheVariants as asks
 use Rattle.grow_run.specs.Pings.{OfGrown}
-use Rattle.call_causes.specs.declared.status.Cause.{Cause}
-use Rattle.call_causes.specs.declared.status.Cause.TheVariants.{Done, Usage, Refused, ReadFault, WriteFault, LinkFault, SpawnFault, NoMemory, NodesFailed}
-use Rattle.file_commands.specs.Said.{Said, nothing, outside, says}
-use Rattle.file_commands.specs.Takes.{Untaken}
-use Rattle.run_commands.specs.Grown.{GrowsAs}
-use Rattle.live_commands.specs.Asks.{AsksAs, ask_said, ask_cause, Wire}
+use Rattle.exit_status.specs.declared.status.Cause.{Cause}
+use Rattle.exit_status.specs.declared.status.Cause.TheVariants.{Done, Usage, Refused, ReadFault, WriteFault, LinkFault, SpawnFault, NoMemory, NodesFailed}
+use Rattle.planet_commands.specs.Said.{Said, nothing, outside, says}
+use Rattle.planet_commands.specs.Takes.{Untaken}
+use Rattle.planet_commands_run.specs.Grown.{GrowsAs}
+use Rattle.planet_commands_fleet.specs.Asks.{AsksAs, ask_said, ask_cause, Wire}
 use Rattle.planet_cli.specs.Requests.{inject, grow}
-use Rattle.planet_cli.specs.Does.{Does, wire_in}
+use Rattle.planet_cli.specs.Does.{wire_in}
 use Rattle.planet_cli.specs.Calls.{Calls}
-use Rattle.planet_cli.specs.Laws.{AsksAtMost, MaySend}
+use Rattle.planet_cli.specs.Laws.{AsksAtMost}
 use Rattle.planet_cli.proofs.Views.{says_one, Took, took, left, view}
 use Rattle.planet_cli.proofs.Giving.{done_found, call_gives_cause, well}
 

@@ -1,22 +1,22 @@
 -- An audit that is done wrote the text of its logs; and what holds of logs that fit.
 use Rattle.std.proofs.Common.{◌≡◌, ℕ, IsTrue, List, [], map, Some, Result, Ok, Err, IfOk, MatchResult, refl, sym, ap, ◌∙◌, subst}
 use Rattle.node_io.specs.FileStates.{FilesState}
-use Rattle.network_plan.specs.declared.node.Log.{Log}
+use Rattle.network_config.specs.declared.node.Log.{Log}
 use Rattle.node_io.specs.Outsides.{Outside}
 use Rattle.node_io.specs.Sinks.{SinkState, Writes}
 use Rattle.ledger_audit.proofs.Balances.{adds_up}
 use Rattle.ledger_audit.proofs.Sendings.{none_twice}
-use Rattle.fleet_audit.specs.Pasts.{logged_of}
-use Rattle.fleet_audit.specs.Ledgers.{verdict_of}
-use Rattle.fleet_audit.proofs.VerdictLaws.{yes_fits, yes_sent}
-use Rattle.audit_files.specs.declared.audit.AuditFile.{AuditFile}
-use Rattle.audit_files.specs.AuditFiles.{audit_of}
-use Rattle.call_causes.specs.declared.status.Cause.{Cause}
-use Rattle.call_causes.specs.declared.status.Cause.TheVariants.{Done}
-use Rattle.file_commands.specs.Said.{says, lines_said}
-use Rattle.file_commands.specs.Takes.{Untaken, TakeResult}
-use Rattle.file_commands.specs.Renders.{Prints}
-use Rattle.audit_commands.specs.Audits.{said_then, logs_said, fit_text, text_said, audit_said, FramesRead, AsksAlong, AuditsFile}
+use Rattle.ledger_audit.specs.Pasts.{logged_of}
+use Rattle.ledger_audit.specs.Ledgers.{verdict_of}
+use Rattle.ledger_audit.proofs.VerdictLaws.{yes_fits, yes_sent}
+use Rattle.command_files.specs.declared.audit.AuditFile.{AuditFile}
+use Rattle.command_files.specs.AuditFiles.{audit_of}
+use Rattle.exit_status.specs.declared.status.Cause.{Cause}
+use Rattle.exit_status.specs.declared.status.Cause.TheVariants.{Done}
+use Rattle.planet_commands.specs.Said.{says, lines_said}
+use Rattle.planet_commands.specs.Takes.{Untaken, TakeResult}
+use Rattle.planet_commands.specs.Renders.{Prints}
+use Rattle.planet_commands_fleet.specs.Audits.{said_then, logs_said, fit_text, text_said, audit_said, FramesRead, AsksAlong, AuditsFile}
 use Rattle.planet_cli.specs.Requests.{request_of, audit}
 use Rattle.planet_cli.specs.Calls.{Calls}
 use Rattle.planet_cli.specs.Outcomes.{whole, outcome_by, WritesOut}

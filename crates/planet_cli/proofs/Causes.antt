@@ -13,24 +13,23 @@ use Rattle.fleet_run.specs.declared.reports.FleetEnd.{FleetEnd}
 use Rattle.fleet_run.specs.declared.reports.FleetEnd.TheVariants.{Well, Failed}
 use Rattle.node_serve.specs.declared.fault.ServeFault.{ServeFault}
 use Rattle.node_serve.specs.declared.fault.ServeFault.TheVariants as serves
-use Rattle.call_causes.specs.Causes.{Gives}
-use Rattle.call_causes.specs.declared.status.Cause.{Cause}
-use Rattle.call_causes.specs.declared.status.Cause.TheVariants.{Done, Usage, Refused, ReadFault, WriteFault, LinkFault, SpawnFault, NoMemory, NodesFailed}
-use Rattle.file_commands.specs.Said.{Said}
-use Rattle.file_commands.specs.Takes.{Untaken}
-use Rattle.file_commands.specs.Renders.{Prints, PrintsBy}
-use Rattle.file_commands.specs.Checks.{check_said}
-use Rattle.file_commands.specs.Shows.{show_said}
-use Rattle.run_commands.specs.Schedules.{replay_said}
-use Rattle.run_commands.specs.Grown.{GrowsAs}
-use Rattle.cut_files.specs.Texts.{cut_output}
-use Rattle.message_commands.specs.Messages.{cut_said, gather_said, messages_text}
-use Rattle.port_world.specs.Texts.{port_output}
-use Rattle.port_commands.specs.Ports.{port_said}
-use Rattle.audit_commands.specs.Audits.{audit_said}
-use Rattle.live_commands.specs.Asks.{AsksAs, ask_said, ask_cause}
-use Rattle.live_commands.specs.Fleets.{RunsAs, fleet_said, fleet_cause}
-use Rattle.live_commands.specs.Nodes.{ServesAs, config_said, serve_cause}
+use Rattle.exit_status.specs.declared.status.Cause.{Cause}
+use Rattle.exit_status.specs.declared.status.Cause.TheVariants.{Done, Usage, Refused, ReadFault, WriteFault, LinkFault, SpawnFault, NoMemory, NodesFailed}
+use Rattle.planet_commands.specs.Said.{Said}
+use Rattle.planet_commands.specs.Takes.{Untaken}
+use Rattle.planet_commands.specs.Renders.{Prints, PrintsBy}
+use Rattle.planet_commands.specs.Checks.{check_said}
+use Rattle.planet_commands.specs.Shows.{show_said}
+use Rattle.planet_commands_run.specs.Schedules.{replay_said}
+use Rattle.planet_commands_run.specs.Grown.{GrowsAs}
+use Rattle.command_files.specs.Texts.{cut_output}
+use Rattle.planet_commands_fleet.specs.Messages.{cut_said, gather_said, messages_text}
+use Rattle.reliable_ports_world.specs.Texts.{port_output}
+use Rattle.planet_commands_port.specs.Ports.{port_said}
+use Rattle.planet_commands_fleet.specs.Audits.{audit_said}
+use Rattle.planet_commands_fleet.specs.Asks.{AsksAs, ask_said, ask_cause}
+use Rattle.planet_commands_fleet.specs.Fleets.{RunsAs, fleet_said, fleet_cause}
+use Rattle.planet_commands_fleet.specs.Nodes.{ServesAs, config_said, serve_cause}
 use Rattle.planet_cli.specs.Requests.{Request, replay, check, show, inject, fleet, node, grow, cut, gather, ports, audit}
 use Rattle.planet_cli.specs.Does.{Does, wire_in, shop_in, serving_in}
 use Rattle.planet_cli.specs.Calls.{Calls}

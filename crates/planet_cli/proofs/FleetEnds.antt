@@ -1,6 +1,6 @@
 -- How a fleet stands that a fault of children ended, and its lines after every answer.
 use Rattle.std.proofs.Common.{◌≡◌, ◌⊎◌, inl, inr, ℕ, IsTrue, List, [], Some, Result, Ok, Err, sym, ap, ◌∙◌, subst, arith}
-use Rattle.network_plan.specs.declared.fleet.Fleet.{Fleet}
+use Rattle.network_config.specs.declared.fleet.Fleet.{Fleet}
 use Rattle.node_io.specs.Outsides.{Outside}
 use Rattle.node_io.specs.Sinks.{SinkState, WritesPrefix}
 use Rattle.node_io.proofs.SinkLaws.{prefix_none}
@@ -11,11 +11,11 @@ use Rattle.fleet_run.specs.declared.fault.FleetFault.TheVariants as fleets
 use Rattle.fleet_run.specs.declared.reports.FleetEnd.{FleetEnd}
 use Rattle.fleet_run.specs.declared.reports.FleetEnd.TheVariants.{Well, Failed}
 use Rattle.fleet_run.proofs.Prefixes.{prefix_written}
-use Rattle.call_causes.specs.declared.status.Cause.{Cause}
-use Rattle.call_causes.specs.declared.status.Cause.TheVariants.{SpawnFault}
-use Rattle.file_commands.specs.Said.{says}
-use Rattle.file_commands.specs.Takes.{Untaken}
-use Rattle.live_commands.specs.Fleets.{RunsAs, fleet_said, fleet_cause, Shop}
+use Rattle.exit_status.specs.declared.status.Cause.{Cause}
+use Rattle.exit_status.specs.declared.status.Cause.TheVariants.{SpawnFault}
+use Rattle.planet_commands.specs.Said.{says}
+use Rattle.planet_commands.specs.Takes.{Untaken}
+use Rattle.planet_commands_fleet.specs.Fleets.{RunsAs, fleet_said, fleet_cause, Shop}
 use Rattle.planet_cli.specs.Requests.{fleet}
 use Rattle.planet_cli.specs.Does.{shop_in}
 use Rattle.planet_cli.specs.Calls.{Calls}

@@ -6,28 +6,28 @@ use Rattle.std.proofs.lemmas.Bool.{eqb-false}
 use Rattle.std.proofs.lemmas.List.Elements.{All-head, All-tail}
 use Rattle.plan_base.specs.declared.stamp.Version.{Version}
 use Rattle.plan_base.specs.declared.stamp.Version.TheVariants.{Two}
-use Rattle.line_files.specs.declared.fault.LineFault.{LineFault}
-use Rattle.line_files.specs.declared.fault.LineFault.TheVariants as faults
-use Rattle.line_files.specs.declared.fault.LineReason.TheVariants.{TwiceNamed}
-use Rattle.line_files.proofs.Keeping.{either_false}
-use Rattle.network_plan.specs.Hosts.{is_listed}
-use Rattle.network_plan.specs.NodeRules.{KeepsEntry, KeepsLog}
-use Rattle.network_plan.specs.declared.node.Log.{Log}
-use Rattle.network_plan.specs.declared.event.LogEvent.{LogEvent}
-use Rattle.network_plan.specs.declared.event.LogEvent.TheVariants.{Step, Lost}
+use Rattle.line_reader.specs.declared.fault.LineFault.{LineFault}
+use Rattle.line_reader.specs.declared.fault.LineFault.TheVariants as faults
+use Rattle.line_reader.specs.declared.fault.LineReason.TheVariants.{TwiceNamed}
+use Rattle.line_reader.proofs.Keeping.{either_false}
+use Rattle.network_config.specs.Hosts.{is_listed}
+use Rattle.network_config.specs.NodeRules.{KeepsEntry, KeepsLog}
+use Rattle.network_config.specs.declared.node.Log.{Log}
+use Rattle.network_config.specs.declared.event.LogEvent.{LogEvent}
+use Rattle.network_config.specs.declared.event.LogEvent.TheVariants.{Step, Lost}
 use Rattle.node_files.specs.Logs.{log_of}
 use Rattle.node_files.proofs.LogLaws.{log_rules}
 use Rattle.node_io.specs.FileMaps.{FileMap, file_at}
-use Rattle.node_model.specs.State.{new_node}
-use Rattle.node_model.specs.Fits.{NodeFits, comes_fit}
+use Rattle.node_core_spec.specs.State.{new_node}
+use Rattle.node_core_spec.specs.Fits.{NodeFits, comes_fit}
 use Rattle.ledger_audit.specs.Audits.{Logged}
 use Rattle.ledger_audit.specs.Spelling.{Begins, ReadsAgain}
 use Rattle.ledger_audit.specs.Once.{EntriesFit, IsOfTwo, HostsApart}
-use Rattle.fleet_audit.specs.Pasts.{logged_of}
-use Rattle.call_causes.specs.declared.status.Refusal.TheVariants.{TooLong, Log as OfLog}
-use Rattle.file_commands.specs.Said.{Said, nothing, outside, says, said_by, said_at, line_limit, lines_said}
-use Rattle.audit_commands.specs.Audits.{said_of, said_then, of_new_host, log_said, hosts_in, logs_said}
-use Rattle.audit_commands.proofs.FileTaking.{says_same}
+use Rattle.ledger_audit.specs.Pasts.{logged_of}
+use Rattle.exit_status.specs.declared.status.Refusal.TheVariants.{TooLong, Log as OfLog}
+use Rattle.planet_commands.specs.Said.{Said, nothing, outside, says, said_by, said_at, line_limit, lines_said}
+use Rattle.planet_commands_fleet.specs.Audits.{said_of, said_then, of_new_host, log_said, hosts_in, logs_said}
+use Rattle.planet_commands_fleet.proofs.FileTaking.{says_same}
 use Rattle.planet_cli.proofs.NodeKeeping.{event_fits, begins}
 
 -- ---- one log

@@ -2,12 +2,12 @@
 use Rattle.std.proofs.Common.{◌≡◌, ◌⊎◌, inl, inr, ℕ, IsTrue, List, ◌++◌, length, drop, Some, Result, Ok, Err, refl, sym, ap, ◌∙◌, subst}
 use Rattle.std.proofs.Math.Seq.{take-length}
 use Rattle.std.proofs.lemmas.List.{append-nil}
-use Rattle.network_plan.specs.declared.fleet.Fleet.{Fleet}
+use Rattle.network_config.specs.declared.fleet.Fleet.{Fleet}
 use Rattle.node_io.specs.Causes.{HasRisen}
 use Rattle.node_io.specs.FileMaps.{FileMap}
 use Rattle.node_io.specs.FileStates.{FilesState}
 use Rattle.node_io.specs.Outsides.{Outside}
-use Rattle.node_io.specs.Sinks.{SinkState, Writes, WritesPrefix}
+use Rattle.node_io.specs.Sinks.{SinkState, WritesPrefix}
 use Rattle.node_io.specs.Spawners.{SpawnerState, Words}
 use Rattle.node_io.proofs.SinkLaws.{prefix_none}
 use Rattle.fleet_run.specs.Fleets.{fleet_starts, fleet_text, fleet_end}
@@ -18,12 +18,12 @@ use Rattle.fleet_run.specs.declared.reports.FleetEnd.{FleetEnd}
 use Rattle.fleet_run.specs.declared.reports.FleetEnd.TheVariants.{Well, Failed}
 use Rattle.fleet_run.proofs.FleetLaws.{end_given}
 use Rattle.fleet_run.proofs.Prefixes.{fleet_prefix}
-use Rattle.call_causes.specs.Causes.{Gives}
-use Rattle.call_causes.specs.declared.status.Cause.{Cause}
-use Rattle.call_causes.specs.declared.status.Cause.TheVariants.{Done, Usage, Refused, ReadFault, WriteFault, LinkFault, SpawnFault, NoMemory, NodesFailed}
-use Rattle.file_commands.specs.Said.{Said, nothing, outside, says, IsSaid}
-use Rattle.file_commands.specs.Takes.{Untaken}
-use Rattle.live_commands.specs.Fleets.{RunsAs, fleet_said, fleet_cause, Shop}
+use Rattle.exit_status.specs.Causes.{Gives}
+use Rattle.exit_status.specs.declared.status.Cause.{Cause}
+use Rattle.exit_status.specs.declared.status.Cause.TheVariants.{Done, Usage, Refused, ReadFault, WriteFault, LinkFault, SpawnFault, NoMemory, NodesFailed}
+use Rattle.planet_commands.specs.Said.{Said, nothing, outside, says, IsSaid}
+use Rattle.planet_commands.specs.Takes.{Untaken}
+use Rattle.planet_commands_fleet.specs.Fleets.{RunsAs, fleet_said, fleet_cause, Shop}
 use Rattle.planet_cli.specs.Requests.{fleet}
 use Rattle.planet_cli.specs.Does.{shop_in}
 use Rattle.planet_cli.specs.Calls.{Calls}

@@ -1,24 +1,18 @@
 -- What commands leave as it was.
 use Rattle.std.proofs.Common.{◌≡◌, inl, ℕ, IsTrue, List, Option, Some, None, sym, ap, ◌∙◌, subst}
-use Rattle.node_io.specs.FileMaps.{FileMap, MayName}
+use Rattle.node_io.specs.FileMaps.{MayName}
 use Rattle.node_io.specs.FileStates.{FilesState}
 use Rattle.node_io.specs.Outsides.{Outside}
 use Rattle.node_io.specs.Sinks.{SinkState}
-use Rattle.call_causes.specs.declared.status.Cause.{Cause}
-use Rattle.file_commands.specs.Said.{Said, nothing, outside, says}
-use Rattle.file_commands.specs.Takes.{Takes, TakesAndActs}
-use Rattle.file_commands.specs.Renders.{Prints}
-use Rattle.network_plan.specs.declared.serve.ServeConfig.{ServeConfig}
-use Rattle.run_commands.specs.Schedules.{replay_said}
-use Rattle.file_commands.specs.Checks.{check_said}
-use Rattle.file_commands.specs.Shows.{show_said}
-use Rattle.live_commands.specs.Asks.{AsksAs, ask_said}
-use Rattle.live_commands.specs.Fleets.{RunsAs, fleet_said}
-use Rattle.live_commands.specs.Nodes.{ServesAs, config_said}
+use Rattle.exit_status.specs.declared.status.Cause.{Cause}
+use Rattle.planet_commands.specs.Said.{Said, nothing, outside, says}
+use Rattle.network_config.specs.declared.serve.ServeConfig.{ServeConfig}
+use Rattle.planet_commands_fleet.specs.Asks.{AsksAs, ask_said}
+use Rattle.planet_commands_fleet.specs.Fleets.{RunsAs, fleet_said}
+use Rattle.planet_commands_fleet.specs.Nodes.{ServesAs, config_said}
 use Rattle.planet_cli.specs.Requests.{Request, replay, check, show, inject, fleet, node, grow, cut, gather, ports, audit}
 use Rattle.planet_cli.specs.Does.{Does, wire_in, shop_in, serving_in}
 use Rattle.planet_cli.specs.Calls.{Calls}
-use Rattle.planet_cli.specs.Outcomes.{outcome_of, IsAccepted}
 use Rattle.planet_cli.specs.Laws.{UnlessLinked, UnlessFleet, UnlessNode, AsksFor, LogsAtMost, MakesAtMost}
 use Rattle.planet_cli.proofs.Views.{Took, took, left, view}
 

@@ -4,27 +4,27 @@ use Rattle.node_io.specs.Causes.{HasRisen}
 use Rattle.node_io.specs.FileMaps.{FileMap}
 use Rattle.node_io.specs.Outsides.{Outside}
 use Rattle.node_io.specs.Sinks.{SinkState, Writes, FailsIn}
-use Rattle.call_causes.specs.Causes.{IfRefused, Gives}
-use Rattle.file_commands.specs.Own.{IsOwn}
-use Rattle.call_causes.specs.Notes.{note_text, Notes, told, no_memory, failed}
-use Rattle.call_causes.specs.declared.status.Cause.{Cause}
-use Rattle.call_causes.specs.declared.status.Cause.TheVariants.{Done, Usage, Refused, ReadFault, WriteFault, LinkFault, SpawnFault, NoMemory, NodesFailed}
-use Rattle.call_causes.specs.declared.status.Refusal.{Refusal}
-use Rattle.call_causes.proofs.Telling.{notes_give}
+use Rattle.exit_status.specs.Causes.{IfRefused, Gives}
+use Rattle.planet_commands.specs.Own.{IsOwn}
+use Rattle.exit_status.specs.Notes.{note_text, Notes, told, no_memory, failed}
+use Rattle.exit_status.specs.declared.status.Cause.{Cause}
+use Rattle.exit_status.specs.declared.status.Cause.TheVariants.{Done, Usage, Refused, ReadFault, WriteFault, LinkFault, SpawnFault, NoMemory, NodesFailed}
+use Rattle.exit_status.specs.declared.status.Refusal.{Refusal}
+use Rattle.exit_status.proofs.Telling.{notes_give}
 use Rattle.planet_cli.specs.Requests.{Request, replay, check, show, inject, fleet, node, grow, cut, gather, ports, audit}
 use Rattle.fleet_run.specs.Asks.{ask_line}
-use Rattle.file_commands.specs.Said.{Said, nothing, outside, says}
-use Rattle.file_commands.specs.Checks.{check_said}
-use Rattle.file_commands.specs.Shows.{show_said}
-use Rattle.run_commands.specs.Schedules.{replay_said}
-use Rattle.cut_files.specs.Texts.{cut_output}
-use Rattle.message_commands.specs.Messages.{cut_said, gather_said, messages_text}
-use Rattle.port_world.specs.Texts.{port_output}
-use Rattle.port_commands.specs.Ports.{port_said}
-use Rattle.audit_commands.specs.Audits.{audit_said}
-use Rattle.live_commands.specs.Asks.{ask_said}
-use Rattle.live_commands.specs.Fleets.{fleet_said}
-use Rattle.live_commands.specs.Nodes.{config_said}
+use Rattle.planet_commands.specs.Said.{Said, nothing, outside, says}
+use Rattle.planet_commands.specs.Checks.{check_said}
+use Rattle.planet_commands.specs.Shows.{show_said}
+use Rattle.planet_commands_run.specs.Schedules.{replay_said}
+use Rattle.command_files.specs.Texts.{cut_output}
+use Rattle.planet_commands_fleet.specs.Messages.{cut_said, gather_said, messages_text}
+use Rattle.reliable_ports_world.specs.Texts.{port_output}
+use Rattle.planet_commands_port.specs.Ports.{port_said}
+use Rattle.planet_commands_fleet.specs.Audits.{audit_said}
+use Rattle.planet_commands_fleet.specs.Asks.{ask_said}
+use Rattle.planet_commands_fleet.specs.Fleets.{fleet_said}
+use Rattle.planet_commands_fleet.specs.Nodes.{config_said}
 use Rattle.planet_cli.specs.Calls.{Calls}
 use Rattle.planet_cli.specs.Outcomes.{Outcome, unasked, refused, whole, runs, outcome_by, outcome_of, IsWhole, IsAccepted, WritesOut, BeginsOut}
 use Rattle.planet_cli.specs.Laws.{WhereInjected}

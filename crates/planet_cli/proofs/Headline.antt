@@ -1,20 +1,20 @@
 -- A replay that is done wrote the run of its schedule, or the trace of its log; a cut its parts, and a gathering its messages.
 use Rattle.std.proofs.Common.{◌≡◌, ℕ, List, subst}
-use Rattle.network_plan.specs.declared.schedule.Schedule.{Schedule}
-use Rattle.network_plan.specs.declared.node.Log.{Log}
+use Rattle.network_config.specs.declared.schedule.Schedule.{Schedule}
+use Rattle.network_config.specs.declared.node.Log.{Log}
 use Rattle.node_io.specs.Outsides.{Outside}
 use Rattle.node_io.specs.Sinks.{SinkState, Writes}
-use Rattle.world_model.specs.World.{opening}
-use Rattle.world_model.specs.Texts.{run_text}
-use Rattle.call_causes.specs.declared.status.Cause.{Cause}
-use Rattle.call_causes.specs.declared.status.Cause.TheVariants.{Done}
-use Rattle.run_commands.specs.Schedules.{log_trace}
-use Rattle.cut_files.specs.declared.cut.CutFile.{CutFile}
-use Rattle.cut_files.specs.Texts.{cut_output}
-use Rattle.message_commands.specs.Messages.{messages_text}
+use Rattle.net_world_spec.specs.World.{opening}
+use Rattle.net_world_spec.specs.Texts.{run_text}
+use Rattle.exit_status.specs.declared.status.Cause.{Cause}
+use Rattle.exit_status.specs.declared.status.Cause.TheVariants.{Done}
+use Rattle.planet_commands_run.specs.Schedules.{log_trace}
+use Rattle.command_files.specs.declared.cut.CutFile.{CutFile}
+use Rattle.command_files.specs.Texts.{cut_output}
+use Rattle.planet_commands_fleet.specs.Messages.{messages_text}
 use Rattle.planet_cli.specs.Requests.{request_of}
-use Rattle.call_causes.specs.Causes.{Explains}
-use Rattle.call_causes.specs.Notes.{Notes}
+use Rattle.exit_status.specs.Causes.{Explains}
+use Rattle.exit_status.specs.Notes.{Notes}
 use Rattle.planet_cli.specs.Does.{Does}
 use Rattle.planet_cli.specs.Calls.{Calls}
 use Rattle.planet_cli.specs.Replays.{Replays, ReplaysLog}

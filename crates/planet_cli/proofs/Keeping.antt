@@ -1,11 +1,11 @@
 -- The run of a schedule that a file says keeps what every run keeps.
 use Rattle.std.proofs.Common.{ℕ, List, take}
-use Rattle.network_plan.specs.declared.schedule.Schedule.{Schedule}
-use Rattle.network_plan.specs.Rules.{KeepsRules}
+use Rattle.network_config.specs.declared.schedule.Schedule.{Schedule}
+use Rattle.network_config.specs.Rules.{KeepsRules}
 use Rattle.schedule_text.proofs.RuleLaws.{schedule_keeps}
 use Rattle.node_io.specs.FileStates.{FilesState}
-use Rattle.network_laws.proofs.Wires.{opening_leads, opening_once}
-use Rattle.network_laws.proofs.Reaching.{run_keeps_routes}
+use Rattle.net_world_spec.proofs.Wires.{opening_leads, opening_once}
+use Rattle.net_world_spec.proofs.Reaching.{run_keeps_routes}
 use Rattle.net_world.specs.Keeping.{KeepsRun}
 use Rattle.net_world.proofs.RunLaws.{prefix_balances, prefix_bounded, prefix_granted, prefix_sound, prefix_ends}
 use Rattle.planet_cli.specs.Replays.{Replays}

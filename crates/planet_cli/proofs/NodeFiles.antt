@@ -1,7 +1,7 @@
 -- What a call of `node` does to files.
 use Rattle.std.proofs.Common.{◌≡◌, ◌≢◌, ℕ, IsTrue, List, [], ◌∷◌, ◌++◌, Some, Result, Ok, Err, sym, ap, ◌∙◌, subst}
 use Rattle.std.specs.Prelude.{OnOk}
-use Rattle.network_plan.specs.declared.serve.ServeConfig.{ServeConfig}
+use Rattle.network_config.specs.declared.serve.ServeConfig.{ServeConfig}
 use Rattle.node_io.specs.FileMaps.{file_at}
 use Rattle.node_io.specs.FileStates.{FilesState}
 use Rattle.node_io.specs.Outsides.{Outside}
@@ -9,11 +9,11 @@ use Rattle.node_io.specs.Sinks.{SinkState}
 use Rattle.node_serve.specs.Desks.{Serving}
 use Rattle.node_serve.specs.declared.fault.ServeFault.{ServeFault}
 use Rattle.node_serve.specs.declared.fault.ServeFault.TheVariants as faults
-use Rattle.call_causes.specs.declared.status.Cause.{Cause}
-use Rattle.call_causes.specs.declared.status.Cause.TheVariants.{Done}
-use Rattle.file_commands.specs.Said.{says}
-use Rattle.file_commands.specs.Takes.{Untaken}
-use Rattle.live_commands.specs.Nodes.{ServesAs, config_said, serve_cause}
+use Rattle.exit_status.specs.declared.status.Cause.{Cause}
+use Rattle.exit_status.specs.declared.status.Cause.TheVariants.{Done}
+use Rattle.planet_commands.specs.Said.{says}
+use Rattle.planet_commands.specs.Takes.{Untaken}
+use Rattle.planet_commands_fleet.specs.Nodes.{ServesAs, config_said, serve_cause}
 use Rattle.planet_cli.specs.Requests.{node}
 use Rattle.planet_cli.specs.Does.{serving_in}
 use Rattle.planet_cli.specs.Calls.{Calls}

@@ -14,35 +14,35 @@ use Rattle.packet_frame.specs.declared.frame.PlainStamped.{PlainStamped}
 use Rattle.packet_frame.specs.declared.fault.FrameFault.{FrameFault}
 use Rattle.packet_frame.specs.Decoding.{read_by}
 use Rattle.packet_frame.proofs.Versions.{found_by}
-use Rattle.network_plan.specs.declared.node.Log.{Log}
-use Rattle.network_plan.specs.declared.node.NodeConfig.{NodeConfig}
+use Rattle.network_config.specs.declared.node.Log.{Log}
+use Rattle.network_config.specs.declared.node.NodeConfig.{NodeConfig}
 use Rattle.service_api.specs.declared.package.PackageName.{PackageName}
 use Rattle.service_api.specs.Services.{ServiceState}
-use Rattle.network_plan.specs.declared.event.Event.{Event}
-use Rattle.network_plan.specs.declared.event.Event.TheVariants as event
-use Rattle.network_plan.specs.declared.event.LogEvent.{LogEvent}
-use Rattle.network_plan.specs.declared.event.LogEvent.TheVariants.{Step, Lost}
-use Rattle.network_plan.specs.Hosts.{is_listed}
-use Rattle.network_plan.specs.NodeRules.{KeepsNode, KeepsNodeEvent, KeepsEntry}
+use Rattle.network_config.specs.declared.event.Event.{Event}
+use Rattle.network_config.specs.declared.event.Event.TheVariants as event
+use Rattle.network_config.specs.declared.event.LogEvent.{LogEvent}
+use Rattle.network_config.specs.declared.event.LogEvent.TheVariants.{Step, Lost}
+use Rattle.network_config.specs.Hosts.{is_listed}
+use Rattle.network_config.specs.NodeRules.{KeepsNode, KeepsNodeEvent, KeepsEntry}
 use Rattle.node_files.proofs.LogLaws.{log_rules}
 use Rattle.node_io.specs.FileStates.{FilesState}
-use Rattle.node_model.specs.State.{NodeState, new_node}
-use Rattle.node_model.specs.Fits.{NodeFits, comes_fit}
-use Rattle.node_model.specs.declared.acts.Act.{Act}
-use Rattle.node_model.specs.declared.acts.Act.TheVariants.{Injected, Asked, SerialsSpent}
-use Rattle.node_model.specs.Node.{stepped_node, visit_step, next_serial, injected_packet, inject_step, asked_plain, asked_read, control_step, node_step}
-use Rattle.node_model.proofs.Fitting.{Taken, taken_in, step_fits}
-use Rattle.node_model.proofs.Staying.{arrive_stays, tick_stays, take_stays}
-use Rattle.node_model.proofs.HostLaws.{new_node_fits}
-use Rattle.node_model.proofs.NodeBalance.{step_balances}
-use Rattle.network_laws.proofs.Opening.{services_fit}
-use Rattle.network_laws.proofs.Visits.{ends_well, cases, chunk_ends, bytes_end}
-use Rattle.service_meaning.specs.Beginning.{opening_standing, present_without}
-use Rattle.serve_model.specs.Runs.{node_by, node_after}
-use Rattle.serve_model.proofs.Beginning.{may_begin}
-use Rattle.log_replay.specs.Nodes.{log_node}
-use Rattle.world_model.specs.Visits.{one_visit, EndsWell}
-use Rattle.run_commands.specs.Keeping.{node_at, asked_visits, control_visits, step_visits, KeepsNodeRun}
+use Rattle.node_core_spec.specs.State.{NodeState, new_node}
+use Rattle.node_core_spec.specs.Fits.{NodeFits, comes_fit}
+use Rattle.node_core_spec.specs.declared.acts.Act.{Act}
+use Rattle.node_core_spec.specs.declared.acts.Act.TheVariants.{Injected, Asked, SerialsSpent}
+use Rattle.node_core_spec.specs.Node.{stepped_node, visit_step, next_serial, injected_packet, inject_step, asked_plain, asked_read, control_step, node_step}
+use Rattle.node_core_spec.proofs.Fitting.{Taken, taken_in, step_fits}
+use Rattle.node_core_spec.proofs.Staying.{arrive_stays, tick_stays, take_stays}
+use Rattle.node_core_spec.proofs.HostLaws.{new_node_fits}
+use Rattle.node_core_spec.proofs.NodeBalance.{step_balances}
+use Rattle.net_world_spec.proofs.Opening.{services_fit}
+use Rattle.net_world_spec.proofs.Visits.{ends_well, cases, chunk_ends, bytes_end}
+use Rattle.service_registry_spec.specs.Beginning.{opening_standing, present_without}
+use Rattle.node_log.specs.Runs.{node_by, node_after}
+use Rattle.node_log.proofs.Beginning.{may_begin}
+use Rattle.node_log.specs.Nodes.{log_node}
+use Rattle.net_world_spec.specs.Visits.{one_visit, EndsWell}
+use Rattle.planet_commands_run.specs.Keeping.{node_at, asked_visits, control_visits, step_visits, KeepsNodeRun}
 use Rattle.planet_cli.specs.Replays.{ReplaysLog}
 
 pub event_fits : (v : Version) (e : Event) → KeepsNodeEvent v e → comes_fit v e

@@ -5,13 +5,13 @@ use Rattle.plan_base.specs.declared.stamp.Version.{Version}
 use Rattle.plan_base.specs.declared.stamp.Version.TheVariants.{One, Two}
 use Rattle.service_api.specs.Services.{ServiceState}
 use Rattle.service_api.specs.declared.package.PackageName.{PackageName}
-use Rattle.service_meaning.specs.Beginning.{opening_standing, present_without}
-use Rattle.network_plan.specs.declared.node.Log.{Log}
-use Rattle.network_plan.specs.declared.node.NodeConfig.{NodeConfig}
-use Rattle.network_plan.specs.declared.serve.ServeConfig.{ServeConfig}
-use Rattle.network_plan.specs.NodeRules.{KeepsBoot, KeepsServe}
-use Rattle.line_files.specs.declared.fault.LineFault.{LineFault}
-use Rattle.line_files.specs.declared.fault.LineFault.TheVariants as lines
+use Rattle.service_registry_spec.specs.Beginning.{opening_standing, present_without}
+use Rattle.network_config.specs.declared.node.Log.{Log}
+use Rattle.network_config.specs.declared.node.NodeConfig.{NodeConfig}
+use Rattle.network_config.specs.declared.serve.ServeConfig.{ServeConfig}
+use Rattle.network_config.specs.NodeRules.{KeepsBoot, KeepsServe}
+use Rattle.line_reader.specs.declared.fault.LineFault.{LineFault}
+use Rattle.line_reader.specs.declared.fault.LineFault.TheVariants as lines
 use Rattle.node_files.specs.Configs.{config_of}
 use Rattle.node_files.proofs.ConfigLaws.{config_rules}
 use Rattle.node_io.specs.Causes.{HasRisen}
@@ -20,25 +20,25 @@ use Rattle.node_io.specs.FileMaps.{FileMap, file_at}
 use Rattle.node_io.specs.FileStates.{FilesState}
 use Rattle.node_io.specs.Outsides.{Outside}
 use Rattle.node_io.specs.Sinks.{SinkState, Writes}
-use Rattle.node_model.specs.State.{new_node}
-use Rattle.node_model.specs.Fits.{NodeFits}
-use Rattle.node_model.proofs.Contexts.{node_ordered}
-use Rattle.serve_model.specs.Runs.{played_entries}
-use Rattle.serve_model.specs.Texts.{whole_trace}
+use Rattle.node_core_spec.specs.State.{new_node}
+use Rattle.node_core_spec.specs.Fits.{NodeFits}
+use Rattle.node_core_spec.proofs.Contexts.{node_ordered}
+use Rattle.node_log.specs.Runs.{played_entries}
+use Rattle.node_log.specs.Texts.{whole_trace}
 use Rattle.node_serve.specs.Desks.{Serving, IsSeen, desk_of}
 use Rattle.node_serve.specs.Served.{Served, Begun}
 use Rattle.node_serve.specs.Again.{ReadsAgain}
 use Rattle.node_serve.proofs.Again.{again}
 use Rattle.node_serve.proofs.Ending.{whole_agrees}
-use Rattle.call_causes.specs.declared.status.Cause.{Cause}
-use Rattle.call_causes.specs.declared.status.Cause.TheVariants.{Done, NoMemory}
-use Rattle.call_causes.specs.declared.status.Refusal.TheVariants.{TooLong}
-use Rattle.file_commands.specs.Said.{Said, outside, says, said_by, said_within, said_at, line_limit}
-use Rattle.run_commands.specs.Keeping.{KeepsNodeRun, node_at}
-use Rattle.log_replay.specs.Nodes.{log_node}
-use Rattle.run_commands.specs.Schedules.{schedule_limit, schedule_said, log_trace}
-use Rattle.run_commands.proofs.Logs.{log_said}
-use Rattle.live_commands.specs.Nodes.{config_said, own_services, moment, begun_config, begun_with}
+use Rattle.exit_status.specs.declared.status.Cause.{Cause}
+use Rattle.exit_status.specs.declared.status.Cause.TheVariants.{Done, NoMemory}
+use Rattle.exit_status.specs.declared.status.Refusal.TheVariants.{TooLong}
+use Rattle.planet_commands.specs.Said.{Said, outside, says, said_by, said_within, said_at, line_limit}
+use Rattle.planet_commands_run.specs.Keeping.{KeepsNodeRun, node_at}
+use Rattle.node_log.specs.Nodes.{log_node}
+use Rattle.planet_commands_run.specs.Schedules.{schedule_limit, schedule_said, log_trace}
+use Rattle.planet_commands_run.proofs.Logs.{log_said}
+use Rattle.planet_commands_fleet.specs.Nodes.{config_said, own_services, moment, begun_config, begun_with}
 use Rattle.planet_cli.specs.Requests.{node, replay}
 use Rattle.planet_cli.specs.Does.{serving_in}
 use Rattle.planet_cli.specs.Calls.{Calls}

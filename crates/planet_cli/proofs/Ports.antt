@@ -2,14 +2,14 @@
 use Rattle.std.proofs.Common.{◌≡◌, ℕ, List, Ok, subst}
 use Rattle.node_io.specs.Outsides.{Outside}
 use Rattle.node_io.specs.Sinks.{SinkState, Writes}
-use Rattle.call_causes.specs.declared.status.Cause.{Cause}
-use Rattle.call_causes.specs.declared.status.Cause.TheVariants.{Done}
-use Rattle.port_files.specs.declared.file.PortFile.{PortFile}
-use Rattle.port_files.specs.PortFiles.{port_of}
-use Rattle.port_files.proofs.PortLaws.{port_keeps}
-use Rattle.port_world.specs.Texts.{port_output}
-use Rattle.port_world.specs.Keeping.{KeepsPurses}
-use Rattle.port_world.proofs.Promises.{keeps_purses}
+use Rattle.exit_status.specs.declared.status.Cause.{Cause}
+use Rattle.exit_status.specs.declared.status.Cause.TheVariants.{Done}
+use Rattle.command_files.specs.declared.port.PortFile.{PortFile}
+use Rattle.command_files.specs.PortFiles.{port_of}
+use Rattle.command_files.proofs.PortLaws.{port_keeps}
+use Rattle.reliable_ports_world.specs.Texts.{port_output}
+use Rattle.reliable_ports_world.specs.Keeping.{KeepsPurses}
+use Rattle.reliable_ports_world.proofs.Promises.{keeps_purses}
 use Rattle.planet_cli.specs.Requests.{request_of}
 use Rattle.planet_cli.specs.Calls.{Calls}
 use Rattle.planet_cli.specs.PortCalls.{RunsPorts}

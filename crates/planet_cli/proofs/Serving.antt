@@ -1,30 +1,29 @@
 -- The laws of `node`, and of files that aren't taken.
 use Rattle.std.proofs.Common.{◌≡◌, ◌⊎◌, inl, inr, ℕ, IsTrue, List, Option, Some, None, Result, Ok, Err, refl, sym, ap, ◌∙◌, subst}
-use Rattle.network_plan.specs.declared.event.LogEvent.{LogEvent}
-use Rattle.network_plan.specs.declared.serve.ServeConfig.{ServeConfig}
+use Rattle.network_config.specs.declared.event.LogEvent.{LogEvent}
+use Rattle.network_config.specs.declared.serve.ServeConfig.{ServeConfig}
 use Rattle.node_io.specs.Causes.{HasRisen}
-use Rattle.node_io.specs.FileMaps.{FileMap, ChangesOnly, SavesFront}
+use Rattle.node_io.specs.FileMaps.{ChangesOnly, SavesFront}
 use Rattle.node_io.specs.FileStates.{FilesState}
 use Rattle.node_io.specs.Outsides.{Outside}
 use Rattle.node_io.specs.Sinks.{SinkState}
-use Rattle.node_model.specs.State.{NodeState}
+use Rattle.node_core_spec.specs.State.{NodeState}
 use Rattle.fleet_run.specs.Asks.{ask_line}
 use Rattle.plan_base.specs.declared.stamp.Version.{Version}
 use Rattle.plan_base.specs.declared.stamp.Version.TheVariants.{One, Two}
-use Rattle.node_io.specs.Clocks.{ClockState, Tells}
+use Rattle.node_io.specs.Clocks.{ClockState}
 use Rattle.node_serve.specs.Desks.{Serving, IsSeen, desk_of, seen_at, start_at}
 use Rattle.node_serve.specs.Shown.{run_log, Agrees}
 use Rattle.node_serve.specs.Served.{Served, AgreesEarly, Begun, Ends, run_in}
 use Rattle.node_serve.specs.Moments.{booted_config, Asks, ServesFrom}
 use Rattle.node_serve.specs.declared.fault.ServeFault.{ServeFault}
 use Rattle.node_serve.specs.declared.fault.ServeFault.TheVariants as faults
-use Rattle.call_causes.specs.Causes.{Gives}
-use Rattle.call_causes.specs.declared.status.Cause.{Cause}
-use Rattle.call_causes.specs.declared.status.Cause.TheVariants.{Done, WriteFault, LinkFault, NoMemory}
-use Rattle.file_commands.specs.Said.{Said, nothing, outside, says}
-use Rattle.file_commands.specs.Takes.{Untaken}
-use Rattle.live_commands.specs.Asks.{AsksAs, ask_said}
-use Rattle.live_commands.specs.Nodes.{ServesAs, config_said, own_services, own_node, moment, behind_moment, begun_config, begun_with, serve_cause}
+use Rattle.exit_status.specs.declared.status.Cause.{Cause}
+use Rattle.exit_status.specs.declared.status.Cause.TheVariants.{Done, WriteFault, LinkFault, NoMemory}
+use Rattle.planet_commands.specs.Said.{Said, nothing, outside, says}
+use Rattle.planet_commands.specs.Takes.{Untaken}
+use Rattle.planet_commands_fleet.specs.Asks.{AsksAs, ask_said}
+use Rattle.planet_commands_fleet.specs.Nodes.{ServesAs, config_said, own_services, own_node, moment, behind_moment, begun_config, begun_with, serve_cause}
 use Rattle.planet_cli.specs.Requests.{Request, replay, check, show, inject, fleet, node, grow, cut, gather, ports, audit}
 use Rattle.planet_cli.specs.Does.{Does, wire_in, serving_in}
 use Rattle.planet_cli.specs.Calls.{Calls}

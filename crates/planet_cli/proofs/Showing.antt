@@ -3,12 +3,12 @@ use Rattle.std.proofs.Common.{◌≡◌, ℕ, IsTrue, List, Some, subst}
 use Rattle.node_io.specs.Outsides.{Outside}
 use Rattle.node_io.specs.Sinks.{SinkState, Writes}
 use Rattle.packet_frame.specs.declared.frame.PlainStamped.{PlainStamped}
-use Rattle.frame_text.specs.Frames.{frame_text}
-use Rattle.call_causes.specs.declared.status.Cause.{Cause}
-use Rattle.call_causes.specs.declared.status.Cause.TheVariants.{Done}
-use Rattle.file_commands.specs.Said.{Said, nothing, outside, says, IsSaid}
-use Rattle.file_commands.specs.Shows.{show_said, HoldsFrame}
-use Rattle.file_commands.proofs.Showing.{frame_shown, frame_is_found}
+use Rattle.packet_frame_text.specs.Frames.{frame_text}
+use Rattle.exit_status.specs.declared.status.Cause.{Cause}
+use Rattle.exit_status.specs.declared.status.Cause.TheVariants.{Done}
+use Rattle.planet_commands.specs.Said.{Said, nothing, outside, says, IsSaid}
+use Rattle.planet_commands.specs.Shows.{show_said, HoldsFrame}
+use Rattle.planet_commands.proofs.Showing.{frame_shown, frame_is_found}
 use Rattle.planet_cli.specs.Requests.{show}
 use Rattle.planet_cli.specs.Calls.{Calls}
 use Rattle.planet_cli.specs.Outcomes.{whole, outcome_by, IsAccepted, WritesOut}

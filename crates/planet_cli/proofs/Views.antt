@@ -3,11 +3,11 @@ use Rattle.std.proofs.Common.{◌≡◌, ℕ, IsTrue, List, Result, Ok, Err, Mat
 use Rattle.node_io.specs.FileMaps.{FileMap}
 use Rattle.node_io.specs.FileStates.{FilesState}
 use Rattle.node_io.specs.Sinks.{SinkState}
-use Rattle.call_causes.specs.declared.status.Cause.{Cause}
-use Rattle.file_commands.specs.Said.{Said, says}
-use Rattle.file_commands.specs.Takes.{Untaken, TakeResult, Takes, TakesAndActs}
-use Rattle.file_commands.specs.Renders.{Prints}
-use Rattle.audit_commands.specs.Audits.{audit_said, AuditsFile}
+use Rattle.exit_status.specs.declared.status.Cause.{Cause}
+use Rattle.planet_commands.specs.Said.{Said, says}
+use Rattle.planet_commands.specs.Takes.{Untaken, TakeResult, Takes, TakesAndActs}
+use Rattle.planet_commands.specs.Renders.{Prints}
+use Rattle.planet_commands_fleet.specs.Audits.{audit_said, AuditsFile}
 
 -- a file says one value
 pub says_one : {A : Type 0} (a b : A) → says a ≡ says b → a ≡ b

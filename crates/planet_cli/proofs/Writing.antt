@@ -2,31 +2,30 @@
 use Rattle.std.proofs.Common.{◌≡◌, ℕ, IsTrue, Bool, true, false, cond, nat_lt, List, length, Option, Some, Ok, ap, subst}
 use Rattle.plan_base.specs.declared.tree.Program.{Program}
 use Rattle.program_text.specs.Texts.{program_of}
-use Rattle.network_plan.specs.declared.schedule.Schedule.{Schedule}
-use Rattle.network_plan.specs.declared.node.Log.{Log}
+use Rattle.network_config.specs.declared.schedule.Schedule.{Schedule}
+use Rattle.network_config.specs.declared.node.Log.{Log}
 use Rattle.schedule_text.specs.Schedules.{schedule_of}
 use Rattle.node_files.specs.Logs.{log_of}
-use Rattle.node_io.specs.FileMaps.{FileMap, file_at}
-use Rattle.node_io.specs.FileStates.{FilesState}
+use Rattle.node_io.specs.FileMaps.{file_at}
 use Rattle.node_io.specs.Outsides.{Outside}
 use Rattle.node_io.specs.Sinks.{SinkState, Writes}
-use Rattle.call_causes.specs.declared.status.Cause.{Cause}
-use Rattle.call_causes.specs.declared.status.Cause.TheVariants.{Done}
-use Rattle.call_causes.specs.declared.status.Refusal.TheVariants.{TooLong}
-use Rattle.file_commands.specs.Said.{Said, outside, says, said_at, said_by, line_limit}
-use Rattle.file_commands.specs.Checks.{program_limit, program_said, check_said, sizes_text, sizes_of}
-use Rattle.run_commands.specs.Schedules.{schedule_limit, schedule_said, replay_said, replay_text, log_trace}
-use Rattle.run_commands.proofs.Logs.{replay_said_is, log_said}
-use Rattle.cut_files.specs.declared.cut.CutFile.{CutFile}
-use Rattle.cut_files.specs.Cuts.{cut_of}
-use Rattle.cut_files.specs.Texts.{cut_output}
-use Rattle.message_commands.specs.Messages.{messages_text}
-use Rattle.port_files.specs.declared.file.PortFile.{PortFile}
-use Rattle.port_files.specs.PortFiles.{port_of}
-use Rattle.port_world.specs.Texts.{port_output}
-use Rattle.planet_cli.specs.Requests.{Request, replay, check, cut, gather, ports}
+use Rattle.exit_status.specs.declared.status.Cause.{Cause}
+use Rattle.exit_status.specs.declared.status.Cause.TheVariants.{Done}
+use Rattle.exit_status.specs.declared.status.Refusal.TheVariants.{TooLong}
+use Rattle.planet_commands.specs.Said.{Said, outside, says, said_at, said_by, line_limit}
+use Rattle.planet_commands.specs.Checks.{program_limit, program_said, sizes_text, sizes_of}
+use Rattle.planet_commands_run.specs.Schedules.{schedule_limit, schedule_said, replay_text, log_trace}
+use Rattle.planet_commands_run.proofs.Logs.{replay_said_is, log_said}
+use Rattle.command_files.specs.declared.cut.CutFile.{CutFile}
+use Rattle.command_files.specs.Cuts.{cut_of}
+use Rattle.command_files.specs.Texts.{cut_output}
+use Rattle.planet_commands_fleet.specs.Messages.{messages_text}
+use Rattle.command_files.specs.declared.port.PortFile.{PortFile}
+use Rattle.command_files.specs.PortFiles.{port_of}
+use Rattle.reliable_ports_world.specs.Texts.{port_output}
+use Rattle.planet_cli.specs.Requests.{replay, check, cut, gather, ports}
 use Rattle.planet_cli.specs.Calls.{Calls}
-use Rattle.planet_cli.specs.Outcomes.{Outcome, whole, outcome_by, outcome_of, IsAccepted, WritesOut}
+use Rattle.planet_cli.specs.Outcomes.{whole, outcome_by, IsAccepted, WritesOut}
 use Rattle.planet_cli.proofs.Giving.{is_accepted, is_written}
 
 -- what a file says that isn't too long

@@ -3,17 +3,17 @@ use Rattle.std.specs.Prelude.{ℕ, ◌≡◌, ◌≤◌, IsTrue, List, [], map, 
 use Rattle.std.specs.List.{AllByRecursion}
 use Rattle.plan_base.specs.declared.ids.Family.{Family}
 use Rattle.plan_base.specs.declared.stamp.Version.TheVariants.{Two}
-use Rattle.network_plan.specs.declared.node.Log.{Log}
-use Rattle.world_model.specs.World.{Cables}
+use Rattle.network_config.specs.declared.node.Log.{Log}
+use Rattle.net_world_spec.specs.World.{Cables}
 use Rattle.ledger_audit.specs.Crossings.{Crossing, times, crossings}
 use Rattle.ledger_audit.specs.Audits.{all_accepted, AddsUp}
-use Rattle.fleet_audit.specs.Pasts.{logged_of}
-use Rattle.fleet_audit.specs.Ledgers.{verdict_of, IsYes}
+use Rattle.ledger_audit.specs.Pasts.{logged_of}
+use Rattle.ledger_audit.specs.Ledgers.{verdict_of, IsYes}
 use Rattle.node_io.specs.FileStates.{FilesState}
-use Rattle.audit_files.specs.declared.audit.AuditFile.{AuditFile}
-use Rattle.audit_files.specs.AuditFiles.{audit_of}
-use Rattle.file_commands.specs.Said.{says, lines_said}
-use Rattle.audit_commands.specs.Audits.{logs_said}
+use Rattle.command_files.specs.declared.audit.AuditFile.{AuditFile}
+use Rattle.command_files.specs.AuditFiles.{audit_of}
+use Rattle.planet_commands.specs.Said.{says, lines_said}
+use Rattle.planet_commands_fleet.specs.Audits.{logs_said}
 use Rattle.planet_cli.specs.Requests.{audit, request_of}
 
 -- the words audit a file that is seen to name these logs and links, and the logs are seen to say this

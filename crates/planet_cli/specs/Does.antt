@@ -2,22 +2,22 @@
 use Rattle.std.specs.Prelude.{◌≡◌, Option, Some, None}
 use Rattle.node_io.specs.Outsides.{Outside}
 use Rattle.node_serve.specs.Desks.{Serving}
-use Rattle.call_causes.specs.declared.status.Cause.{Cause}
-use Rattle.call_causes.specs.declared.status.Cause.TheVariants.{Usage}
-use Rattle.file_commands.specs.Takes.{TakesAndActs}
-use Rattle.file_commands.specs.Renders.{Prints, PrintsBy}
-use Rattle.file_commands.specs.Checks.{check_said}
-use Rattle.file_commands.specs.Shows.{show_said}
-use Rattle.run_commands.specs.Schedules.{replay_said}
-use Rattle.run_commands.specs.Grown.{GrowsAs}
-use Rattle.cut_files.specs.Texts.{cut_output}
-use Rattle.message_commands.specs.Messages.{cut_said, gather_said, messages_text}
-use Rattle.port_world.specs.Texts.{port_output}
-use Rattle.port_commands.specs.Ports.{port_said}
-use Rattle.audit_commands.specs.Audits.{AuditsFile}
-use Rattle.live_commands.specs.Asks.{AsksAs, ask_said, Wire}
-use Rattle.live_commands.specs.Fleets.{RunsAs, fleet_said, Shop}
-use Rattle.live_commands.specs.Nodes.{ServesFile}
+use Rattle.exit_status.specs.declared.status.Cause.{Cause}
+use Rattle.exit_status.specs.declared.status.Cause.TheVariants.{Usage}
+use Rattle.planet_commands.specs.Takes.{TakesAndActs}
+use Rattle.planet_commands.specs.Renders.{Prints, PrintsBy}
+use Rattle.planet_commands.specs.Checks.{check_said}
+use Rattle.planet_commands.specs.Shows.{show_said}
+use Rattle.planet_commands_run.specs.Schedules.{replay_said}
+use Rattle.planet_commands_run.specs.Grown.{GrowsAs}
+use Rattle.command_files.specs.Texts.{cut_output}
+use Rattle.planet_commands_fleet.specs.Messages.{cut_said, gather_said, messages_text}
+use Rattle.reliable_ports_world.specs.Texts.{port_output}
+use Rattle.planet_commands_port.specs.Ports.{port_said}
+use Rattle.planet_commands_fleet.specs.Audits.{AuditsFile}
+use Rattle.planet_commands_fleet.specs.Asks.{AsksAs, ask_said, Wire}
+use Rattle.planet_commands_fleet.specs.Fleets.{RunsAs, fleet_said, Shop}
+use Rattle.planet_commands_fleet.specs.Nodes.{ServesFile}
 use Rattle.planet_cli.specs.Requests.{Request, replay, check, show, inject, fleet, node, grow, cut, gather, ports, audit}
 
 -- nothing but the files and the output changed; or the link too, or the children

@@ -1,6 +1,6 @@
 -- How a fleet stands that a fault of children ended, and which lines stand after every answer.
 use Rattle.std.specs.Prelude.{ℕ, ◌≡◌, ◌⊎◌, ◌≤◌, List, length}
-use Rattle.network_plan.specs.declared.fleet.Fleet.{Fleet}
+use Rattle.network_config.specs.declared.fleet.Fleet.{Fleet}
 use Rattle.node_io.specs.Causes.{HasRisen, one_more}
 use Rattle.node_io.specs.Outsides.{Outside}
 use Rattle.node_io.specs.Sinks.{SinkState, Writes, WritesPrefix}

@@ -1,11 +1,11 @@
 -- Calls that cut a message, and calls that gather the messages of a log.
 use Rattle.std.specs.Prelude.{ℕ, ◌≡◌, IsTrue, List, Some, Ok}
-use Rattle.network_plan.specs.declared.node.Log.{Log}
+use Rattle.network_config.specs.declared.node.Log.{Log}
 use Rattle.node_io.specs.FileMaps.{file_at}
 use Rattle.node_io.specs.FileStates.{FilesState}
 use Rattle.node_files.specs.Logs.{log_of}
-use Rattle.cut_files.specs.declared.cut.CutFile.{CutFile}
-use Rattle.cut_files.specs.Cuts.{cut_of}
+use Rattle.command_files.specs.declared.cut.CutFile.{CutFile}
+use Rattle.command_files.specs.Cuts.{cut_of}
 use Rattle.planet_cli.specs.Requests.{cut, gather, request_of}
 
 -- the words are a cut of a file that is seen to name this message

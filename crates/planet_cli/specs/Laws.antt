@@ -1,9 +1,9 @@
 -- What laws say of some commands alone.
 use Rattle.std.specs.Prelude.{ℕ, ◌≡◌, ◌⊎◌, IsTrue, List, ◌∷◌, [], ◌++◌, Option, Some, None, drop}
 use Rattle.plan_base.specs.declared.ids.Host.{Host}
-use Rattle.network_plan.specs.declared.fleet.AskFile.{AskFile}
-use Rattle.network_plan.specs.declared.fleet.Fleet.{Fleet}
-use Rattle.network_plan.specs.declared.serve.ServeConfig.{ServeConfig}
+use Rattle.network_config.specs.declared.fleet.AskFile.{AskFile}
+use Rattle.network_config.specs.declared.fleet.Fleet.{Fleet}
+use Rattle.network_config.specs.declared.serve.ServeConfig.{ServeConfig}
 use Rattle.node_io.specs.FileMaps.{MayName}
 use Rattle.node_io.specs.Links.{LinkState}
 use Rattle.node_io.specs.Outsides.{Outside}
@@ -15,11 +15,11 @@ use Rattle.fleet_run.specs.declared.reports.FleetEnd.{FleetEnd}
 use Rattle.fleet_run.specs.declared.reports.FleetEnd.TheVariants.{Well, Failed}
 use Rattle.node_serve.specs.Desks.{Serving}
 use Rattle.node_serve.specs.Served.{Served, Begun}
-use Rattle.call_causes.specs.declared.status.Cause.{Cause}
-use Rattle.call_causes.specs.declared.status.Cause.TheVariants.{Done, NodesFailed}
-use Rattle.file_commands.specs.Said.{Said, nothing, outside, says}
-use Rattle.audit_commands.specs.Audits.{MayNames}
-use Rattle.live_commands.specs.Nodes.{config_said, own_node, begun_config, begun_with}
+use Rattle.exit_status.specs.declared.status.Cause.{Cause}
+use Rattle.exit_status.specs.declared.status.Cause.TheVariants.{Done, NodesFailed}
+use Rattle.planet_commands.specs.Said.{Said, nothing, outside, says}
+use Rattle.planet_commands_fleet.specs.Audits.{MayNames}
+use Rattle.planet_commands_fleet.specs.Nodes.{config_said, own_node, begun_config, begun_with}
 use Rattle.planet_cli.specs.Requests.{Request, replay, check, show, inject, fleet, node, grow, cut, gather, ports, audit}
 
 -- ---- by the request

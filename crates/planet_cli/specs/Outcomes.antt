@@ -3,19 +3,19 @@ use Rattle.std.specs.Prelude.{ℕ, ◌≡◌, List, Option, Some, None}
 use Rattle.node_io.specs.FileMaps.{FileMap}
 use Rattle.node_io.specs.Sinks.{SinkState, Writes, WritesPrefix}
 use Rattle.fleet_run.specs.Asks.{ask_line}
-use Rattle.call_causes.specs.declared.status.Refusal.{Refusal}
-use Rattle.file_commands.specs.Said.{Said, nothing, outside, says}
-use Rattle.file_commands.specs.Checks.{check_said}
-use Rattle.file_commands.specs.Shows.{show_said}
-use Rattle.run_commands.specs.Schedules.{replay_said}
-use Rattle.cut_files.specs.Texts.{cut_output}
-use Rattle.message_commands.specs.Messages.{cut_said, gather_said, messages_text}
-use Rattle.port_world.specs.Texts.{port_output}
-use Rattle.port_commands.specs.Ports.{port_said}
-use Rattle.audit_commands.specs.Audits.{audit_said}
-use Rattle.live_commands.specs.Asks.{ask_said}
-use Rattle.live_commands.specs.Fleets.{fleet_said}
-use Rattle.live_commands.specs.Nodes.{config_said}
+use Rattle.exit_status.specs.declared.status.Refusal.{Refusal}
+use Rattle.planet_commands.specs.Said.{Said, nothing, outside, says}
+use Rattle.planet_commands.specs.Checks.{check_said}
+use Rattle.planet_commands.specs.Shows.{show_said}
+use Rattle.planet_commands_run.specs.Schedules.{replay_said}
+use Rattle.command_files.specs.Texts.{cut_output}
+use Rattle.planet_commands_fleet.specs.Messages.{cut_said, gather_said, messages_text}
+use Rattle.reliable_ports_world.specs.Texts.{port_output}
+use Rattle.planet_commands_port.specs.Ports.{port_said}
+use Rattle.planet_commands_fleet.specs.Audits.{audit_said}
+use Rattle.planet_commands_fleet.specs.Asks.{ask_said}
+use Rattle.planet_commands_fleet.specs.Fleets.{fleet_said}
+use Rattle.planet_commands_fleet.specs.Nodes.{config_said}
 use Rattle.planet_cli.specs.Requests.{Request, replay, check, show, inject, fleet, node, grow, cut, gather, ports, audit}
 
 -- no command, a file that is missing, a file that is refused, the whole output, or a command that runs, whose output is defined apart

@@ -2,8 +2,8 @@
 use Rattle.std.specs.Prelude.{ℕ, ◌≡◌, IsTrue, List, Some, Ok}
 use Rattle.node_io.specs.FileMaps.{file_at}
 use Rattle.node_io.specs.FileStates.{FilesState}
-use Rattle.port_files.specs.declared.file.PortFile.{PortFile}
-use Rattle.port_files.specs.PortFiles.{port_of}
+use Rattle.command_files.specs.declared.port.PortFile.{PortFile}
+use Rattle.command_files.specs.PortFiles.{port_of}
 use Rattle.planet_cli.specs.Requests.{ports, request_of}
 
 -- the words run what a file is seen to say of two ends

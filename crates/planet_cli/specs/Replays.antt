@@ -1,7 +1,7 @@
 -- Calls that replay a file.
 use Rattle.std.specs.Prelude.{ℕ, ◌≡◌, IsTrue, List, Some, Ok}
-use Rattle.network_plan.specs.declared.schedule.Schedule.{Schedule}
-use Rattle.network_plan.specs.declared.node.Log.{Log}
+use Rattle.network_config.specs.declared.schedule.Schedule.{Schedule}
+use Rattle.network_config.specs.declared.node.Log.{Log}
 use Rattle.node_io.specs.FileMaps.{file_at}
 use Rattle.node_io.specs.FileStates.{FilesState}
 use Rattle.schedule_text.specs.Schedules.{schedule_of}

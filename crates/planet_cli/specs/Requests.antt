@@ -2,8 +2,8 @@
 use Rattle.std.specs.Prelude.{ℕ, ◌^◌, ◌-◌, if◌then◌else◌, List, [], ◌∷◌, Option, Some, None}
 use Rattle.std.specs.Str.{bytes_eq}
 use lib.Chars.{codes}
-use Rattle.network_plan.specs.FileNames.{is_file_name}
-use Rattle.line_files.specs.Numbers.{number_in}
+use Rattle.network_config.specs.FileNames.{is_file_name}
+use Rattle.line_reader.specs.Numbers.{number_in}
 
 -- what words ask for: a command with its file or its numbers
 pub data Request : Type 0 where

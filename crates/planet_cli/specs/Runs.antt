@@ -1,19 +1,19 @@
 -- What a node leaves: the run that it made, whole or in part, and a log whose replay gives the lines of a whole one.
 use Rattle.std.specs.Prelude.{ℕ, ◌≡◌, ◌≤◌, ◌⊎◌, List, ◌++◌, length, take, Some}
 use Rattle.plan_base.specs.declared.tree.Packet.{Packet}
-use Rattle.network_plan.specs.declared.serve.ServeConfig.{ServeConfig}
+use Rattle.network_config.specs.declared.serve.ServeConfig.{ServeConfig}
 use Rattle.node_io.specs.FileMaps.{file_at}
 use Rattle.node_io.specs.Outsides.{Outside}
-use Rattle.node_model.specs.State.{NodeState}
-use Rattle.node_model.specs.Contexts.{IsOrdered}
-use Rattle.node_model.specs.Visits.{around}
-use Rattle.network_plan.specs.declared.event.LogEvent.{LogEvent}
-use Rattle.serve_model.specs.Runs.{Running}
+use Rattle.node_core_spec.specs.State.{NodeState}
+use Rattle.node_core_spec.specs.Contexts.{IsOrdered}
+use Rattle.node_core_spec.specs.Visits.{around}
+use Rattle.network_config.specs.declared.event.LogEvent.{LogEvent}
+use Rattle.node_log.specs.Runs.{Running}
 use Rattle.node_serve.specs.Desks.{Serving, desk_of, seen_at, start_at}
 use Rattle.node_serve.specs.Shown.{Agrees}
 use Rattle.node_serve.specs.Served.{Served, AgreesEarly, Begun, run_in}
-use Rattle.run_commands.specs.Keeping.{KeepsNodeRun, node_at}
-use Rattle.live_commands.specs.Nodes.{own_node, begun_config, begun_with}
+use Rattle.planet_commands_run.specs.Keeping.{KeepsNodeRun, node_at}
+use Rattle.planet_commands_fleet.specs.Nodes.{own_node, begun_config, begun_with}
 use Rattle.planet_cli.specs.Requests.{replay}
 use Rattle.planet_cli.specs.Laws.{Untouched}
 use Rattle.planet_cli.specs.Outcomes.{whole, outcome_of}

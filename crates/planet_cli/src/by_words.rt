@@ -3,15 +3,13 @@ ghost use Rattle.planet_cli.specs.Requests.{request_of};
 ghost use Rattle.planet_cli.specs.Does.{Does};
 
 use crate::words::{Command, read_words};
-use audit_commands::on_audit;
-use call_causes::Cause;
-use file_commands::{Check, Show, on_file};
-use live_commands::{on_ask, on_fleet, on_node};
-use message_commands::{on_cut, on_gather};
+use exit_status::Cause;
 use node_io::{Clock, Files, Link, Sink, Spawner};
 use plan_base::Texts;
-use port_commands::on_port;
-use run_commands::{Replay, on_seed};
+use planet_commands::{Check, Show, on_file};
+use planet_commands_fleet::{on_ask, on_audit, on_cut, on_fleet, on_gather, on_node};
+use planet_commands_port::on_port;
+use planet_commands_run::{Replay, on_seed};
 use std::alloc::Global;
 
 /// Does what the words ask for, and writes no note.

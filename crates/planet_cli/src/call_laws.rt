@@ -3,21 +3,21 @@ ghost use Rattle.std.specs.Prelude.{◌≡◌, ◌⊎◌, IsTrue, Option, None, 
 ghost use Rattle.node_io.specs.Causes.{HasRisen};
 ghost use Rattle.node_io.specs.Outsides.{Outside};
 ghost use Rattle.node_io.specs.Sinks.{SinkState, Writes, FailsIn};
-ghost use Rattle.call_causes.specs.Causes.{IfRefused, Gives, WriteRose};
-ghost use Rattle.file_commands.specs.Own.{IsOwn};
-ghost use Rattle.call_causes.specs.Notes.{note_text};
-ghost use Rattle.call_causes.specs.declared.status.Cause.{Cause as Why};
-ghost use Rattle.call_causes.specs.declared.status.Refusal.{Refusal as Reason};
+ghost use Rattle.exit_status.specs.Causes.{IfRefused, Gives, WriteRose};
+ghost use Rattle.planet_commands.specs.Own.{IsOwn};
+ghost use Rattle.exit_status.specs.Notes.{note_text};
+ghost use Rattle.exit_status.specs.declared.status.Cause.{Cause as Why};
+ghost use Rattle.exit_status.specs.declared.status.Refusal.{Refusal as Reason};
 ghost use Rattle.planet_cli.specs.Requests.{Request, grow, fleet};
 ghost use Rattle.planet_cli.specs.Calls.{Calls};
 ghost use Rattle.planet_cli.specs.Outcomes.{refused, outcome_of, IsWhole, IsAccepted, WritesOut, BeginsOut};
 ghost use Rattle.planet_cli.specs.Laws.{WhereInjected, UnlessLinked, UnlessFleet, IfNodesFailed, UnlessNode, AsksFor, MakesAtMost};
-ghost use Rattle.network_plan.specs.declared.fleet.Fleet.{Fleet};
-ghost use Rattle.file_commands.specs.Said.{says};
-ghost use Rattle.live_commands.specs.Fleets.{fleet_said};
+ghost use Rattle.network_config.specs.declared.fleet.Fleet.{Fleet};
+ghost use Rattle.planet_commands.specs.Said.{says};
+ghost use Rattle.planet_commands_fleet.specs.Fleets.{fleet_said};
 ghost use Rattle.planet_cli.specs.Fleets.{Unstarted, Unwaited, WritesLines};
 
-use call_causes::Cause;
+use exit_status::Cause;
 
 /// Usage comes only where the words are none of the commands.
 pub fn usage()

@@ -1,62 +1,62 @@
 //! What follows from a call of one command: what it writes, sends and starts, and what holds of what it ran.
 ghost use Rattle.std.specs.Prelude.{◌≡◌, ◌⊎◌, IsTrue, List, ℕ, Some, Ok, ◌<◌, ℤ, length, false, drop, ◌≢◌, [], ◌∷◌, ◌++◌, ◌≤◌, ◌^◌};
 ghost use Rattle.plan_base.specs.declared.tree.Program.{Program};
-ghost use Rattle.network_plan.specs.declared.schedule.Schedule.{Schedule};
-ghost use Rattle.network_plan.specs.declared.node.Log.{Log};
+ghost use Rattle.network_config.specs.declared.schedule.Schedule.{Schedule};
+ghost use Rattle.network_config.specs.declared.node.Log.{Log};
 ghost use Rattle.packet_frame.specs.declared.frame.PlainStamped.{PlainStamped};
-ghost use Rattle.frame_text.specs.Frames.{frame_text};
+ghost use Rattle.packet_frame_text.specs.Frames.{frame_text};
 ghost use Rattle.program_text.specs.Texts.{program_of};
 ghost use Rattle.node_io.specs.Causes.{HasRisen};
 ghost use Rattle.node_io.specs.FileMaps.{FileMap, file_at};
 ghost use Rattle.node_io.specs.FileStates.{FilesState};
 ghost use Rattle.node_io.specs.Outsides.{Outside};
 ghost use Rattle.node_io.specs.Sinks.{SinkState, Writes};
-ghost use Rattle.world_model.specs.World.{opening};
-ghost use Rattle.world_model.specs.Texts.{run_text};
+ghost use Rattle.net_world_spec.specs.World.{opening};
+ghost use Rattle.net_world_spec.specs.Texts.{run_text};
 ghost use Rattle.net_world.specs.Keeping.{KeepsRun};
 ghost use Rattle.grow_run.specs.Pings.{OfGrown};
-ghost use Rattle.call_causes.specs.declared.status.Cause.{Cause as Why};
-ghost use Rattle.file_commands.specs.Said.{says, IsSaid};
-ghost use Rattle.file_commands.specs.Checks.{sizes_text};
-ghost use Rattle.file_commands.specs.Shows.{show_said, HoldsFrame};
-ghost use Rattle.run_commands.specs.Schedules.{log_trace};
+ghost use Rattle.exit_status.specs.declared.status.Cause.{Cause as Why};
+ghost use Rattle.planet_commands.specs.Said.{says, IsSaid};
+ghost use Rattle.planet_commands.specs.Checks.{sizes_text};
+ghost use Rattle.planet_commands.specs.Shows.{show_said, HoldsFrame};
+ghost use Rattle.planet_commands_run.specs.Schedules.{log_trace};
 ghost use Rattle.planet_cli.specs.Requests.{request_of, check, show, grow, audit, inject, fleet, node, replay};
 ghost use Rattle.planet_cli.specs.Calls.{Calls};
 ghost use Rattle.planet_cli.specs.Replays.{Replays, ReplaysLog};
 ghost use Rattle.frag_chunks.specs.Parts.{parts_in};
 ghost use Rattle.frag_chunks.specs.Messages.{OfMessage, IsKept, AllCame, was_given, missing_of};
-ghost use Rattle.cut_files.specs.declared.cut.CutFile.{CutFile};
-ghost use Rattle.cut_files.specs.Texts.{cut_output};
-ghost use Rattle.log_gather.specs.Texts.{whole_line, held_line};
-ghost use Rattle.log_gather.specs.Notes.{HasLine};
-ghost use Rattle.message_commands.specs.Messages.{messages_text, notes_of};
+ghost use Rattle.command_files.specs.declared.cut.CutFile.{CutFile};
+ghost use Rattle.command_files.specs.Texts.{cut_output};
+ghost use Rattle.frag_chunks_log.specs.Texts.{whole_line, held_line};
+ghost use Rattle.frag_chunks_log.specs.Notes.{HasLine};
+ghost use Rattle.planet_commands_fleet.specs.Messages.{messages_text, notes_of};
 ghost use Rattle.planet_cli.specs.Gathers.{Cuts, Gathers};
-ghost use Rattle.port_files.specs.declared.file.PortFile.{PortFile};
-ghost use Rattle.port_files.specs.PortFiles.{port_of};
-ghost use Rattle.port_files.specs.PortRules.{KeepsPort};
-ghost use Rattle.port_world.specs.Keeping as ports;
-ghost use Rattle.port_world.specs.Texts.{port_output};
+ghost use Rattle.command_files.specs.declared.port.PortFile.{PortFile};
+ghost use Rattle.command_files.specs.PortFiles.{port_of};
+ghost use Rattle.command_files.specs.PortRules.{KeepsPort};
+ghost use Rattle.reliable_ports_world.specs.Keeping as ports;
+ghost use Rattle.reliable_ports_world.specs.Texts.{port_output};
 ghost use Rattle.planet_cli.specs.PortCalls.{RunsPorts};
-ghost use Rattle.audit_files.specs.declared.audit.AuditFile.{AuditFile};
-ghost use Rattle.audit_commands.specs.Audits.{fit_text, AsksAlong};
+ghost use Rattle.command_files.specs.declared.audit.AuditFile.{AuditFile};
+ghost use Rattle.planet_commands_fleet.specs.Audits.{fit_text, AsksAlong};
 ghost use Rattle.planet_cli.specs.Audited.{Audits, Fit, AllAddUp, AreOfTwo, AcceptOnce};
-ghost use Rattle.network_plan.specs.declared.fleet.AskFile.{AskFile as Ask};
-ghost use Rattle.network_plan.specs.declared.fleet.Fleet.{Fleet};
-ghost use Rattle.network_plan.specs.declared.serve.ServeConfig.{ServeConfig as Config};
+ghost use Rattle.network_config.specs.declared.fleet.AskFile.{AskFile as Ask};
+ghost use Rattle.network_config.specs.declared.fleet.Fleet.{Fleet};
+ghost use Rattle.network_config.specs.declared.serve.ServeConfig.{ServeConfig as Config};
 ghost use Rattle.fleet_run.specs.Asks.{ask_line, Bound, Sent};
 ghost use Rattle.fleet_run.specs.Fleets.{fleet_starts, fleet_end};
 ghost use Rattle.fleet_run.specs.Runs.{Started, RunsFleet};
 ghost use Rattle.node_serve.specs.Desks.{IsSeen, desk_of};
 ghost use Rattle.node_serve.specs.Served.{Served};
-ghost use Rattle.live_commands.specs.Asks.{ask_said};
-ghost use Rattle.live_commands.specs.Fleets.{fleet_said};
-ghost use Rattle.live_commands.specs.Nodes.{config_said, own_node, begun_config, begun_with, moment};
+ghost use Rattle.planet_commands_fleet.specs.Asks.{ask_said};
+ghost use Rattle.planet_commands_fleet.specs.Fleets.{fleet_said};
+ghost use Rattle.planet_commands_fleet.specs.Nodes.{config_said, own_node, begun_config, begun_with, moment};
 ghost use Rattle.planet_cli.specs.Does.{serving_in};
 ghost use Rattle.planet_cli.specs.Laws.{IfEnded, IsEnded, AsksAtMost, RunsAtMost, ServesAtMost};
-ghost use Rattle.log_replay.specs.Nodes.{log_node};
+ghost use Rattle.node_log.specs.Nodes.{log_node};
 ghost use Rattle.planet_cli.specs.Runs.{first_node, made_run, KeepsOrder, KeepsServing, AgreesServing, KeepsUpTo, ReplaysSo};
 
-use call_causes::Cause;
+use exit_status::Cause;
 use frag_chunks::messages_are_gathered;
 
 /// A replay that is done wrote the run of its schedule.
@@ -189,7 +189,7 @@ pub fn ported()
 
 /// After every number of events, what was delivered is a prefix of what was offered, and no more is acknowledged than was
 /// delivered.
-#[tactic(auto, using(port_world::proofs::Promises::keeps_order))]
+#[tactic(auto, using(reliable_ports_world::proofs::Promises::keeps_order))]
 pub fn in_order()
     ensures { (p : PortFile) → ports.KeepsOrder p }
 {}

@@ -8,7 +8,6 @@ mod top;
 mod words;
 
 pub use by_words::run;
-pub use call_causes::{Cause, Refusal, Status};
 pub use call_laws::{
     accepted, asked, complete, cut_notes, files, fleet_lines, fleet_stops, front, grow_ends,
     link_fault, made, no_arrivals, no_frames, no_link_fault, no_moments, no_nodes_failed,
@@ -23,5 +22,6 @@ pub use command_laws::{
     replays_are_whole, served, served_agrees, served_keeps, serves, shown, shown_only, shown_whole,
     unbound, waited,
 };
+pub use exit_status::{Cause, Refusal, Status};
 pub use top::planet;
 pub use words::{Command, read_words};

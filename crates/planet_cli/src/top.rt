@@ -1,20 +1,20 @@
 ghost use Rattle.std.specs.Prelude.{◌≡◌};
-ghost use Rattle.network_plan.specs.declared.schedule.Schedule.{Schedule};
-ghost use Rattle.network_plan.specs.declared.node.Log.{Log};
+ghost use Rattle.network_config.specs.declared.schedule.Schedule.{Schedule};
+ghost use Rattle.network_config.specs.declared.node.Log.{Log};
 ghost use Rattle.node_io.specs.Outsides.{outside};
 ghost use Rattle.node_io.specs.Sinks.{Writes};
-ghost use Rattle.world_model.specs.World.{opening};
-ghost use Rattle.world_model.specs.Texts.{run_text};
+ghost use Rattle.net_world_spec.specs.World.{opening};
+ghost use Rattle.net_world_spec.specs.Texts.{run_text};
 ghost use Rattle.net_world.specs.Keeping.{KeepsRun};
-ghost use Rattle.call_causes.specs.Causes.{code_of, Explains};
+ghost use Rattle.exit_status.specs.Causes.{code_of, Explains};
 ghost use Rattle.planet_cli.specs.Requests.{request_of};
 ghost use Rattle.planet_cli.specs.Calls.{Calls};
-ghost use Rattle.log_replay.specs.Nodes.{log_node};
-ghost use Rattle.run_commands.specs.Keeping.{KeepsNodeRun};
+ghost use Rattle.node_log.specs.Nodes.{log_node};
+ghost use Rattle.planet_commands_run.specs.Keeping.{KeepsNodeRun};
 ghost use Rattle.planet_cli.specs.Replays.{Replays, ReplaysLog};
 
 use crate::by_words::run;
-use call_causes::{Cause, Status, settle};
+use exit_status::{Cause, Status, settle};
 use node_io::{Clock, Files, Link, Sink, Spawner};
 use plan_base::Texts;
 use std::alloc::Global;

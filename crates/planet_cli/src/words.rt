@@ -3,7 +3,7 @@ ghost use Rattle.std.specs.Str.{bytes_eq};
 ghost use Rattle.planet_cli.specs.Requests.{with_file, with_two, request_of};
 ghost use Rattle.planet_cli.specs.Commands.{request_for, command_fits};
 
-use line_files::{as_file_name, decimal, number_of};
+use line_reader::{as_file_name, decimal, number_of};
 use plan_base::Texts;
 
 /// What words ask for.

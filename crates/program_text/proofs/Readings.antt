@@ -12,11 +12,11 @@ use Rattle.plan_lexer.specs.declared.fault.LexFault.{LexFault}
 use Rattle.plan_lexer.specs.declared.token.Token.{Token}
 use Rattle.plan_lexer.proofs.ScanLemmas.{Toks-unique}
 use Rattle.plan_lexer.specs.declared.fault.LexFault.TheVariants as lexing
-use Rattle.plan_grammar.specs.declared.fault.ParseFault.{ParseFault}
-use Rattle.plan_grammar.specs.declared.fault.ParseFault.TheVariants as parsing
+use Rattle.plan_parser_exprs.specs.declared.fault.ParseFault.{ParseFault}
+use Rattle.plan_parser_exprs.specs.declared.fault.ParseFault.TheVariants as parsing
 use Rattle.plan_parser.specs.Programs as parsed
 use Rattle.plan_parser.specs.Values.{args_of, arguments_behind, nothing_follows}
-use Rattle.plan_grammar.specs.Ahead.{need_symbol, is_symbol, next_kind, behind}
+use Rattle.plan_parser_exprs.specs.Ahead.{need_symbol, is_symbol, next_kind, behind}
 use Rattle.plan_parser.specs.ReadTexts.{Reads, Fails, no_tokens, no_value}
 use Rattle.plan_parser.specs.declared.value_fault.ValueFault.{ValueFault}
 use Rattle.plan_parser.specs.declared.value_fault.ValueFault.TheVariants as faults

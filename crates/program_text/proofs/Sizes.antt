@@ -4,7 +4,7 @@ use Rattle.std.proofs.lemmas.Bool.Decides.{nat_tests}
 use Rattle.std.specs.Prelude.{map}
 use Rattle.std.proofs.lemmas.List.Sums.{sum_by-cons}
 use Rattle.plan_base.specs.Sizes.{expr_size, expr_size_level, clause_size, fun_size, code_size, expr_nodes, expr_nodes_level, clause_nodes, program_nodes}
-use Rattle.typing_rules.specs.Typing.{Typed}
+use Rattle.plan_types_spec.specs.Typing.{Typed}
 use Rattle.plan_base.proofs.SizeLaws.{expr_size_out, expr_nodes_out}
 use Rattle.plan_base.specs.declared.tree.Expr.{Expr, Expr-F, roll-Expr, out-roll-Expr, map-Expr, ind-Expr}
 use Rattle.plan_base.specs.declared.tree.Clause.{Clause, Clause-F, roll-Clause, out-roll-Clause}

@@ -2,17 +2,17 @@
 use Rattle.std.specs.Prelude.{ℕ, List, [], ◌++◌}
 use lib.Chars.{codes}
 use Rattle.plan_base.specs.declared.tree.Ty.{Ty}
-use Rattle.typing_rules.specs.declared.type_fault.TypeFault.{TypeFault}
-use Rattle.typing_rules.specs.declared.type_fault.TypeFault.TheVariants as ill
+use Rattle.plan_types_spec.specs.declared.type_fault.TypeFault.{TypeFault}
+use Rattle.plan_types_spec.specs.declared.type_fault.TypeFault.TheVariants as ill
 use Rattle.plan_lexer.specs.declared.fault.LexFault.{LexFault}
 use Rattle.plan_lexer.specs.declared.fault.LexFault.TheVariants as lex
-use Rattle.plan_grammar.specs.declared.fault.ParseFault.{ParseFault}
-use Rattle.plan_grammar.specs.declared.fault.ParseFault.TheVariants as parse
-use Rattle.plan_grammar.specs.Wants.{wanted_text}
+use Rattle.plan_parser_exprs.specs.declared.fault.ParseFault.{ParseFault}
+use Rattle.plan_parser_exprs.specs.declared.fault.ParseFault.TheVariants as parse
+use Rattle.plan_parser_exprs.specs.Wants.{wanted_text}
 use Rattle.program_text.specs.declared.fault.TextFault.{TextFault}
 use Rattle.program_text.specs.declared.fault.TextFault.TheVariants as fault
 use Rattle.plan_base.specs.Limits.{word_of}
-use Rattle.printed_forms.specs.Printed.{type_text}
+use Rattle.plan_printer_spec.specs.Printed.{type_text}
 
 abbrev pub lex_reason : LexFault → List ℕ
 lex_reason (lex.BadChar at) = codes "BadChar"

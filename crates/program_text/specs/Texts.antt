@@ -1,19 +1,19 @@
 -- What a text says: a typed program, or arguments, or the first refusal.
 use Rattle.std.specs.Prelude.{◌≡◌, ℕ, List, length, get_or, Option, Some, None, Result, Ok, Err}
-use Rattle.typing_rules.specs.declared.type_fault.TypeFault.{TypeFault}
-use Rattle.typing_rules.specs.declared.type_fault.TypeFault.TheVariants as ill
+use Rattle.plan_types_spec.specs.declared.type_fault.TypeFault.{TypeFault}
+use Rattle.plan_types_spec.specs.declared.type_fault.TypeFault.TheVariants as ill
 use Rattle.plan_base.specs.declared.tree.Draft.{Draft}
 use Rattle.plan_base.specs.declared.tree.Place.{Place}
 use Rattle.plan_base.specs.declared.tree.Place.TheVariants.{Decl, Node}
 use Rattle.plan_base.specs.declared.tree.Program.{Program}
 use Rattle.plan_base.specs.declared.tree.Value.{Value}
-use Rattle.typing_rules.specs.Typing.{Typed}
-use Rattle.typing_rules.specs.TypingFills.{Fills}
-use Rattle.typing_rules.specs.TypingOrder.{annotated_program}
+use Rattle.plan_types_spec.specs.Typing.{Typed}
+use Rattle.plan_types_spec.specs.TypingFills.{Fills}
+use Rattle.plan_types_spec.specs.TypingOrder.{annotated_program}
 use Rattle.plan_lexer.specs.Scanning.{Toks}
 use Rattle.plan_lexer.specs.declared.fault.LexFault.{LexFault}
 use Rattle.plan_lexer.specs.declared.token.Token.{Token}
-use Rattle.plan_grammar.specs.declared.fault.ParseFault.{ParseFault}
+use Rattle.plan_parser_exprs.specs.declared.fault.ParseFault.{ParseFault}
 use Rattle.plan_parser.specs.Programs as parsed
 use Rattle.plan_parser.specs.Values.{args_of}
 use Rattle.program_text.specs.declared.fault.TextFault.{TextFault}

@@ -1,8 +1,8 @@
 use plan_base::NoMemory;
-use plan_grammar::ParseFault;
 use plan_lexer::LexFault;
+use plan_parser_exprs::ParseFault;
+use plan_types_spec::TypeFault;
 use std::alloc::AllocError;
-use typing_rules::TypeFault;
 
 /// Why a text is no typed program: the first refusal.
 #[derive(Drop)]

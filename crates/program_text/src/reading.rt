@@ -1,7 +1,7 @@
 ghost use Rattle.std.specs.Prelude.{◌≡◌, ◌≤◌, ◌⊎◌, List, length, Ok, Err, IfOk, IfErr, MatchResult};
-ghost use Rattle.typing_rules.specs.Typing.{Typed};
-ghost use Rattle.typing_rules.specs.TypingFills.{Fills};
-ghost use Rattle.typing_rules.specs.TypingOrder.{annotated_program};
+ghost use Rattle.plan_types_spec.specs.Typing.{Typed};
+ghost use Rattle.plan_types_spec.specs.TypingFills.{Fills};
+ghost use Rattle.plan_types_spec.specs.TypingOrder.{annotated_program};
 ghost use Rattle.plan_base.specs.WellFormed.{IsWellFormedProgram};
 ghost use Rattle.plan_base.specs.declared.tree.Program.{Program};
 ghost use Rattle.plan_lexer.specs.Scanning.{Toks};
@@ -11,14 +11,14 @@ ghost use Rattle.program_text.specs.Texts.{byte_at, byte_of, placed_result, type
 
 use crate::fault::TextFault;
 use checked_chunks::Checked;
+use containers::Items;
 use plan_base::{Draft, NoMemory, Place, Places, Values};
-use plan_grammar::ParseFault;
-use plan_items::Items;
 use plan_lexer::{LexFault, Tokens, lex};
 use plan_parser::{ValueFault, parse, parse_args};
+use plan_parser_exprs::ParseFault;
 use plan_types::annotate;
+use plan_types_spec::TypeFault;
 use std::alloc::Global;
-use typing_rules::TypeFault;
 
 /// The byte at which a declaration or an expression begins.
 fn byte_at(decls: &Places, nodes: &Places, place: Place) -> u32

@@ -3,11 +3,11 @@ ghost use Rattle.program_text.specs.Reasons.{lex_reason, lex_byte, parse_reason,
 
 use crate::fault::TextFault;
 use plan_base::{Bytes, NoMemory, Ty};
-use plan_grammar::ParseFault;
 use plan_lexer::LexFault;
+use plan_parser_exprs::ParseFault;
 use plan_printer::print_type;
+use plan_types_spec::TypeFault;
 use std::alloc::Global;
-use typing_rules::TypeFault;
 
 fn lex_reason(fault: &LexFault) -> &'static [u8]
     ensures { result.now ≡ lex_reason fault.now }

@@ -4,7 +4,7 @@ use Rattle.std.specs.Prelude.{nat_lt, nat_le, nat_eq}
 use Rattle.std.proofs.lemmas.Bool.Decides.{nat_tests}
 use Rattle.reliable_ports.specs.declared.sender.Ack.TheVariants as ack
 use Rattle.reliable_ports.specs.declared.receiver.Came.TheVariants as came
-use Rattle.reliable_ports.specs.Ends.{Body, Sending, Receiving, next_of, ready, kept_bodies, with_next, with_early, with_message, came_as, with_fewer, with_ack, ack_of, is_awaited, is_news, offered_count}
+use Rattle.reliable_ports.specs.Ends.{Body, Sending, Receiving, next_of, ready, with_next, with_early, with_message, came_as, with_fewer, with_ack, ack_of, is_awaited, is_news, offered_count}
 
 -- ---- the receiver
 

@@ -2,7 +2,7 @@
 use Rattle.std.proofs.Common.{◌≡◌, ℕ, zero, suc, ◌≤◌, Bool, true, false, if◌then◌else◌, List, [], ◌∷◌, ◌++◌, length, Option, Some, None, refl, ap, subst, arith, length-append}
 use Rattle.std.specs.Prelude.{slice_get}
 use Rattle.std.specs.List.{AllByRecursion}
-use Rattle.reliable_ports.specs.Ends.{Body, Sending, Receiving, is_full, with_offer, held_at, next_of, with_message}
+use Rattle.reliable_ports.specs.Ends.{Body, Receiving, is_full, with_offer, held_at, with_message}
 use Rattle.reliable_ports.specs.Scripts.{Sent, Exchange, Action, nothing_yet, offer, transmit, message_comes, ack_comes, happens, run}
 use Rattle.reliable_ports.specs.Scripts.Action.{Offer, Transmit, Message_comes, Acknowledge, Ack_comes}
 use Rattle.reliable_ports.proofs.Slots.{get_more}

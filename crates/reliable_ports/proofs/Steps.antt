@@ -3,7 +3,7 @@ use Rattle.std.proofs.Common.{◌≡◌, ℕ, zero, suc, ◌+◌, ◌-◌, ◌�
 use Rattle.std.specs.Prelude.{slice_get, nat_lt, nat_le, nat_eq}
 use Rattle.std.proofs.lemmas.List.{append_assoc, drop-append-le, drop-drop}
 use Rattle.std.proofs.lemmas.Bool.Decides.{nat_tests}
-use Rattle.reliable_ports.specs.Ends.{Body, Sending, Receiving, next_of, ready, kept_bodies, with_next, with_early, with_message, with_offer, with_ack, held_at, is_awaited, is_news, offered_count}
+use Rattle.reliable_ports.specs.Ends.{Body, Sending, Receiving, next_of, ready, kept_bodies, with_next, with_early, with_message, with_offer, with_ack, held_at, is_awaited, is_news}
 use Rattle.reliable_ports.proofs.Slots.{Agrees, ready_goes, kept_agrees, more_agrees_behind, get_behind, get_dropped}
 
 -- the message with a number, from 1

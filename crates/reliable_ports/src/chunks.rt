@@ -5,9 +5,9 @@ ghost use Rattle.reliable_ports.specs.Texts.{port_text};
 
 use crate::shapes::is_port_program;
 use checked_chunks::{Checked, CheckedChunk};
-use chunk_types::chunk_of;
+use containers::Items;
 use plan_base::{Bytes, Host, Name, NoMemory, Value, Values};
-use plan_items::Items;
+use plan_types_chunks::chunk_of;
 use program_text::read_program;
 use std::alloc::Global;
 

@@ -1,11 +1,11 @@
 -- A layer of changes after one change more, and what is found in it.
 use Rattle.std.proofs.Common.{◌≡◌, inl, inr, List, [], ◌∷◌, ◌++◌, Some, None, refl, sym, ap, ◌∙◌, subst}
-use Rattle.plan_items.proofs.Options.{none-some}
-use Rattle.plan_items.specs.Keys.{Key, first_of_key, put, without, IsUnique}
-use Rattle.keyed_list.proofs.Orders.{same_or_not}
-use Rattle.keyed_list.proofs.Lists.{found_here, found_on, found_put, found_put_other, found_without, found_without_other, put_here, put_on, without_here, without_on, unique_put, unique_without, not_first, not_later}
-use Rattle.table_rows.specs.declared.row.Row.{Row}
-use Rattle.table_rows.specs.Rows.{row_key, put_row, without_row, found_row}
+use Rattle.containers.proofs.Options.{none-some}
+use Rattle.containers.specs.Keys.{Key, first_of_key, put, IsUnique}
+use Rattle.resident_tables.proofs.Orders.{same_or_not}
+use Rattle.resident_tables.proofs.Lists.{found_here, found_on, found_put, found_put_other, found_without, found_without_other, put_here, put_on, without_here, without_on, unique_put, unique_without, not_first, not_later}
+use Rattle.service_api.specs.declared.row.Row.{Row}
+use Rattle.service_api.specs.Rows.{row_key, put_row, without_row, found_row}
 use Rattle.resident_tables.specs.declared.gone.Gone.{Gone}
 use Rattle.resident_tables.specs.Layers.{gone_key, put_all, without_all}
 

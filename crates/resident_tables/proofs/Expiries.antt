@@ -3,9 +3,9 @@ use Rattle.std.proofs.Common.{◌≡◌, ℕ, ◌<◌, ◌≤◌, Bool, true, fa
 use Rattle.std.specs.Prelude.{not, if◌then◌else◌}
 use Rattle.std.proofs.lemmas.Bool.Decides.{nat_tests}
 use Rattle.std.proofs.lemmas.List.Elements.{All-nil, All-cons, All-head, All-tail, All-filter}
-use Rattle.plan_items.specs.Keys.{Key, same_key}
-use Rattle.table_rows.specs.declared.row.Row.{Row}
-use Rattle.table_rows.specs.Rows.{row_key, put_row, without_row, is_live, living}
+use Rattle.containers.specs.Keys.{Key, same_key}
+use Rattle.service_api.specs.declared.row.Row.{Row}
+use Rattle.service_api.specs.Rows.{row_key, put_row, without_row, is_live, living}
 use Rattle.resident_tables.specs.declared.gone.Gone.{Gone}
 use Rattle.resident_tables.specs.Expiries.{AllStay, least_expiry}
 use Rattle.resident_tables.specs.Layers.{gone_key, put_all, without_all}

@@ -3,10 +3,10 @@ use Rattle.std.proofs.Common.{◌≡◌, ℕ, ◌+◌, Bool, true, false, List, 
 use Rattle.std.specs.Prelude.{◌&&◌, nat_le, if◌then◌else◌}
 use Rattle.std.proofs.lemmas.Bool.{leb-true}
 use Rattle.std.proofs.lemmas.Bool.Decides.{nat_tests}
-use Rattle.plan_items.proofs.Bools.{and_right}
-use Rattle.plan_items.proofs.Options.{none-some, some-same}
-use Rattle.table_rows.specs.declared.row.Row.{Row}
-use Rattle.table_rows.specs.Rows.{row_key, row_size, put_row, found_row, fits}
+use Rattle.containers.proofs.Bools.{and_right}
+use Rattle.containers.proofs.Options.{none-some, some-same}
+use Rattle.service_api.specs.declared.row.Row.{Row}
+use Rattle.service_api.specs.Rows.{row_key, row_size, put_row, found_row, fits}
 use Rattle.resident_tables.specs.declared.counts.Counts.{Counts}
 use Rattle.resident_tables.specs.Counted.{counts_of, within, counts_less, counts_put, if_within, IsFit}
 use Rattle.resident_tables.proofs.Sums.{counts_put_is}

@@ -1,3 +1,7 @@
+pub mod Orders
+pub mod Lists
+pub mod Indexes
+pub mod ByIndex
 pub mod Sums
 pub mod Changed
 pub mod Fits

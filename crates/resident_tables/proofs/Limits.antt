@@ -4,9 +4,9 @@ use Rattle.std.specs.Prelude.{nat_le}
 use Rattle.std.proofs.lemmas.Bool.{leb-true}
 use Rattle.std.proofs.lemmas.Bool.Decides.{nat_tests}
 use Rattle.std.proofs.lemmas.List.Sums.{sum_by-cons}
-use Rattle.plan_items.proofs.Bools.{and_left, and_right, and_both}
-use Rattle.table_rows.specs.declared.row.Row.{Row}
-use Rattle.table_rows.specs.Rows.{row_size, rows_size, is_live, living, fits}
+use Rattle.containers.proofs.Bools.{and_left, and_right, and_both}
+use Rattle.service_api.specs.declared.row.Row.{Row}
+use Rattle.service_api.specs.Rows.{row_size, rows_size, is_live, living, fits}
 use Rattle.resident_tables.specs.declared.counts.Counts.{Counts}
 use Rattle.resident_tables.specs.Counted.{counts_of, within, bytes_after}
 use Rattle.resident_tables.specs.Layers.{Layer, over, put_all, without_all, IsOver, IsCounted}

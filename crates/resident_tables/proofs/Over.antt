@@ -2,14 +2,14 @@
 use Rattle.std.proofs.Common.{◌≡◌, ℕ, ℤ, ◌-◌, true, List, Option, Some, None, sym, ap, ◌∙◌, subst, arith}
 use Rattle.std.specs.Prelude.{nat_le}
 use Rattle.std.proofs.lemmas.Bool.Decides.{nat_tests}
-use Rattle.plan_items.proofs.Bools.{and_left, and_right, and_both}
-use Rattle.plan_items.specs.Keys.{Key, first_of_key, put, without, IsUnique}
-use Rattle.keyed_list.proofs.Lists.{put_end, without_none}
-use Rattle.table_rows.specs.declared.row.Row.{Row}
-use Rattle.table_rows.specs.Rows.{row_key, row_size, put_row, without_row, found_row, fits}
+use Rattle.containers.proofs.Bools.{and_left, and_right, and_both}
+use Rattle.containers.specs.Keys.{Key, first_of_key, put, IsUnique}
+use Rattle.resident_tables.proofs.Lists.{put_end, without_none}
+use Rattle.service_api.specs.declared.row.Row.{Row}
+use Rattle.service_api.specs.Rows.{row_key, row_size, put_row, without_row, found_row}
 use Rattle.resident_tables.specs.declared.counts.Counts.{Counts}
 use Rattle.resident_tables.specs.declared.gone.Gone.{Gone}
-use Rattle.resident_tables.specs.Counted.{counts_of, within, counts_less, counts_put, if_within, HasRow}
+use Rattle.resident_tables.specs.Counted.{counts_of, within, counts_less, HasRow}
 use Rattle.resident_tables.specs.Layers.{gone_key, put_all, without_all}
 use Rattle.resident_tables.proofs.Sums.{has_row, counts_less_is}
 use Rattle.resident_tables.proofs.Changed.{found_all_none, found_all_some, found_all_gone, found_not_gone, still_none_all, unique_all, unique_without_all, put_among, without_more, without_among}

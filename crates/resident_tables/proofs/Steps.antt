@@ -1,9 +1,9 @@
 -- The steps of the loops over rows.
 use Rattle.std.proofs.Common.{◌≡◌, ℕ, zero, suc, ◌<◌, true, false, List, [], ◌∷◌, ◌++◌, length, get_or, take, drop, refl, sym, ap, arith}
 use Rattle.std.specs.List.{remove}
-use Rattle.table_rows.specs.declared.row.Row.{Row}
-use Rattle.keyed_list.specs.Moved.{all_put}
-use Rattle.table_rows.specs.Rows.{row_key, put_row, is_live, living}
+use Rattle.service_api.specs.declared.row.Row.{Row}
+use Rattle.resident_tables.specs.Moved.{all_put}
+use Rattle.service_api.specs.Rows.{row_key, put_row, is_live, living}
 use Rattle.resident_tables.specs.Layers.{put_all}
 
 -- rows that are put as the items of a list

@@ -1,13 +1,13 @@
 -- The counts of a table's rows after a put and a removal.
 use Rattle.std.proofs.Common.{◌≡◌, inl, inr, ℕ, ◌+◌, List, [], ◌∷◌, length, Option, Some, None, refl, sym, ap, ◌∙◌, subst, arith}
 use Rattle.std.proofs.lemmas.List.Sums.{sum_by-cons}
-use Rattle.plan_items.specs.Keys.{Key, first_of_key, put, without, IsUnique}
-use Rattle.keyed_list.proofs.Orders.{same_or_not}
-use Rattle.keyed_list.proofs.Lists.{found_here, found_on, put_here, put_on, without_here, without_on, without_none}
-use Rattle.table_rows.specs.declared.row.Row.{Row}
-use Rattle.table_rows.specs.Rows.{row_key, row_size, rows_size, put_row, without_row, found_row, fits}
+use Rattle.containers.specs.Keys.{Key, put, IsUnique}
+use Rattle.resident_tables.proofs.Orders.{same_or_not}
+use Rattle.resident_tables.proofs.Lists.{found_here, found_on, put_here, put_on, without_here, without_on, without_none}
+use Rattle.service_api.specs.declared.row.Row.{Row}
+use Rattle.service_api.specs.Rows.{row_key, row_size, rows_size, put_row, without_row, found_row}
 use Rattle.resident_tables.specs.declared.counts.Counts.{Counts}
-use Rattle.resident_tables.specs.Counted.{counts_of, within, counts_less, counts_put, if_within, HasRow}
+use Rattle.resident_tables.specs.Counted.{counts_of, counts_less, counts_put, HasRow}
 
 counts_path : (a b : Counts) → a.rows ≡ b.rows → a.bytes ≡ b.bytes → ◌≡◌ {A = Counts} a b
 counts_path a b e f = λ i. record { rows = e i; bytes = f i }

@@ -1,7 +1,7 @@
 -- The counts of a table's rows, and what they are after a put and a removal.
 use Rattle.std.specs.Prelude.{◌≡◌, ℕ, ◌+◌, ◌-◌, ◌<◌, ◌≤◌, Bool, true, false, ◌&&◌, nat_le, if◌then◌else◌, List, length, Option, Some, None}
-use Rattle.table_rows.specs.declared.row.Row.{Row}
-use Rattle.table_rows.specs.Rows.{row_size, rows_size, put_row, fits}
+use Rattle.service_api.specs.declared.row.Row.{Row}
+use Rattle.service_api.specs.Rows.{row_size, rows_size, put_row, fits}
 use Rattle.resident_tables.specs.declared.counts.Counts.{Counts}
 
 abbrev pub counts_of : List Row → Counts

@@ -1,6 +1,6 @@
 -- Until when rows stay.
 use Rattle.std.specs.Prelude.{ℕ, ◌≤◌, min, List, [], ◌∷◌, All}
-use Rattle.table_rows.specs.declared.row.Row.{Row}
+use Rattle.service_api.specs.declared.row.Row.{Row}
 
 -- no row goes before this tick
 abbrev pub AllStay : ℕ → List Row → Type 0

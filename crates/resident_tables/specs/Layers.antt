@@ -1,10 +1,10 @@
 -- A layer of changes over a table's rows: removals first, and then puts.
 use Rattle.std.specs.Prelude.{◌≡◌, ℕ, ℤ, true, List, [], ◌∷◌, length, Option, Some, None, refl}
 use Rattle.std.specs.Coded.{Coded, code_by, coded×, coded_list, coded_ℤ, coded_option}
-use Rattle.plan_items.specs.Keys.{Key}
-use Rattle.table_rows.specs.declared.row.Row.{Row}
-use Rattle.table_rows.specs.contracts.row.Row as row
-use Rattle.table_rows.specs.Rows.{put_row, without_row}
+use Rattle.containers.specs.Keys.{Key}
+use Rattle.service_api.specs.declared.row.Row.{Row}
+use Rattle.service_api.specs.contracts.row.Row as row
+use Rattle.service_api.specs.Rows.{put_row, without_row}
 use Rattle.resident_tables.specs.declared.counts.Counts.{Counts}
 use Rattle.resident_tables.specs.contracts.counts.Counts as counts
 use Rattle.resident_tables.specs.declared.gone.Gone.{Gone}

@@ -1,3 +1,7 @@
+pub mod Roomy
+pub mod Order
+pub mod Index
+pub mod Moved
 pub mod Counted
 pub mod Tables
 pub mod Expiries

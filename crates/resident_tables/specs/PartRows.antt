@@ -1,5 +1,5 @@
 -- The row of parts that are to be put.
-use Rattle.table_rows.specs.declared.row.Row.{Row}
+use Rattle.service_api.specs.declared.row.Row.{Row}
 use Rattle.resident_tables.specs.declared.parts.Parts.{Parts}
 use Rattle.resident_tables.specs.Tables.{row_of}
 

@@ -3,9 +3,9 @@ use Rattle.std.specs.Prelude.{◌≡◌, ℕ, ℤ, true, false, List, Option, So
 use Rattle.std.specs.Coded.{Coded, code_by, coded×, coded_list, coded_ℕ, coded_ℤ}
 use Rattle.plan_base.specs.declared.tree.Ty.{Ty}
 use Rattle.plan_base.specs.declared.tree.Value.{Value}
-use Rattle.table_rows.specs.declared.row.Row.{Row}
-use Rattle.table_rows.specs.contracts.row.Row as row
-use Rattle.table_rows.specs.Rows.{put_row, fits, rows_size}
+use Rattle.service_api.specs.declared.row.Row.{Row}
+use Rattle.service_api.specs.contracts.row.Row as row
+use Rattle.service_api.specs.Rows.{put_row, fits}
 use Rattle.resident_tables.specs.declared.fault.TableFault.{TableFault}
 use Rattle.resident_tables.specs.declared.fault.TableFault.TheVariants.{TableFull, NotFound, NoMemory}
 

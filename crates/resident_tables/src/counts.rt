@@ -2,7 +2,7 @@ ghost use Rattle.std.specs.Prelude.{◌≡◌, true};
 ghost use Rattle.std.specs.Option.{option_copied};
 ghost use Rattle.resident_tables.specs.Counted.{within, counts_less, counts_put, if_within, HasRow, bytes_after};
 
-use table_rows::Row;
+use service_api::Row;
 
 /// How many rows there are, and how many bytes they take.
 #[derive(Clone, Copy, PartialEq, Eq)]

@@ -1,5 +1,5 @@
+use containers::HasKey;
 use plan_base::Text;
-use plan_items::HasKey;
 
 /// The key of a row that was removed.
 #[derive(Drop)]

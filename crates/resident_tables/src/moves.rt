@@ -1,17 +1,18 @@
 ghost use Rattle.std.specs.Prelude.{◌≡◌, ◌≤◌, [], ◌∷◌, ◌++◌, min, IfOk, OnOk, OnErr};
-ghost use Rattle.table_rows.specs.Rows.{put_row, without_row, living, rows_size};
+ghost use Rattle.service_api.specs.Rows.{put_row, without_row, living, rows_size};
 ghost use Rattle.resident_tables.specs.Expiries.{least_expiry};
 ghost use Rattle.resident_tables.specs.Layers.{without_all};
 ghost use Rattle.resident_tables.specs.PartRows.{part_row};
 
 use crate::gone::Gone;
+use crate::list::KeyedList;
 use crate::parts::Parts;
+use crate::probe::Probe;
 use crate::tables::Tables;
-use keyed_list::{KeyedList, Probe};
+use containers::Items;
 use plan_base::{NoMemory, Text};
-use plan_items::Items;
+use service_api::Row;
 use std::alloc::Global;
-use table_rows::Row;
 
 /// Puts the row of the parts, with room taken for it.
 pub fn put_parts(alloc: Global, rows: &mut KeyedList<Row>, parts: &Parts) -> Result<(), NoMemory>

@@ -1,5 +1,5 @@
 ghost use Rattle.std.specs.Prelude.{◌≡◌};
-ghost use Rattle.table_rows.specs.Rows.{fresh_key, key_after};
+ghost use Rattle.service_api.specs.Rows.{fresh_key, key_after};
 
 /// Gives the next key out, and none where it is the last.
 pub fn take_key(next: &mut i64) -> Option<i64>

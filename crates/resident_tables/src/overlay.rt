@@ -1,7 +1,7 @@
 ghost use Rattle.std.specs.Prelude.{◌≡◌, ◌≤◌, [], true, None, pos, ◌≤ℤ◌, OnOk, OnErr};
 ghost use Rattle.std.specs.Option.{option_copied};
-ghost use Rattle.plan_items.specs.Keys.{IsUnique};
-ghost use Rattle.table_rows.specs.Rows.{row_key, without_row, found_row, got, fresh_key, key_after};
+ghost use Rattle.containers.specs.Keys.{IsUnique};
+ghost use Rattle.service_api.specs.Rows.{row_key, without_row, found_row, got, fresh_key, key_after};
 ghost use Rattle.resident_tables.specs.Counted.{counts_of, within, IsFit};
 ghost use Rattle.resident_tables.specs.Layers.{over, IsOver, room_of};
 ghost use Rattle.resident_tables.specs.PartRows.{part_row};
@@ -10,16 +10,17 @@ ghost use Rattle.resident_tables.specs.Tables.{row_of, IsPut, IsGot};
 use crate::counts::Counts;
 use crate::fault::TableFault;
 use crate::gone::Gone;
+use crate::list::KeyedList;
 use crate::moves::{drop_gone, forget, put_parts};
 use crate::next::take_key;
 use crate::parts::Parts;
+use crate::probe::Probe;
 use crate::tables::{Tables, value_of};
-use keyed_list::{KeyedList, Probe};
+use containers::HasKey;
 use plan_base::{NoMemory, Text, Ty, Value};
-use plan_items::HasKey;
+use service_api::Row;
 use std::alloc::Global;
 use std::marker::Model;
-use table_rows::Row;
 
 /// The changes of a visit over the rows of [`Tables`], and its next key. The rows aren't copied.
 ///

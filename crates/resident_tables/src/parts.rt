@@ -1,13 +1,13 @@
 ghost use Rattle.std.specs.Prelude.{◌≡◌, min, IfOk};
-ghost use Rattle.table_rows.specs.Rows.{row_size};
+ghost use Rattle.service_api.specs.Rows.{row_size};
 ghost use Rattle.resident_tables.specs.PartRows.{part_row};
 
+use containers::HasKey;
 use plan_base::{NoMemory, Text, Ty, Value};
-use plan_copies::Copied;
-use plan_items::HasKey;
-use plan_sizes::{type_size, weight};
+use plan_base_copy::TryClone;
+use plan_base_size::{type_size, weight};
+use service_api::Row;
 use std::alloc::Global;
-use table_rows::Row;
 
 /// The parts of a row that is to be put.
 #[derive(Clone, Copy)]
@@ -33,7 +33,7 @@ impl HasKey for Parts<'_> {
 
 impl Parts<'_> {
     /// The bytes that the row takes of its table.
-    #[tactic(auto, unfolding(table_rows::specs::Rows::row_size))]
+    #[tactic(auto, unfolding(service_api::specs::Rows::row_size))]
     pub fn size(&self) -> u64
         ensures { result ≡ min (row_size (part_row self.now)) 18446744073709551615 }
     {

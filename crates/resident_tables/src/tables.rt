@@ -1,7 +1,7 @@
 ghost use Rattle.std.specs.Prelude.{◌≡◌, ◌≤◌, [], true, pos, ◌≤ℤ◌, OnOk, IfOk};
 ghost use Rattle.std.specs.Option.{option_copied};
-ghost use Rattle.plan_items.specs.Keys.{IsUnique};
-ghost use Rattle.table_rows.specs.Rows.{row_key, without_row, found_row, living, got, value_in, fresh_key, key_after, fits};
+ghost use Rattle.containers.specs.Keys.{IsUnique};
+ghost use Rattle.service_api.specs.Rows.{row_key, without_row, found_row, living, got, value_in, fresh_key, key_after, fits};
 ghost use Rattle.resident_tables.specs.Counted.{counts_of, within, IsFit};
 ghost use Rattle.resident_tables.specs.Layers.{over, IsOver, room_of};
 ghost use Rattle.resident_tables.specs.PartRows.{part_row};
@@ -9,18 +9,19 @@ ghost use Rattle.resident_tables.specs.Tables.{row_of, IsPut, IsGot};
 
 use crate::counts::{Counts, bytes_after};
 use crate::fault::TableFault;
+use crate::list::KeyedList;
 use crate::moves::{copy_rows, drop_expired, least_expiry, put_parts, total_size};
 use crate::next::take_key;
 use crate::overlay::Overlay;
 use crate::parts::Parts;
-use keyed_list::{KeyedList, Probe};
+use crate::probe::Probe;
+use containers::HasKey;
 use plan_base::{NoMemory, Text, Ty, Value};
-use plan_copies::Copied;
-use plan_equality::Same;
-use plan_items::HasKey;
+use plan_base_copy::TryClone;
+use plan_base_eq::SameAs;
+use service_api::Row;
 use std::alloc::Global;
 use std::marker::Model;
-use table_rows::Row;
 
 /// The rows that programs keep on a node, by name and number, at most 1,024 with at most 1,048,576 bytes; and the
 /// next key to be given out.
@@ -36,7 +37,7 @@ pub struct Tables {
 
 impl Model for Tables {
     ghost use Rattle.std.specs.Prelude.{◌≡◌, true, pos, ◌≤ℤ◌};
-    ghost use Rattle.table_rows.specs.Rows.{fits, rows_size};
+    ghost use Rattle.service_api.specs.Rows.{fits, rows_size};
     ghost use Rattle.resident_tables.specs.Expiries.{AllStay};
     ghost use Rattle.resident_tables.specs.Tables.{Table, table_code};
 

@@ -4,20 +4,20 @@ use Rattle.std.specs.List.{list_any}
 use Rattle.std.specs.Option.{ok_or}
 use Rattle.std.specs.Str.{bytes_eq}
 use lib.Chars.{codes}
-use Rattle.network_plan.specs.declared.schedule.Schedule.{Schedule}
-use Rattle.line_files.specs.declared.fault.LineReason.{LineReason}
-use Rattle.line_files.specs.declared.fault.LineReason.TheVariants.{BadHeader, BadWord, TwiceNamed, TooMany}
-use Rattle.line_files.specs.declared.fault.LineFault.{LineFault}
-use Rattle.line_files.specs.declared.fault.LineFault.TheVariants as faults
-use Rattle.line_files.specs.Lines.{lines, words}
-use Rattle.line_files.specs.Reads.{word_at, end_at, allowed_or_reason}
-use Rattle.line_files.specs.Files.{is_skipped}
-use Rattle.line_files.specs.Headers.{version_in}
-use Rattle.line_files.specs.Programs.{named_word}
-use Rattle.line_files.proofs.Keeping.{IfRead, then_keeps, done_keeps, IfStep, step_done, step_is, at_line_keeps, either_keeps, version_keeps}
-use Rattle.line_files.specs.Inside.{Placed, OnFault, RefusesRead}
-use Rattle.line_files.proofs.LineLaws.{err_is, refused_placed}
-use Rattle.line_files.proofs.Placing.{fault_done, fault_here, at_line_placed, either_placed, version_placed, Places, refuses_read}
+use Rattle.network_config.specs.declared.schedule.Schedule.{Schedule}
+use Rattle.line_reader.specs.declared.fault.LineReason.{LineReason}
+use Rattle.line_reader.specs.declared.fault.LineReason.TheVariants.{BadHeader, BadWord, TwiceNamed, TooMany}
+use Rattle.line_reader.specs.declared.fault.LineFault.{LineFault}
+use Rattle.line_reader.specs.declared.fault.LineFault.TheVariants as faults
+use Rattle.line_reader.specs.Lines.{lines, words}
+use Rattle.line_reader.specs.Reads.{word_at, end_at, allowed_or_reason}
+use Rattle.line_reader.specs.Files.{is_skipped}
+use Rattle.line_reader.specs.Headers.{version_in}
+use Rattle.line_reader.specs.Programs.{named_word}
+use Rattle.line_reader.proofs.Keeping.{IfRead, then_keeps, done_keeps, IfStep, step_done, step_is, at_line_keeps, either_keeps, version_keeps}
+use Rattle.line_reader.specs.Inside.{OnFault, RefusesRead}
+use Rattle.line_reader.proofs.LineLaws.{err_is, refused_placed}
+use Rattle.line_reader.proofs.Placing.{fault_done, fault_here, at_line_placed, either_placed, version_placed, Places, refuses_read}
 use Rattle.schedule_text.specs.declared.keyword.NetworkWord.{NetworkWord}
 use Rattle.schedule_text.specs.declared.keyword.NetworkWord.TheVariants as network
 use Rattle.schedule_text.specs.declared.reading.BegunProgram.{BegunProgram}

@@ -1,9 +1,9 @@
 -- Schedules as a format of files of lines.
 use Rattle.std.proofs.Common.{◌≡◌, Result, Ok, Err, sym}
-use Rattle.network_plan.specs.declared.schedule.Schedule.{Schedule}
-use Rattle.line_files.specs.declared.fault.LineFault.{LineFault}
-use Rattle.line_files.specs.declared.fault.LineFault.TheVariants as faults
-use Rattle.line_files.specs.Reads.{FileGives}
+use Rattle.network_config.specs.declared.schedule.Schedule.{Schedule}
+use Rattle.line_reader.specs.declared.fault.LineFault.{LineFault}
+use Rattle.line_reader.specs.declared.fault.LineFault.TheVariants as faults
+use Rattle.line_reader.specs.Reads.{FileGives}
 
 abbrev pub same : Schedule → Schedule
 same s = s

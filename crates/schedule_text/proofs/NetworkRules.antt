@@ -5,13 +5,13 @@ use Rattle.std.proofs.lemmas.List.Folds.{list_any-append}
 use Rattle.plan_base.specs.declared.ids.Host.{Host}
 use Rattle.plan_base.specs.declared.ids.Dev.{Dev}
 use Rattle.plan_base.specs.declared.stamp.Version.{Version}
-use Rattle.network_plan.specs.declared.schedule.HostSpec.{HostSpec}
-use Rattle.network_plan.specs.declared.event.WorldEvent.{WorldEvent}
-use Rattle.network_plan.specs.declared.event.WorldEvent.TheVariants as happens
-use Rattle.network_plan.specs.declared.schedule.Cable.{Cable}
-use Rattle.network_plan.specs.Hosts.{has_host, ends_at, has_link}
-use Rattle.line_files.proofs.Keeping.{either_false}
-use Rattle.network_plan.specs.Rules.{HostsDiffer, LinksApart, KeepsLink, KeepsEvent}
+use Rattle.network_config.specs.declared.schedule.HostSpec.{HostSpec}
+use Rattle.network_config.specs.declared.event.WorldEvent.{WorldEvent}
+use Rattle.network_config.specs.declared.event.WorldEvent.TheVariants as happens
+use Rattle.network_config.specs.declared.schedule.Link.{Link}
+use Rattle.network_config.specs.Hosts.{has_host, ends_at, has_link}
+use Rattle.line_reader.proofs.Keeping.{either_false}
+use Rattle.network_config.specs.Rules.{HostsDiffer, LinksApart, KeepsLink, KeepsEvent}
 
 pub equality_swaps : (a b : ℕ) (t : Bool) → eqb a b ≡ t → eqb b a ≡ t
 equality_swaps a b true e = eq-eqb b a (sym (eqb-true a b e))
@@ -34,7 +34,7 @@ differ_push (h ∷ hosts) x d e =
     (new, differ_push hosts x d.1 f.1)
 
 -- what keeps the rules keeps them where there is one host more
-pub link_stays : (hosts : List HostSpec) (h : HostSpec) (l : Cable) → KeepsLink hosts l → KeepsLink (hosts ++ h ∷ []) l
+pub link_stays : (hosts : List HostSpec) (h : HostSpec) (l : Link) → KeepsLink hosts l → KeepsLink (hosts ++ h ∷ []) l
 link_stays hosts h l k = record {
   from = host_stays hosts h l.from k.from;
   to = host_stays hosts h l.to k.to;
@@ -57,7 +57,7 @@ event_stays version hosts h (happens.Raw at d bytes) k = (host_stays hosts h at 
 pair_swap : (a b c d : ℕ) → (eqb a c && eqb b d) ≡ false → (eqb c a && eqb d b) ≡ false
 pair_swap a b c d e = rw (swap_is a c, swap_is b d) e
 
-pub ends_apart : (l x : Cable) → ends_at x.from x.from_dev l ≡ false → ends_at x.to x.to_dev l ≡ false → (ends_at l.from l.from_dev x ≡ false) × (ends_at l.to l.to_dev x ≡ false)
+pub ends_apart : (l x : Link) → ends_at x.from x.from_dev l ≡ false → ends_at x.to x.to_dev l ≡ false → (ends_at l.from l.from_dev x ≡ false) × (ends_at l.to l.to_dev x ≡ false)
 ends_apart l x e f =
     let e0 = either_false (eqb l.from.0 x.from.0 && eqb l.from_dev.0 x.from_dev.0) (eqb l.to.0 x.from.0 && eqb l.to_dev.0 x.from_dev.0) e in
     let f0 = either_false (eqb l.from.0 x.to.0 && eqb l.from_dev.0 x.to_dev.0) (eqb l.to.0 x.to.0 && eqb l.to_dev.0 x.to_dev.0) f in (
@@ -65,11 +65,11 @@ ends_apart l x e f =
       rw (pair_swap l.to.0 l.to_dev.0 x.from.0 x.from_dev.0 e0.1, pair_swap l.to.0 l.to_dev.0 x.to.0 x.to_dev.0 f0.1) refl,
     )
 
-used_push : (links : List Cable) (x : Cable) (h : Host) (d : Dev) → has_link h d links ≡ false → ends_at h d x ≡ false → has_link h d (links ++ x ∷ []) ≡ false
+used_push : (links : List Link) (x : Link) (h : Host) (d : Dev) → has_link h d links ≡ false → ends_at h d x ≡ false → has_link h d (links ++ x ∷ []) ≡ false
 used_push links x h d e f = rw (list_any-append (ends_at h d) links (x ∷ []), e, f) refl
 
 -- a new link between free devices ends apart from those before it
-pub apart_push : (links : List Cable) (x : Cable) → LinksApart links → has_link x.from x.from_dev links ≡ false → has_link x.to x.to_dev links ≡ false → LinksApart (links ++ x ∷ [])
+pub apart_push : (links : List Link) (x : Link) → LinksApart links → has_link x.from x.from_dev links ≡ false → has_link x.to x.to_dev links ≡ false → LinksApart (links ++ x ∷ [])
 apart_push [] x a e f = (refl, refl, tt)
 apart_push (l ∷ links) x a e f =
     let e0 = either_false (ends_at x.from x.from_dev l) (has_link x.from x.from_dev links) e in

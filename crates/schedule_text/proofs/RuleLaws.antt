@@ -16,30 +16,30 @@ use Rattle.checked_chunks.specs.Kept.{IsChecked}
 use Rattle.service_api.specs.declared.package.PackageName.{PackageName}
 use Rattle.plan_base.specs.declared.stamp.Version.{Version}
 use Rattle.plan_base.specs.declared.stamp.Version.TheVariants.{One, Two}
-use Rattle.network_plan.specs.declared.schedule.HostSpec.{HostSpec}
-use Rattle.network_plan.specs.declared.schedule.Schedule.{Schedule}
-use Rattle.network_plan.specs.declared.schedule.Topology.{Topology}
-use Rattle.network_plan.specs.declared.event.WorldEvent.{WorldEvent}
-use Rattle.network_plan.specs.declared.event.WorldEvent.TheVariants as happens
-use Rattle.network_plan.specs.declared.schedule.Cable.{Cable}
-use Rattle.network_plan.specs.Hosts.{host_of, dev_of, has_host, has_link}
-use Rattle.network_plan.specs.Rules.{IsLinkDevice, PackagesDiffer, KeepsLink, KeepsNetwork, KeepsInjection, MayArrive, KeepsEvent, weights, KeepsRules}
-use Rattle.line_files.specs.declared.fault.LineReason.{LineReason}
-use Rattle.line_files.specs.declared.fault.LineReason.TheVariants.{BadWord, UnknownHost, UnknownProgram, TwiceNamed, TooMany, BadArgument}
-use Rattle.line_files.specs.declared.fault.LineFault.{LineFault}
-use Rattle.line_files.specs.Lines.{lines, words}
-use Rattle.line_files.specs.Reads.{FileGives, word_at, end_at, allowed_or_reason}
-use Rattle.line_files.specs.Files.{is_skipped}
-use Rattle.line_files.specs.Numbers.{number_at}
-use Rattle.line_files.specs.Packages.{packages_at}
-use Rattle.line_files.specs.HexWords.{hex_at}
-use Rattle.line_files.specs.Headers.{version_in, next_by_version}
-use Rattle.line_files.specs.Programs.{program_in, weighed_sum}
-use Rattle.line_files.specs.Injections.{injection_at}
-use Rattle.line_files.proofs.Keeping.{IfRead, then_keeps, done_keeps, allowed_true, allowed_not, allowed_below, ok_or_is, number_is, AreSized, hex_is, packages_are, IfStep, step_done, at_line_keeps, either_keeps, version_keeps, read_keeps}
-use Rattle.line_files.proofs.KeptPrograms as kept
-use Rattle.line_files.proofs.KeptInjections.{injection_is}
-use Rattle.line_files.proofs.FileLaws as whole
+use Rattle.network_config.specs.declared.schedule.HostSpec.{HostSpec}
+use Rattle.network_config.specs.declared.schedule.Schedule.{Schedule}
+use Rattle.network_config.specs.declared.schedule.Topology.{Topology}
+use Rattle.network_config.specs.declared.event.WorldEvent.{WorldEvent}
+use Rattle.network_config.specs.declared.event.WorldEvent.TheVariants as happens
+use Rattle.network_config.specs.declared.schedule.Link.{Link}
+use Rattle.network_config.specs.Hosts.{host_of, dev_of, has_host, has_link}
+use Rattle.network_config.specs.Rules.{IsLinkDevice, PackagesDiffer, KeepsLink, KeepsNetwork, KeepsInjection, MayArrive, KeepsEvent, weights, KeepsRules}
+use Rattle.line_reader.specs.declared.fault.LineReason.{LineReason}
+use Rattle.line_reader.specs.declared.fault.LineReason.TheVariants.{BadWord, UnknownHost, UnknownProgram, TwiceNamed, TooMany, BadArgument}
+use Rattle.line_reader.specs.declared.fault.LineFault.{LineFault}
+use Rattle.line_reader.specs.Lines.{lines, words}
+use Rattle.line_reader.specs.Reads.{FileGives, word_at, end_at, allowed_or_reason}
+use Rattle.line_reader.specs.Files.{is_skipped}
+use Rattle.line_reader.specs.Numbers.{number_at}
+use Rattle.line_reader.specs.Packages.{packages_at}
+use Rattle.line_reader.specs.HexWords.{hex_at}
+use Rattle.line_reader.specs.Headers.{version_in, next_by_version}
+use Rattle.line_reader.specs.Programs.{program_in, weighed_sum}
+use Rattle.line_reader.specs.Injections.{injection_at}
+use Rattle.line_reader.proofs.Keeping.{IfRead, then_keeps, done_keeps, allowed_true, allowed_not, allowed_below, ok_or_is, number_is, AreSized, hex_is, packages_are, IfStep, step_done, at_line_keeps, either_keeps, version_keeps, read_keeps}
+use Rattle.line_reader.proofs.KeptPrograms as kept
+use Rattle.line_reader.proofs.KeptInjections.{injection_is}
+use Rattle.line_reader.proofs.FileLaws as whole
 use Rattle.schedule_text.specs.declared.keyword.NetworkWord.{NetworkWord}
 use Rattle.schedule_text.specs.declared.keyword.NetworkWord.TheVariants as network
 use Rattle.schedule_text.specs.declared.keyword.EventWord.{EventWord}
@@ -76,10 +76,10 @@ any_device_is ws =
     then_keeps IsDevice (number_at 0 8 ws) _ (λ d hd.
     done_keeps IsDevice (dev_of d.0, d.1) (number_is 0 8 ws d hd).1)
 
-abbrev IsFree : List Cable → Host → Dev × List (List ℕ) → Type 0
+abbrev IsFree : List Link → Host → Dev × List (List ℕ) → Type 0
 IsFree links h x = IsLinkDevice x.0 × (has_link h x.0 links ≡ false)
 
-device_is : (links : List Cable) (h : Host) (ws : List (List ℕ)) → IfRead (IsFree links h) (free_device_at links h ws)
+device_is : (links : List Link) (h : Host) (ws : List (List ℕ)) → IfRead (IsFree links h) (free_device_at links h ws)
 unfolding free_device_at
 device_is links h ws =
     then_keeps (IsFree links h) (number_at 1 8 ws) _ (λ d hd.
@@ -154,7 +154,7 @@ host_line_keeps ws s k =
     done_keeps Keeps (record s { hosts = s.hosts ++ host_spec n.0 missing ∷ [] })
     (add_host s n.0 missing k (allowed_below (length s.hosts) 32 TooMany u room) (omega (arith, (number_is 0 4294967295 ws n hn).1)) (allowed_not (has_host (host_of n.0) s.hosts) TwiceNamed v new) (packages_are [] n.1 tt missing hm))))))
 
-add_link : (s : Reading) (l : Cable) → Keeps s → KeepsLink s.hosts l → has_link l.from l.from_dev s.links ≡ false → has_link l.to l.to_dev s.links ≡ false → Keeps (record s { links = s.links ++ l ∷ [] })
+add_link : (s : Reading) (l : Link) → Keeps s → KeepsLink s.hosts l → has_link l.from l.from_dev s.links ≡ false → has_link l.to l.to_dev s.links ≡ false → Keeps (record s { links = s.links ++ l ∷ [] })
 add_link s l k h from to = record {
   network = record {
     few = k.network.few;

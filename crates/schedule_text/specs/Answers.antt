@@ -1,9 +1,9 @@
 -- That each file has one answer.
 use Rattle.std.specs.Prelude.{◌≡◌, ◌≤◌, ℕ, ◌+◌, List, length, Ok, Err}
-use Rattle.line_files.specs.declared.fault.LineReason.{LineReason}
-use Rattle.line_files.specs.declared.fault.LineFault.TheVariants as faults
-use Rattle.line_files.specs.Lines.{lines}
-use Rattle.network_plan.specs.declared.schedule.Schedule.{Schedule}
+use Rattle.line_reader.specs.declared.fault.LineReason.{LineReason}
+use Rattle.line_reader.specs.declared.fault.LineFault.TheVariants as faults
+use Rattle.line_reader.specs.Lines.{lines}
+use Rattle.network_config.specs.declared.schedule.Schedule.{Schedule}
 use Rattle.schedule_text.specs.Schedules.{schedule_of}
 
 -- a file says a schedule

@@ -1,3 +1,5 @@
+pub mod Lines
+pub mod Written
 pub mod Parts
 pub mod Schedules
 pub mod Leaving

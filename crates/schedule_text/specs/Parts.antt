@@ -5,12 +5,12 @@ use Rattle.std.specs.Option.{ok_or}
 use Rattle.std.specs.Str.{bytes_eq}
 use Rattle.plan_base.specs.declared.ids.Host.{Host}
 use Rattle.plan_base.specs.declared.ids.Dev.{Dev}
-use Rattle.network_plan.specs.declared.schedule.HostSpec.{HostSpec}
-use Rattle.network_plan.specs.declared.schedule.Cable.{Cable}
-use Rattle.network_plan.specs.Hosts.{host_of, dev_of, has_host, has_link}
-use Rattle.line_files.specs.declared.fault.LineReason.TheVariants.{UnknownHost, UnknownProgram, TwiceNamed}
-use Rattle.line_files.specs.Reads.{◌>>=◌, Part, word_at, allowed_or_reason}
-use Rattle.line_files.specs.Numbers.{number_at}
+use Rattle.network_config.specs.declared.schedule.HostSpec.{HostSpec}
+use Rattle.network_config.specs.declared.schedule.Link.{Link}
+use Rattle.network_config.specs.Hosts.{host_of, dev_of, has_host, has_link}
+use Rattle.line_reader.specs.declared.fault.LineReason.TheVariants.{UnknownHost, UnknownProgram, TwiceNamed}
+use Rattle.line_reader.specs.Reads.{◌>>=◌, Part, word_at, allowed_or_reason}
+use Rattle.line_reader.specs.Numbers.{number_at}
 use Rattle.schedule_text.specs.declared.reading.NamedProgram.{NamedProgram}
 
 -- the next word as a host that was named
@@ -27,7 +27,7 @@ device_at ws = do
   Ok (dev_of d.0, d.1)
 
 -- the next word as a device of a host that has no link yet
-unfoldable pub free_device_at : List Cable → Host → List (List ℕ) → Part Dev
+unfoldable pub free_device_at : List Link → Host → List (List ℕ) → Part Dev
 free_device_at links h ws = do
   d ← number_at 1 8 ws
   _ ← allowed_or_reason (not (has_link h (dev_of d.0) links)) TwiceNamed

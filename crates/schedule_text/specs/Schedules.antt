@@ -11,24 +11,24 @@ use Rattle.plan_base.specs.declared.tree.Program.{Program}
 use Rattle.service_api.specs.declared.package.PackageName.{PackageName}
 use Rattle.plan_base.specs.declared.stamp.Version.{Version}
 use Rattle.plan_base.specs.declared.stamp.Version.TheVariants.{One, Two}
-use Rattle.network_plan.specs.declared.schedule.HostSpec.{HostSpec}
-use Rattle.network_plan.specs.declared.schedule.Schedule.{Schedule}
-use Rattle.network_plan.specs.declared.event.WorldEvent.{WorldEvent}
-use Rattle.network_plan.specs.declared.event.WorldEvent.TheVariants as happens
-use Rattle.network_plan.specs.Hosts.{host_of, has_host}
-use Rattle.line_files.specs.declared.fault.LineReason.{LineReason}
-use Rattle.line_files.specs.declared.fault.LineReason.TheVariants.{BadHeader, BadWord, TwiceNamed, TooMany, BadArgument}
-use Rattle.line_files.specs.declared.fault.LineFault.{LineFault}
-use Rattle.line_files.specs.declared.fault.LineFault.TheVariants as faults
-use Rattle.line_files.specs.Lines.{words}
-use Rattle.line_files.specs.Reads.{◌>>=◌, word_at, end_at, allowed_or_reason}
-use Rattle.line_files.specs.Files.{Format, is_skipped, at_line, file_of}
-use Rattle.line_files.specs.Numbers.{number_at}
-use Rattle.line_files.specs.Packages.{packages_at}
-use Rattle.line_files.specs.HexWords.{hex_at}
-use Rattle.line_files.specs.Programs.{opened_program, with_line, program_in, named_word, weighed_sum}
-use Rattle.line_files.specs.Headers.{version_line}
-use Rattle.line_files.specs.Injections.{injection_at}
+use Rattle.network_config.specs.declared.schedule.HostSpec.{HostSpec}
+use Rattle.network_config.specs.declared.schedule.Schedule.{Schedule}
+use Rattle.network_config.specs.declared.event.WorldEvent.{WorldEvent}
+use Rattle.network_config.specs.declared.event.WorldEvent.TheVariants as happens
+use Rattle.network_config.specs.Hosts.{host_of, has_host}
+use Rattle.line_reader.specs.declared.fault.LineReason.{LineReason}
+use Rattle.line_reader.specs.declared.fault.LineReason.TheVariants.{BadHeader, BadWord, TwiceNamed, TooMany, BadArgument}
+use Rattle.line_reader.specs.declared.fault.LineFault.{LineFault}
+use Rattle.line_reader.specs.declared.fault.LineFault.TheVariants as faults
+use Rattle.line_reader.specs.Lines.{words}
+use Rattle.line_reader.specs.Reads.{◌>>=◌, word_at, end_at, allowed_or_reason}
+use Rattle.line_reader.specs.Files.{Format, is_skipped, at_line, file_of}
+use Rattle.line_reader.specs.Numbers.{number_at}
+use Rattle.line_reader.specs.Packages.{packages_at}
+use Rattle.line_reader.specs.HexWords.{hex_at}
+use Rattle.line_reader.specs.Programs.{opened_program, with_line, program_in, named_word, weighed_sum}
+use Rattle.line_reader.specs.Headers.{version_line}
+use Rattle.line_reader.specs.Injections.{injection_at}
 use Rattle.schedule_text.specs.declared.reading.NamedProgram.{NamedProgram}
 use Rattle.schedule_text.specs.declared.reading.Reading.{Reading}
 use Rattle.schedule_text.specs.declared.reading.BegunProgram.{BegunProgram}

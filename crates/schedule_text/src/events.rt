@@ -1,13 +1,13 @@
 ghost use Rattle.std.specs.Prelude.{◌≡◌};
-ghost use Rattle.line_files.specs.Reads.{Leaves, Gives};
+ghost use Rattle.line_reader.specs.Reads.{Leaves, Gives};
 ghost use Rattle.schedule_text.specs.Schedules.{injected_at, inject_line, send_line, frame_at, deliver_line, repeat_line, lose_line, tick_line, raw_line, event_rest, event_line};
 
 use crate::keyword::EventWord;
 use crate::parts::{device, known_host, known_program};
 use crate::reading::Reading;
 use checked_chunks::CheckedChunk;
-use line_files::{LineReason, LineStop, Words, add_weight, allow, hex_bytes, injection, number};
-use network_plan::WorldEvent;
+use line_reader::{LineError, LineReason, Words, add_weight, allow, hex_bytes, injection, number};
+use network_config::WorldEvent;
 use plan_base::{Host, Name};
 use std::alloc::Global;
 
@@ -19,7 +19,7 @@ fn read_injection(
     alloc: Global,
     reading: &Reading,
     words: &mut Words<'_>,
-) -> Result<(Host, CheckedChunk, u32, Option<Name>), LineStop>
+) -> Result<(Host, CheckedChunk, u32, Option<Name>), LineError>
     ensures { Gives (λ i. i) result (injected_at reading.now words.old) }
 {
     let host = known_host(reading.hosts.as_slice(), words)?;
@@ -30,7 +30,7 @@ fn read_injection(
 
 /// An injection behind its first word. Reasons: those of [`read_injection`], and `TooMany`.
 #[tactic(auto, unfolding(crate::specs::Schedules::inject_line))]
-fn inject(alloc: Global, reading: &mut Reading, words: &mut Words<'_>) -> Result<(), LineStop>
+fn inject(alloc: Global, reading: &mut Reading, words: &mut Words<'_>) -> Result<(), LineError>
     ensures { Leaves result reading.new (inject_line words.old reading.old) }
 {
     let (host, chunk, bound, handler) = read_injection(alloc, reading, words)?;
@@ -45,14 +45,14 @@ fn inject(alloc: Global, reading: &mut Reading, words: &mut Words<'_>) -> Result
         Err(reason) => {
             drop(chunk);
             drop(handler);
-            Err(LineStop::Reason(reason))
+            Err(LineError::Reason(reason))
         }
     }
 }
 
 /// `send N D` behind its first word. Reasons: `BadWord`, `BadNumber`, `UnknownHost`.
 #[tactic(auto, unfolding(crate::specs::Schedules::send_line))]
-fn send(reading: &mut Reading, words: &mut Words<'_>) -> Result<(), LineStop>
+fn send(reading: &mut Reading, words: &mut Words<'_>) -> Result<(), LineError>
     ensures { Leaves result reading.new (send_line words.old reading.old) }
 {
     let host = known_host(reading.hosts.as_slice(), words)?;
@@ -74,7 +74,7 @@ fn frame(words: &mut Words<'_>) -> Result<u32, LineReason>
 
 /// `deliver K` behind its first word.
 #[tactic(auto, unfolding(crate::specs::Schedules::deliver_line))]
-fn deliver(reading: &mut Reading, words: &mut Words<'_>) -> Result<(), LineStop>
+fn deliver(reading: &mut Reading, words: &mut Words<'_>) -> Result<(), LineError>
     ensures { Leaves result reading.new (deliver_line words.old reading.old) }
 {
     let k = frame(words)?;
@@ -84,7 +84,7 @@ fn deliver(reading: &mut Reading, words: &mut Words<'_>) -> Result<(), LineStop>
 
 /// `repeat K` behind its first word.
 #[tactic(auto, unfolding(crate::specs::Schedules::repeat_line))]
-fn repeat(reading: &mut Reading, words: &mut Words<'_>) -> Result<(), LineStop>
+fn repeat(reading: &mut Reading, words: &mut Words<'_>) -> Result<(), LineError>
     ensures { Leaves result reading.new (repeat_line words.old reading.old) }
 {
     let k = frame(words)?;
@@ -94,7 +94,7 @@ fn repeat(reading: &mut Reading, words: &mut Words<'_>) -> Result<(), LineStop>
 
 /// `lose K` behind its first word.
 #[tactic(auto, unfolding(crate::specs::Schedules::lose_line))]
-fn lose(reading: &mut Reading, words: &mut Words<'_>) -> Result<(), LineStop>
+fn lose(reading: &mut Reading, words: &mut Words<'_>) -> Result<(), LineError>
     ensures { Leaves result reading.new (lose_line words.old reading.old) }
 {
     let k = frame(words)?;
@@ -104,7 +104,7 @@ fn lose(reading: &mut Reading, words: &mut Words<'_>) -> Result<(), LineStop>
 
 /// `tick N` behind its first word. Reasons: `BadWord`, `BadNumber`, `UnknownHost`.
 #[tactic(auto, unfolding(crate::specs::Schedules::tick_line))]
-fn tick(reading: &mut Reading, words: &mut Words<'_>) -> Result<(), LineStop>
+fn tick(reading: &mut Reading, words: &mut Words<'_>) -> Result<(), LineError>
     ensures { Leaves result reading.new (tick_line words.old reading.old) }
 {
     let host = known_host(reading.hosts.as_slice(), words)?;
@@ -116,7 +116,7 @@ fn tick(reading: &mut Reading, words: &mut Words<'_>) -> Result<(), LineStop>
 /// `raw N D HEX` behind its first word, of 1 to 16,513 bytes. Reasons: `BadWord`, `BadNumber`, `UnknownHost`,
 /// `BadArgument`.
 #[tactic(auto, unfolding(crate::specs::Schedules::raw_line))]
-fn raw(alloc: Global, reading: &mut Reading, words: &mut Words<'_>) -> Result<(), LineStop>
+fn raw(alloc: Global, reading: &mut Reading, words: &mut Words<'_>) -> Result<(), LineError>
     ensures { Leaves result reading.new (raw_line words.old reading.old) }
 {
     let host = known_host(reading.hosts.as_slice(), words)?;
@@ -134,7 +134,7 @@ fn read_rest(
     kind: EventWord,
     reading: &mut Reading,
     words: &mut Words<'_>,
-) -> Result<(), LineStop>
+) -> Result<(), LineError>
     ensures { Leaves result reading.new (event_rest kind words.old reading.old) }
 {
     match kind {
@@ -154,7 +154,7 @@ pub fn read_event(
     alloc: Global,
     reading: &mut Reading,
     words: &mut Words<'_>,
-) -> Result<(), LineStop>
+) -> Result<(), LineError>
     ensures { Leaves result reading.new (event_line words.old reading.old) }
 {
     let word = words.next()?;

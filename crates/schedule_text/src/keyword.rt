@@ -2,7 +2,7 @@ ghost use Rattle.std.specs.Prelude.{◌≡◌};
 ghost use Rattle.schedule_text.specs.Schedules as spec;
 ghost use Rattle.schedule_text.specs.Schedules.{network_word, event_word};
 
-use line_files::is;
+use line_reader::is;
 use plan_base::Version;
 
 /// The first word of a line of the network.

@@ -1,6 +1,6 @@
 ghost use Rattle.std.specs.Prelude.{◌≡◌, ◌⊎◌, ℕ, List};
-ghost use Rattle.line_files.specs.declared.fault.LineReason.{LineReason};
-ghost use Rattle.network_plan.specs.declared.schedule.Schedule.{Schedule};
+ghost use Rattle.line_reader.specs.declared.fault.LineReason.{LineReason};
+ghost use Rattle.network_config.specs.declared.schedule.Schedule.{Schedule};
 ghost use Rattle.schedule_text.specs.Answers.{Says, IsRefused, Accepted, Refused};
 
 /// Each file says a schedule or has a first line outside the format, which is one of its lines or the one

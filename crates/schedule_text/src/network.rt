@@ -1,15 +1,15 @@
 ghost use Rattle.std.specs.Prelude.{◌≡◌};
-ghost use Rattle.line_files.specs.Reads.{Leaves, Gives};
+ghost use Rattle.line_reader.specs.Reads.{Leaves, Gives};
 ghost use Rattle.schedule_text.specs.Schedules.{is_first, frames_line, host_line, link_line, program_line, close_program, network_rest, network_line};
 ghost use Rattle.schedule_text.specs.Leaving.{LeavesStage};
 
 use crate::keyword::NetworkWord;
 use crate::parts::{free_device, is_known_program, known_host};
 use crate::reading::{BegunProgram, NamedProgram, Reading, Stage};
-use line_files::{
-    LineReason, LineStop, OpenProgram, Words, allow, name_of, number, packages, program,
+use line_reader::{
+    LineError, LineReason, OpenProgram, Words, allow, name_of, number, packages, program,
 };
-use network_plan::{Cable, HostSpec, has_host};
+use network_config::{HostSpec, Link, has_host};
 use plan_base::Host;
 use std::alloc::Global;
 
@@ -22,7 +22,7 @@ fn is_first(reading: &Reading) -> bool
 
 /// `frames` behind the first word. Reason: `BadWord`.
 #[tactic(auto, unfolding(crate::specs::Schedules::frames_line))]
-fn read_frames(reading: &mut Reading, words: &mut Words<'_>) -> Result<(), LineStop>
+fn read_frames(reading: &mut Reading, words: &mut Words<'_>) -> Result<(), LineError>
     ensures { Leaves result reading.new (frames_line words.old reading.old) }
 {
     allow(is_first(reading), LineReason::BadWord)?;
@@ -34,7 +34,7 @@ fn read_frames(reading: &mut Reading, words: &mut Words<'_>) -> Result<(), LineS
 /// `host N` and the packages that it lacks, behind the first word. Reasons: `TooMany`, `BadWord`,
 /// `BadNumber`, `TwiceNamed`.
 #[tactic(auto, unfolding(crate::specs::Schedules::host_line))]
-fn read_host(alloc: Global, reading: &mut Reading, words: &mut Words<'_>) -> Result<(), LineStop>
+fn read_host(alloc: Global, reading: &mut Reading, words: &mut Words<'_>) -> Result<(), LineError>
     ensures { Leaves result reading.new (host_line words.old reading.old) }
 {
     allow(reading.hosts.len() < 32, LineReason::TooMany)?;
@@ -52,7 +52,7 @@ fn read_host(alloc: Global, reading: &mut Reading, words: &mut Words<'_>) -> Res
 /// `link N D M E` behind the first word. Reasons: `BadWord`, `BadNumber`, `UnknownHost`, `TwiceNamed`,
 /// `BadArgument`.
 #[tactic(auto, unfolding(crate::specs::Schedules::link_line))]
-fn read_link(reading: &mut Reading, words: &mut Words<'_>) -> Result<(), LineStop>
+fn read_link(reading: &mut Reading, words: &mut Words<'_>) -> Result<(), LineError>
     ensures { Leaves result reading.new (link_line words.old reading.old) }
 {
     let n = known_host(reading.hosts.as_slice(), words)?;
@@ -61,7 +61,7 @@ fn read_link(reading: &mut Reading, words: &mut Words<'_>) -> Result<(), LineSto
     allow(m.0 != n.0, LineReason::BadArgument)?;
     let e = free_device(reading.links.as_slice(), m, words)?;
     words.end()?;
-    reading.links.add(Cable {
+    reading.links.add(Link {
         from: n,
         from_dev: d,
         to: m,
@@ -77,7 +77,7 @@ fn begin_program(
     line: u32,
     reading: &Reading,
     words: &mut Words<'_>,
-) -> Result<BegunProgram, LineStop>
+) -> Result<BegunProgram, LineError>
     ensures { Gives (λ b. b) result (program_line line words.old reading.now) }
 {
     allow(reading.programs.len() < 64, LineReason::TooMany)?;
@@ -98,7 +98,7 @@ pub fn end_program(
     alloc: Global,
     reading: &mut Reading,
     begun: BegunProgram,
-) -> Result<(), LineStop>
+) -> Result<(), LineError>
     ensures { Leaves result reading.new (close_program begun reading.old) }
 {
     let BegunProgram { name, source } = begun;
@@ -124,7 +124,7 @@ fn read_rest(
     line: u32,
     reading: &mut Reading,
     words: &mut Words<'_>,
-) -> Result<Stage, LineStop>
+) -> Result<Stage, LineError>
     ensures { LeavesStage result reading.new (network_rest kind line words.old reading.old) }
 {
     match kind {
@@ -158,7 +158,7 @@ pub fn read_network(
     line: u32,
     reading: &mut Reading,
     words: &mut Words<'_>,
-) -> Result<Stage, LineStop>
+) -> Result<Stage, LineError>
     ensures { LeavesStage result reading.new (network_line line words.old reading.old) }
 {
     let word = words.next()?;

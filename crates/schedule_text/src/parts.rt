@@ -1,12 +1,12 @@
 ghost use Rattle.std.specs.Prelude.{◌≡◌};
 ghost use Rattle.std.specs.List.{find, list_any};
 ghost use Rattle.std.specs.Option.{option_copied};
-ghost use Rattle.line_files.specs.Reads.{Reads};
+ghost use Rattle.line_reader.specs.Reads.{Reads};
 ghost use Rattle.schedule_text.specs.Parts.{host_at, device_at, free_device_at, is_called, program_at};
 
 use crate::reading::NamedProgram;
-use line_files::{LineReason, Words, allow, is, number};
-use network_plan::{Cable, HostSpec, has_host, has_link};
+use line_reader::{LineReason, Words, allow, is, number};
+use network_config::{HostSpec, Link, has_host, has_link};
 use plan_base::{Dev, Host};
 
 /// The next word as a host that was named. Reasons: `BadWord`, `BadNumber`, `UnknownHost`.
@@ -31,7 +31,7 @@ pub fn device(words: &mut Words<'_>) -> Result<Dev, LineReason>
 /// The next word as a device, from 1 to 8, of a host that has no link yet. Reasons: `BadWord`,
 /// `BadNumber`, `TwiceNamed`.
 #[tactic(auto, unfolding(crate::specs::Parts::free_device_at))]
-pub fn free_device(links: &[Cable], host: Host, words: &mut Words<'_>) -> Result<Dev, LineReason>
+pub fn free_device(links: &[Link], host: Host, words: &mut Words<'_>) -> Result<Dev, LineReason>
     ensures { Reads (λ d. d) result words.new (free_device_at links.now host words.old) }
 {
     let d = number(words, 1, 8)?;

@@ -1,20 +1,20 @@
 ghost use Rattle.std.specs.Prelude.{◌≡◌, ◌≤◌, ◌⊎◌, length, Ok, Err, IfOk, IfErr, MatchResult};
-ghost use Rattle.line_files.specs.declared.fault.LineFault.TheVariants.{NoMemory};
-ghost use Rattle.network_plan.specs.declared.schedule.Schedule.{Schedule};
-ghost use Rattle.network_plan.specs.Rules.{KeepsRules};
-ghost use Rattle.line_files.specs.Reads.{FileLeaves};
+ghost use Rattle.line_reader.specs.declared.fault.LineFault.TheVariants.{NoMemory};
+ghost use Rattle.network_config.specs.declared.schedule.Schedule.{Schedule};
+ghost use Rattle.network_config.specs.Rules.{KeepsRules};
+ghost use Rattle.line_reader.specs.Reads.{FileLeaves};
 ghost use Rattle.schedule_text.specs.Leaving.{LeavesStep};
 ghost use Rattle.schedule_text.specs.Schedules.{header_step, network_step, program_step, event_step, step, finish, schedule_of, nothing_read};
 
 use crate::events::read_event;
 use crate::network::{end_program, read_network};
 use crate::reading::{BegunProgram, Reading, ScheduleFile, Stage};
-use line_files::{
+use containers::Items;
+use line_reader::{
     LineFault, LineFile, LineReason, Words, is, read_file, says_nothing, stopped_at, version_of,
 };
+use network_config::Schedule;
 use plan_base::Version;
-use network_plan::Schedule;
-use plan_items::Items;
 use std::alloc::Global;
 use std::mem;
 
@@ -176,7 +176,7 @@ fn start(alloc: Global) -> ScheduleFile
     }
 }
 
-#[tactic(auto, using(line_files::proofs::FileLaws::is_found, line_files::proofs::FileLaws::is_only, line_files::proofs::FileLaws::is_fault, crate::proofs::RuleLaws::is_keeping), unfolding(crate::specs::Schedules::schedule_of))]
+#[tactic(auto, using(line_reader::proofs::FileLaws::is_found, line_reader::proofs::FileLaws::is_only, line_reader::proofs::FileLaws::is_fault, crate::proofs::RuleLaws::is_keeping), unfolding(crate::specs::Schedules::schedule_of))]
 /// The schedule that a file is. Condition: at most 4,194,304 bytes.
 ///
 /// The fault is the first line outside the format with its reason, or `NoMemory`.

@@ -2,10 +2,10 @@ ghost use Rattle.std.specs.Prelude.{◌≡◌};
 ghost use Rattle.schedule_text.specs.Schedules.{schedule_of_reading};
 
 use checked_chunks::Checked;
-use line_files::OpenProgram;
+use containers::Items;
+use line_reader::OpenProgram;
+use network_config::{HostSpecs, Links, Schedule, Topology, WorldEvents};
 use plan_base::{Name, Version};
-use network_plan::{HostSpecs, Links, Schedule, Topology, WorldEvents};
-use plan_items::Items;
 
 /// A typed program of a file, with the name that the file gives it.
 #[derive(Drop)]

@@ -2,8 +2,8 @@
 use Rattle.std.proofs.Common.{◌≡◌, ◌↔◌, ◌⊎◌, inl, inr, ⊎_elim, Bool, true, false, ◌||◌, if◌then◌else◌, List, [], ◌∷◌, Option, Some, None, refl, sym, ap, ◌∙◌, subst}
 use Rattle.std.specs.List.{list_any}
 use Rattle.std.proofs.lemmas.Bool.{false≢true, true≢false}
-use Rattle.plan_items.proofs.Bools.{and_left, and_right, and_both}
-use Rattle.plan_items.proofs.Options.{none-some, some-same}
+use Rattle.containers.proofs.Bools.{and_left, and_right, and_both}
+use Rattle.containers.proofs.Options.{none-some, some-same}
 use Rattle.plan_base.specs.declared.tree.Ty.{Ty}
 use Rattle.plan_base.specs.declared.tree.Ty.TheVariants as type
 use Rattle.plan_base.specs.declared.tree.Svc.{Svc}

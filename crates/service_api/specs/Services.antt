@@ -6,9 +6,9 @@ use Rattle.plan_base.specs.declared.tree.Ty.{Ty}
 use Rattle.plan_base.specs.declared.tree.Svc.{Svc}
 use Rattle.plan_base.specs.declared.tree.Exn.{Exn}
 use Rattle.plan_base.specs.declared.tree.Chunk.{Chunk}
-use Rattle.table_rows.specs.declared.row.Row.{Row}
-use Rattle.table_rows.specs.Rows.{fits, living, last_key}
-use Rattle.typing_rules.specs.Rules.{exception, no_service}
+use Rattle.service_api.specs.declared.row.Row.{Row}
+use Rattle.service_api.specs.Rows.{fits, living, last_key}
+use Rattle.plan_types_spec.specs.Rules.{exception, no_service}
 use Rattle.service_api.specs.declared.answer.Note.{Note}
 use Rattle.service_api.specs.declared.answer.Note.TheVariants.{Print, Port}
 use Rattle.service_api.specs.declared.answer.Answer.{Answer}
@@ -16,7 +16,7 @@ use Rattle.service_api.specs.declared.answer.Answer.TheVariants.{Gives, Raises}
 use Rattle.service_api.specs.declared.ctx.Ctx.{Ctx}
 use Rattle.service_api.specs.declared.scheme.Scheme.{Scheme}
 use Rattle.service_api.specs.Schemes.{is_instance_of}
-use Rattle.typing_rules.specs.Typing.{HasType, IsSmall, IsTypedChunk}
+use Rattle.plan_types_spec.specs.Typing.{HasType, IsSmall, IsTypedChunk}
 use Rattle.plan_base.specs.WellFormed.{IsWellFormedValue, IsWellFormedChunk}
 
 -- ---- the state: a table's rows and its next key

@@ -1,5 +1,5 @@
+use containers::Items;
 use plan_base::Host;
-use plan_items::Items;
 
 /// A host, and the cost of a route to it.
 #[derive(Clone, Copy, PartialEq, Eq)]

@@ -1,5 +1,5 @@
+use containers::Items;
 use plan_base::{Exn, Value};
-use plan_items::Items;
 
 /// What a service tells the node's owner.
 #[derive(Drop)]

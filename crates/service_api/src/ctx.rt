@@ -1,8 +1,8 @@
 ghost use Rattle.std.specs.Prelude.{◌≡◌, IfOk};
 
 use crate::router::Router;
+use containers::Items;
 use plan_base::{Dev, Host, NoMemory};
-use plan_items::Items;
 use std::alloc::Global;
 
 /// The neighbours of a node, each with the device that leads to it, by device.

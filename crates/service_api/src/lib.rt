@@ -1,5 +1,4 @@
-//! What a visit sees of the services of a node: [`Services`] with its meanings and laws, [`Ctx`], [`Router`],
-//! notes and answers, and the types of services ([`Scheme`], [`instance`]).
+//! What services are to a node: their types, what a call of one is given and answers, the rows of a node's tables, adverts and routes.
 #![tactic(auto)]
 
 mod advert;
@@ -9,6 +8,7 @@ mod laws;
 mod matching;
 mod package;
 mod router;
+mod row;
 mod scheme;
 mod services;
 
@@ -19,5 +19,6 @@ pub use laws::instances;
 pub use matching::instance;
 pub use package::{PackageName, Packages};
 pub use router::{Hop, RouteRow, RouteRows, Router};
+pub use row::Row;
 pub use scheme::{Scheme, SchemeTy, SchemeTys};
 pub use services::Services;

@@ -4,8 +4,8 @@ ghost use Rattle.service_api.specs.Schemes as spec;
 
 use crate::scheme::{Scheme, SchemeTy};
 use plan_base::{NoMemory, Svc, Ty};
-use plan_copies::Copied;
-use plan_equality::Same;
+use plan_base_copy::TryClone;
+use plan_base_eq::SameAs;
 use std::alloc::Global;
 
 /// What a type of the row stands for where `Any` is `a`.

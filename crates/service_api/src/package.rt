@@ -1,4 +1,4 @@
-use plan_items::Items;
+use containers::Items;
 
 /// A package of services.
 #[derive(Clone, Copy, PartialEq, Eq)]

@@ -2,8 +2,8 @@ ghost use Rattle.std.specs.Prelude.{◌≡◌, IfOk};
 ghost use Rattle.std.specs.Str.{bytes_eq};
 ghost use Rattle.service_api.specs.Routes as spec;
 
+use containers::Items;
 use plan_base::{Dev, Host, Name, NoMemory, same_bytes};
-use plan_items::Items;
 use std::alloc::Global;
 use std::marker::Model;
 

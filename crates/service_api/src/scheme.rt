@@ -1,5 +1,5 @@
+use containers::Items;
 use plan_base::Ty;
-use plan_items::Items;
 
 /// A type in a service's row.
 #[derive(Drop)]

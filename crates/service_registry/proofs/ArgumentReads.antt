@@ -4,10 +4,10 @@ use Rattle.plan_base.specs.declared.memory.NoMemory.{NoMemory}
 use Rattle.plan_base.specs.declared.tree.Value.{Value, out-Value}
 use Rattle.plan_base.specs.declared.tree.Value.TheOpen.{Value-F}
 use Rattle.plan_base.specs.Trees.{ValueLayer}
-use Rattle.table_rows.specs.declared.row.Row.{Row}
+use Rattle.service_api.specs.declared.row.Row.{Row}
 use Rattle.service_api.specs.declared.answer.Answer.{Answer}
 use Rattle.service_api.specs.Services.{Rows, Served, refused_call}
-use Rattle.service_meaning.specs.Answers.{without_arguments, of_two, of_int, of_text}
+use Rattle.service_registry_spec.specs.Answers.{without_arguments, of_two, of_int, of_text}
 use Rattle.service_registry.specs.Arguments.{int_in, text_in}
 use Rattle.service_registry.specs.Meets.{Meets}
 

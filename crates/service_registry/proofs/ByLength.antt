@@ -3,10 +3,10 @@ use Rattle.std.proofs.Common.{◌≡◌, ◌≢◌, ℕ, ◌==◌, Bool, true, f
 use Rattle.std.specs.Str.{bytes_eq}
 use Rattle.std.proofs.lemmas.Slice.Eq.{bytes_eq-Decides}
 use Rattle.std.proofs.lemmas.Bool.Decides.{nat_tests}
-use Rattle.plan_items.proofs.Bools.{not_true}
-use Rattle.service_meaning.specs.declared.service.Service.{Service}
-use Rattle.service_meaning.specs.declared.service.Service.TheVariants.{ThisHost, ThisHostIs, GetRb, GetSource, GetNeighbors, GetDist, NextHop, Put, Get, Remove, GenerateKey, Print, Deliver}
-use Rattle.service_meaning.specs.Offered.{all_services, name_of, service_named}
+use Rattle.containers.proofs.Bools.{not_true}
+use Rattle.service_registry_spec.specs.declared.service.Service.{Service}
+use Rattle.service_registry_spec.specs.declared.service.Service.TheVariants.{ThisHost, ThisHostIs, GetRb, GetSource, GetNeighbors, GetDist, NextHop, Put, Get, Remove, GenerateKey, Print, Deliver}
+use Rattle.service_registry_spec.specs.Offered.{all_services, name_of, service_named}
 
 -- those whose names are so long
 abbrev pub as_long : ℕ → List Service → List Service

@@ -5,8 +5,8 @@ use Rattle.plan_base.specs.declared.memory.NoMemory.{NoMemory}
 use Rattle.plan_base.specs.declared.tree.Svc.{Svc}
 use Rattle.plan_base.specs.declared.tree.Ty.{Ty}
 use Rattle.plan_base.specs.declared.tree.Value.{Value}
-use Rattle.table_rows.specs.declared.row.Row.{Row}
-use Rattle.table_rows.specs.Rows.{is_live, living}
+use Rattle.service_api.specs.declared.row.Row.{Row}
+use Rattle.service_api.specs.Rows.{is_live, living}
 use Rattle.resident_tables.proofs.Limits.{living_fits}
 use Rattle.resident_tables.specs.Tables.{Table}
 use Rattle.resident_tables.specs.Layers.{Layer}
@@ -14,10 +14,10 @@ use Rattle.service_api.specs.declared.answer.Answer.{Answer}
 use Rattle.service_api.specs.declared.ctx.Ctx.{Ctx}
 use Rattle.service_api.specs.Services.{Rows, Served, IsGoodValue, AreGoodRows, AreGoodValues, refused_call}
 use Rattle.service_api.specs.Schemes.{instance}
-use Rattle.service_meaning.specs.declared.service.Service.{Service}
-use Rattle.service_meaning.specs.Offered.{InstalledPackages, offered_service, type_of}
-use Rattle.service_meaning.specs.Serving.{serve, serve_at, serve_offered}
-use Rattle.service_meaning.proofs.Goods.{serve_good}
+use Rattle.service_registry_spec.specs.declared.service.Service.{Service}
+use Rattle.service_registry_spec.specs.Offered.{InstalledPackages, offered_service, type_of}
+use Rattle.service_registry_spec.specs.Serving.{serve, serve_at, serve_offered}
+use Rattle.service_registry_spec.proofs.Goods.{serve_good}
 use Rattle.service_registry.proofs.ArgumentReads.{with_next}
 use Rattle.service_registry.specs.RegistryState.{rows_of, rows_begun, opened, IsOpen, IsKept}
 use Rattle.service_registry.specs.Meets.{Meets}

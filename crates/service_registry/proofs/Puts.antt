@@ -3,13 +3,13 @@ use Rattle.std.proofs.Common.{◌≡◌, ℕ, ℤ, pos, Bool, true, false, List,
 use Rattle.std.specs.Prelude.{int_lt, if◌then◌else◌}
 use Rattle.plan_base.specs.declared.tree.Ty.{Ty}
 use Rattle.plan_base.specs.declared.tree.Value.{Value, out-Value}
-use Rattle.table_rows.specs.Rows.{put_row, fits}
+use Rattle.service_api.specs.Rows.{put_row, fits}
 use Rattle.resident_tables.specs.Tables.{row_of}
-use Rattle.typing_rules.specs.Rules.{bad_index}
+use Rattle.plan_types_spec.specs.Rules.{bad_index}
 use Rattle.service_api.specs.declared.ctx.Ctx.{Ctx}
 use Rattle.service_api.specs.Services.{Rows, Served, refused_call}
-use Rattle.service_meaning.specs.declared.service.Service.TheVariants as service
-use Rattle.service_meaning.specs.Answers.{of_int, kept_answer, raised_answer, put_answer, table_full, serve_as, expiry_after}
+use Rattle.service_registry_spec.specs.declared.service.Service.TheVariants as service
+use Rattle.service_registry_spec.specs.Answers.{of_int, kept_answer, raised_answer, put_answer, table_full, serve_as, expiry_after}
 use Rattle.service_registry.specs.Arguments.{int_in, text_in}
 use Rattle.service_registry.proofs.ArgumentReads.{taken_argument, int_read, text_read}
 

@@ -8,8 +8,8 @@ use Rattle.service_api.specs.declared.scheme.SchemeTy.{SchemeTy}
 use Rattle.service_api.specs.declared.scheme.Scheme.{Scheme}
 use Rattle.service_api.specs.Schemes.{AllStandFor, IsInstance, instance}
 use Rattle.service_api.proofs.InstanceLaws.{found_is, is_found}
-use Rattle.service_meaning.specs.declared.service.Service.TheVariants.{Put, Get, Remove, Print, Deliver}
-use Rattle.service_meaning.specs.Offered.{type_of}
+use Rattle.service_registry_spec.specs.declared.service.Service.TheVariants.{Put, Get, Remove, Print, Deliver}
+use Rattle.service_registry_spec.specs.Offered.{type_of}
 
 pub none_found : (scheme : Scheme) (svc : Svc) → ((a : Ty) → IsInstance scheme svc a → ⊥) → None ≡ instance scheme svc
 none_found scheme svc h = sym (go (instance scheme svc) refl)

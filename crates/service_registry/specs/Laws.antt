@@ -1,8 +1,8 @@
 -- The laws of services hold of a registry.
 use Rattle.service_api.specs.Services.{IsGoodServe, RefusesOthers}
-use Rattle.service_meaning.specs.Serving.{serve, offer}
-use Rattle.service_meaning.proofs.Goods.{serve_good}
-use Rattle.service_meaning.proofs.Refusals.{refuses}
+use Rattle.service_registry_spec.specs.Serving.{serve, offer}
+use Rattle.service_registry_spec.proofs.Goods.{serve_good}
+use Rattle.service_registry_spec.proofs.Refusals.{refuses}
 use Rattle.service_registry.specs.RegistryState.{RegistryState}
 
 pub registry_good : (h : RegistryState) → IsGoodServe (serve h.there)

@@ -1,5 +1,5 @@
 -- The packages that are there, as definitions see them.
-use Rattle.service_meaning.specs.Offered.{InstalledPackages}
+use Rattle.service_registry_spec.specs.Offered.{InstalledPackages}
 use Rattle.service_registry.specs.declared.installed_packages.InstalledPackages.{InstalledPackages as InCode}
 
 abbrev pub present_of : InCode → InstalledPackages

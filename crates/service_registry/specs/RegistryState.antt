@@ -1,11 +1,11 @@
 -- What a registry holds, and what it stands for.
 use Rattle.std.specs.Prelude.{◌≡◌, ℤ, ◌≤◌, Bool, true, false, List, Option, Some, None, refl}
 use Rattle.std.specs.Coded.{Coded, code_by, coded×, coded_list, coded_bool, coded_ℤ, coded_option}
-use Rattle.table_rows.specs.declared.row.Row.{Row}
-use Rattle.table_rows.specs.contracts.row.Row as row
+use Rattle.service_api.specs.declared.row.Row.{Row}
+use Rattle.service_api.specs.contracts.row.Row as row
 use Rattle.service_api.specs.Services.{Rows, ServiceState, AreGoodRows}
-use Rattle.service_meaning.specs.Offered.{InstalledPackages}
-use Rattle.service_meaning.specs.Serving.{offer}
+use Rattle.service_registry_spec.specs.Offered.{InstalledPackages}
+use Rattle.service_registry_spec.specs.Serving.{offer}
 use Rattle.resident_tables.specs.Tables.{Table}
 use Rattle.resident_tables.specs.Layers.{Layer, over, IsOver, room_of}
 

@@ -1,8 +1,8 @@
 ghost use Rattle.plan_base.specs.Words.{IsName};
 ghost use Rattle.service_api.specs.Services as api;
-ghost use Rattle.service_meaning.specs.Answers as spec;
+ghost use Rattle.service_registry_spec.specs.Answers as spec;
 ghost use Rattle.service_registry.specs.Meets.{Tells};
-ghost use Rattle.typing_rules.specs.Rules as rules;
+ghost use Rattle.plan_types_spec.specs.Rules as rules;
 
 use plan_base::{Exn, Name, NoMemory};
 use service_api::Answer;

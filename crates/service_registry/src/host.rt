@@ -1,14 +1,14 @@
 ghost use Rattle.plan_base.specs.declared.tree.Ty.{Ty as AType};
 ghost use Rattle.service_api.specs.declared.ctx.Ctx.{Ctx as ACtx};
-ghost use Rattle.service_meaning.specs.Answers as spec;
+ghost use Rattle.service_registry_spec.specs.Answers as spec;
 ghost use Rattle.service_registry.specs.Meets.{Tells};
 
 use crate::answers::{bad_index, no_such_service};
 use crate::arguments::as_int;
 use plan_base::{NoMemory, Value};
-use plan_copies::Copied;
+use plan_base_copy::TryClone;
 use service_api::{Answer, Note};
-use service_meaning::Service;
+use service_registry_spec::Service;
 use std::alloc::Global;
 
 /// `print`.

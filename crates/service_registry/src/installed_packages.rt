@@ -1,6 +1,6 @@
 ghost use Rattle.std.specs.Prelude.{◌≡◌};
-ghost use Rattle.service_meaning.specs.Beginning.{is_package, is_missing, one_less, present_without};
-ghost use Rattle.service_meaning.specs.Offered.{is_there};
+ghost use Rattle.service_registry_spec.specs.Beginning.{is_package, is_missing, one_less, present_without};
+ghost use Rattle.service_registry_spec.specs.Offered.{is_there};
 ghost use Rattle.service_registry.specs.Packages.{present_of};
 
 use service_api::PackageName;

@@ -2,17 +2,17 @@ ghost use Rattle.std.specs.Prelude.{◌≡◌, IfOk, map};
 ghost use Rattle.plan_base.specs.declared.tree.Ty.{Ty as AType};
 ghost use Rattle.plan_base.specs.declared.tree.Value.TheVariants as value;
 ghost use Rattle.service_api.specs.Routes as hops;
-ghost use Rattle.service_meaning.specs.Answers as spec;
-ghost use Rattle.service_meaning.specs.Offered as offered;
+ghost use Rattle.service_registry_spec.specs.Answers as spec;
+ghost use Rattle.service_registry_spec.specs.Offered as offered;
 ghost use Rattle.service_registry.specs.Meets.{Tells};
 
 use crate::answers::{no_route, no_such_service};
 use crate::arguments::as_host;
 use crate::types::hop_type;
+use containers::{Boxed, Items};
 use plan_base::{Dev, Host, Name, NoMemory, Value, Values};
-use plan_items::{Boxed, Items};
 use service_api::{Answer, Ctx, Hop, RouteRow};
-use service_meaning::Service;
+use service_registry_spec::Service;
 use std::alloc::Global;
 
 /// `thisHost`.

@@ -1,12 +1,12 @@
 ghost use Rattle.std.specs.Prelude.{◌≡◌, ◌∷◌, []};
 ghost use Rattle.std.specs.Str.{bytes_eq};
-ghost use Rattle.service_meaning.specs.Offered as spec;
+ghost use Rattle.service_registry_spec.specs.Offered as spec;
 ghost use Rattle.service_registry.specs.Packages.{present_of};
 
 use crate::installed_packages::InstalledPackages;
 use plan_base::{Name, same_bytes};
 use service_api::PackageName;
-use service_meaning::Service;
+use service_registry_spec::Service;
 
 fn name_of(service: Service) -> &'static [u8]
     ensures { result.now ≡ spec.name_of service }

@@ -1,5 +1,5 @@
 ghost use Rattle.std.specs.Prelude.{◌≡◌, None};
-ghost use Rattle.service_meaning.specs.Beginning.{one_less, present_without, opening_standing};
+ghost use Rattle.service_registry_spec.specs.Beginning.{one_less, present_without, opening_standing};
 ghost use Rattle.service_registry.specs.RegistryState.{standing};
 ghost use Rattle.service_registry.specs.Laws.{registry_good, registry_refuses};
 

@@ -3,18 +3,18 @@ ghost use Rattle.plan_base.specs.declared.tree.Ty.{Ty as AType};
 ghost use Rattle.resident_tables.specs.Layers.{IsOver};
 ghost use Rattle.resident_tables.specs.Tables.{Table};
 ghost use Rattle.service_api.specs.declared.ctx.Ctx.{Ctx as ACtx};
-ghost use Rattle.service_meaning.specs.Answers as spec;
+ghost use Rattle.service_registry_spec.specs.Answers as spec;
 ghost use Rattle.service_registry.specs.RegistryState.{rows_over};
 ghost use Rattle.service_registry.specs.Meets.{Meets};
-ghost use Rattle.table_rows.specs.declared.row.Row.{Row as ARow};
-ghost use Rattle.table_rows.specs.Rows.{fresh_key};
+ghost use Rattle.service_api.specs.declared.row.Row.{Row as ARow};
+ghost use Rattle.service_api.specs.Rows.{fresh_key};
 
 use crate::answers::{bad_index, no_such_service, not_found, overflow, table_full};
 use crate::arguments::{as_int, as_text};
 use plan_base::{NoMemory, Ty, Value};
 use resident_tables::{Overlay, TableFault, Tables};
 use service_api::{Answer, Ctx};
-use service_meaning::Service;
+use service_registry_spec::Service;
 use std::alloc::Global;
 
 /// `put`. Condition: the changes were used over `base` alone.

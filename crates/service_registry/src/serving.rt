@@ -2,9 +2,9 @@ ghost use Rattle.std.specs.Prelude.{◌≡◌, IfOk, None};
 ghost use Rattle.std.specs.Option.{option_copied};
 ghost use Rattle.resident_tables.specs.Layers.{IsOver};
 ghost use Rattle.service_api.specs.Schemes.{instance};
-ghost use Rattle.service_meaning.specs.Answers as spec;
-ghost use Rattle.service_meaning.specs.Offered as offered;
-ghost use Rattle.service_meaning.specs.Serving.{serve, serve_at};
+ghost use Rattle.service_registry_spec.specs.Answers as spec;
+ghost use Rattle.service_registry_spec.specs.Offered as offered;
+ghost use Rattle.service_registry_spec.specs.Serving.{serve, serve_at};
 ghost use Rattle.service_registry.specs.RegistryState.{rows_over};
 ghost use Rattle.service_registry.specs.Meets.{Meets};
 ghost use Rattle.service_registry.specs.Packages.{present_of};
@@ -20,7 +20,7 @@ use crate::types::type_of;
 use plan_base::{NoMemory, Svc, Ty, Value};
 use resident_tables::{Overlay, Tables};
 use service_api::{Answer, Ctx, instance};
-use service_meaning::Service;
+use service_registry_spec::Service;
 use std::alloc::Global;
 
 /// What the service answers where its declaration takes `Any` at the type `a`. Condition: the changes were used over
@@ -113,7 +113,7 @@ fn served_by(
 }
 
 /// What a call answers where these packages are there. Condition: the changes were used over `base` alone.
-#[tactic(auto, unfolding(service_meaning::specs::Serving::serve))]
+#[tactic(auto, unfolding(service_registry_spec::specs::Serving::serve))]
 pub fn answer_call(
     alloc: Global,
     there: InstalledPackages,

@@ -4,10 +4,10 @@ ghost use Rattle.std.specs.Option.{option_copied};
 ghost use Rattle.plan_base.specs.declared.tree.Svc.{Svc as ASvc};
 ghost use Rattle.plan_base.specs.declared.tree.Ty.TheVariants as ty;
 ghost use Rattle.service_api.specs.Schemes.{instance};
-ghost use Rattle.service_meaning.specs.Offered.{type_of};
+ghost use Rattle.service_registry_spec.specs.Offered.{type_of};
 
 use plan_base::{Svc, Ty};
-use service_meaning::Service;
+use service_registry_spec::Service;
 
 #[tactic(auto, using(plan_base::specs::Trees::trees))]
 fn is_unit(t: &Ty) -> bool

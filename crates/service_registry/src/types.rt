@@ -1,10 +1,10 @@
 ghost use Rattle.std.specs.Prelude.{◌≡◌, [], IfOk, OnOk};
-ghost use Rattle.service_meaning.specs.Offered as spec;
+ghost use Rattle.service_registry_spec.specs.Offered as spec;
 
+use containers::{Boxed, Items};
 use plan_base::{NoMemory, Ty};
-use plan_items::{Boxed, Items};
 use service_api::{Scheme, SchemeTy, SchemeTys};
-use service_meaning::Service;
+use service_registry_spec::Service;
 use std::alloc::{AllocError, Global};
 
 /// The type of a host with the device that leads to it.

@@ -4,7 +4,7 @@
 use plan_base::Bytes;
 use std::io::{self, Read, Write};
 use std::process::ExitCode;
-use trace_picture::{ChartFault, MOST_BYTES, chart};
+use trace_chart_picture::{ChartFault, MOST_BYTES, chart};
 
 /// The exit code where the trace has no chart.
 const REFUSED: u8 = 2;

@@ -1,9 +1,9 @@
 ghost use Rattle.std.specs.Prelude.{◌≡◌, IfOk, option_copied};
 ghost use Rattle.plan_meaning.specs.Meaning as spec;
 
+use containers::Items;
 use plan_base::{Name, NoMemory, Param, Value};
-use plan_copies::Copied;
-use plan_items::Items;
+use plan_base_copy::TryClone;
 use plan_meaning::{Binding, Env};
 use std::alloc::Global;
 

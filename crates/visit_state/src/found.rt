@@ -1,5 +1,5 @@
 ghost use Rattle.std.specs.Prelude.{◌≡◌, option_copied, take};
-ghost use Rattle.typing_rules.specs.TypingNames as names;
+ghost use Rattle.plan_types_spec.specs.TypingNames as names;
 ghost use Rattle.plan_meaning.specs.Meaning as spec;
 ghost use Rattle.visit_state.specs.Handlers as handlers;
 

@@ -16,5 +16,5 @@ pub use operate::{binary, cons, part, primitive};
 pub use raised::{no_bound, no_route, no_service, not_neighbour, too_large};
 pub use serving::ask_service;
 pub use shapes::{as_bool, as_chunk, as_dev, as_host, as_int, as_items};
-pub use state::{ALLOWANCE, State};
+pub use state::{ALLOWANCE, EvalState};
 pub use weighing::Weighing;

@@ -1,5 +1,5 @@
-ghost use Rattle.typing_rules.specs.Rules as rules;
-ghost use Rattle.typing_rules.specs.Rules.{Given};
+ghost use Rattle.plan_types_spec.specs.Rules as rules;
+ghost use Rattle.plan_types_spec.specs.Rules.{Given};
 ghost use Rattle.plan_base.specs.declared.tree.Value.{out-Value};
 ghost use Rattle.plan_values.specs.Answers.{Answers, AnswersUnweighed};
 ghost use Rattle.visit_state.specs.Meets.{MeetsGiven, MeetsUnweighed};

@@ -1,6 +1,6 @@
 ghost use Rattle.std.specs.Prelude.{codes};
 ghost use Rattle.plan_base.specs.Words.{IsName};
-ghost use Rattle.typing_rules.specs.Rules.{exception, no_service, too_large};
+ghost use Rattle.plan_types_spec.specs.Rules.{exception, no_service, too_large};
 ghost use Rattle.plan_meaning.specs.Meaning.{no_bound, no_route, not_neighbour};
 ghost use Rattle.visit_state.specs.Meets.{RaisesOnly};
 

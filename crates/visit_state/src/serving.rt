@@ -4,7 +4,7 @@ ghost use Rattle.plan_meaning.specs.Run as run;
 ghost use Rattle.plan_meaning.specs.Safe.{IsSafe};
 ghost use Rattle.visit_state.specs.Meets.{Meets};
 
-use crate::state::State;
+use crate::state::EvalState;
 use plan_base::{NoMemory, Svc, Value, Values};
 use plan_meaning::EvalStop;
 use service_api::{Answer, Services};
@@ -15,7 +15,7 @@ use std::alloc::Global;
 #[tactic(auto, unfolding(plan_meaning::specs::Run::serve))]
 pub fn ask_service<S: Services>(
     alloc: Global,
-    state: &mut State,
+    state: &mut EvalState,
     svc: &mut S,
     d: &Svc,
     args: &Values,

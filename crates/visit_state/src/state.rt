@@ -15,10 +15,10 @@ ghost use Rattle.visit_state.specs.Meets.{Meets, StopsBy, Weighs};
 use crate::raised::{no_bound, no_route, no_service, not_neighbour, too_large};
 use crate::weighing::{Weighing, plain_weight};
 use checked_chunks::{CheckedChunk, CheckedPacket};
+use containers::Items;
 use plan_base::{Chunk, Dev, Family, Host, Name, NoMemory, Value};
-use plan_items::Items;
+use plan_base_size::{nesting, weight};
 use plan_meaning::{EvalStop, Outbox, Outcome, Visit};
-use plan_sizes::{nesting, weight};
 use remote_calls::{
     NoBound, Purse, SendFault, SendWay, default_route, neighbour_way, remote_way, send,
 };
@@ -31,7 +31,7 @@ pub const ALLOWANCE: u64 = 4_000_000;
 
 /// The state of an evaluation without the services.
 #[derive(Drop)]
-pub struct State {
+pub struct EvalState {
     ctx: Ctx,
     family: Family,
     work: u64,
@@ -40,7 +40,7 @@ pub struct State {
     notes: Notes,
 }
 
-impl Model for State {
+impl Model for EvalState {
     ghost use Rattle.std.specs.Prelude.{◌+◌, ◌≤◌, length};
     ghost use Rattle.plan_meaning.specs.State.{Own};
     ghost use Rattle.visit_state.specs.Stored.{own_code};
@@ -83,9 +83,9 @@ fn unsent(alloc: Global, fault: SendFault) -> EvalStop
     }
 }
 
-impl State {
+impl EvalState {
     /// The state in which a visit begins, with so much work to spend.
-    pub fn new(alloc: Global, ctx: Ctx, family: Family, work: u64) -> State
+    pub fn new(alloc: Global, ctx: Ctx, family: Family, work: u64) -> EvalState
         requires purse { ctx.purse ≤ 65535 }
         requires near { length ctx.neighbours ≤ 8 }
         ensures { result ≡ record {
@@ -97,7 +97,7 @@ impl State {
           notes = [];
         } }
     {
-        State {
+        EvalState {
             ctx,
             family,
             work,
@@ -112,7 +112,7 @@ impl State {
         ensures { (s : ServiceState) → result ≡ ended_visit allowance outcome
             (joined_state self s) }
     {
-        let State {
+        let EvalState {
             ctx,
             family: _family,
             work,

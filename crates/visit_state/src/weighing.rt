@@ -4,7 +4,7 @@ ghost use Rattle.std.specs.List.{sum_by};
 ghost use Rattle.plan_base.specs.Sizes.{largest_by, weight, nesting};
 
 use plan_base::Value;
-use plan_sizes::type_size;
+use plan_base_size::type_size;
 
 /// What came of weighing a value.
 #[derive(Clone, Copy)]

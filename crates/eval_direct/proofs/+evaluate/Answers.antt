@@ -4,7 +4,7 @@ use Rattle.plan_base.specs.declared.tree.Expr as expr
 use Rattle.plan_base.specs.declared.tree.Value as value
 use Rattle.plan_base.specs.Sizes.{code_size}
 use Rattle.eval_flow.specs.declared.row.Row.TheVariants as row
-use Rattle.typing_rules.specs.TypingNames.{place_of}
+use Rattle.plan_types_spec.specs.TypingNames.{place_of}
 use Rattle.plan_meaning.specs.declared.stop.EvalStop.TheVariants.{WorkSpent, Wrong}
 use Rattle.plan_meaning.specs.State.{joined_state}
 use Rattle.plan_meaning.specs.Run.{gave, weighed_value}

@@ -1,6 +1,6 @@
 use Rattle.std.proofs.lemmas.Result.{err_from_is_err_and}
-use Rattle.plan_items.specs.Reading.{many}
-use Rattle.chunk_spelling.specs.Exprs.{clauses_from}
+use Rattle.containers.specs.Reading.{many}
+use Rattle.chunk_codec_spec.specs.Exprs.{clauses_from}
 use Rattle.chunk_codec.specs.Reading.{expr_at, clause_at}
 use Rattle.chunk_codec.proofs.Loops.{loop_fails, loop_goes, loop_done}
 use Rattle.chunk_codec.proofs.ExprSteps.{clauses_fail, clauses_go, clauses_done}

@@ -1,7 +1,7 @@
 use Rattle.std.proofs.Common.{◌≡◌, ◌+◌, ◌*◌, ◌-◌}
-use Rattle.plan_items.specs.Reading.{many}
-use Rattle.plan_items.proofs.ReadingLists.{with_front}
-use Rattle.chunk_spelling.specs.Exprs.{clauses_from}
+use Rattle.containers.specs.Reading.{many}
+use Rattle.containers.proofs.ReadingLists.{with_front}
+use Rattle.chunk_codec_spec.specs.Exprs.{clauses_from}
 use Rattle.chunk_codec.specs.Reading.{expr_at, clause_at}
 use Rattle.chunk_codec.proofs.exprs.+exprs.Given as goal
 

@@ -1,7 +1,7 @@
 use Rattle.std.proofs.Common.{refl}
-use Rattle.chunk_spelling.specs.Spelling.{a_whole_chunk}
-use Rattle.chunk_spelling.proofs.ValueLaws.{chunk_part_lawful}
-use Rattle.chunk_spelling.proofs.WholeLaws.{one_spelling_by, at_most_one, spelled_or_fault, spelled_no_fault}
+use Rattle.chunk_codec_spec.specs.Spelling.{a_whole_chunk}
+use Rattle.chunk_codec_spec.proofs.ValueLaws.{chunk_part_lawful}
+use Rattle.chunk_codec_spec.proofs.WholeLaws.{one_spelling_by, at_most_one, spelled_or_fault, spelled_no_fault}
 use Rattle.chunk_codec.proofs.Wholes.{again_by}
 use Rattle.chunk_codec.proofs.laws.chunk_laws.Goals as goal
 

@@ -1,7 +1,7 @@
 use Rattle.std.proofs.Common.{refl}
-use Rattle.chunk_spelling.specs.Programs.{program_part}
-use Rattle.chunk_spelling.proofs.ProgramLaws.{program_lawful}
-use Rattle.chunk_spelling.proofs.WholeLaws.{one_spelling_by, at_most_one, spelled_or_fault, spelled_no_fault}
+use Rattle.chunk_codec_spec.specs.Programs.{program_part}
+use Rattle.chunk_codec_spec.proofs.ProgramLaws.{program_lawful}
+use Rattle.chunk_codec_spec.proofs.WholeLaws.{one_spelling_by, at_most_one, spelled_or_fault, spelled_no_fault}
 use Rattle.chunk_codec.proofs.Wholes.{again_by}
 use Rattle.chunk_codec.proofs.laws.program_laws.Goals as goal
 

@@ -1,6 +1,6 @@
 use Rattle.std.proofs.lemmas.Result.{err_from_is_err_and}
-use Rattle.plan_items.specs.Reading.{many}
-use Rattle.chunk_spelling.specs.Scan.{name_field}
+use Rattle.containers.specs.Reading.{many}
+use Rattle.chunk_codec_spec.specs.Scan.{name_field}
 use Rattle.chunk_codec.proofs.Loops.{loop_fails, loop_goes, loop_done}
 use Rattle.chunk_codec.proofs.programs.names_of.Goals as goal
 

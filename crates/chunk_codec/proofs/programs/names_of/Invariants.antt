@@ -1,7 +1,7 @@
 use Rattle.std.proofs.Common.{◌≡◌, ◌-◌}
-use Rattle.plan_items.specs.Reading.{many}
-use Rattle.plan_items.proofs.ReadingLists.{with_front}
-use Rattle.chunk_spelling.specs.Scan.{name_field}
+use Rattle.containers.specs.Reading.{many}
+use Rattle.containers.proofs.ReadingLists.{with_front}
+use Rattle.chunk_codec_spec.specs.Scan.{name_field}
 use Rattle.chunk_codec.proofs.programs.names_of.Given as goal
 
 abbrev pub invariant-loop-i : goal.invariant-loop-i

@@ -1,6 +1,6 @@
 use Rattle.std.proofs.Common.{◌≡◌, ◌-◌}
-use Rattle.plan_items.specs.Reading.{many}
-use Rattle.plan_items.proofs.ReadingLists.{with_front}
+use Rattle.containers.specs.Reading.{many}
+use Rattle.containers.proofs.ReadingLists.{with_front}
 use Rattle.chunk_codec.specs.Reading.{param_at}
 use Rattle.chunk_codec.proofs.programs.params_of.Given as goal
 

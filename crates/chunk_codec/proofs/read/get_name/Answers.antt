@@ -1,7 +1,7 @@
 use Rattle.std.proofs.Common.{refl}
 use Rattle.std.proofs.lemmas.Result.{err_from_is_err_and}
-use Rattle.chunk_spelling.specs.Fields.{name_part}
-use Rattle.chunk_spelling.proofs.LeafLaws.{name_lawful}
+use Rattle.chunk_codec_spec.specs.Fields.{name_part}
+use Rattle.chunk_codec_spec.proofs.LeafLaws.{name_lawful}
 use Rattle.chunk_codec.proofs.Wholes.{found_at_ok, only_at_ok, only_at_err, fault_at_err}
 use Rattle.chunk_codec.proofs.read.get_name.Goals as goal
 

@@ -1,7 +1,7 @@
 use Rattle.std.proofs.Common.{refl}
 use Rattle.std.proofs.lemmas.Result.{err_from_is_err_and}
-use Rattle.chunk_spelling.specs.Spelling.{a_whole_value}
-use Rattle.chunk_spelling.proofs.ValueLaws.{value_lawful}
+use Rattle.chunk_codec_spec.specs.Spelling.{a_whole_value}
+use Rattle.chunk_codec_spec.proofs.ValueLaws.{value_lawful}
 use Rattle.chunk_codec.proofs.Wholes.{found_at_ok, only_at_ok, only_at_err, fault_at_err}
 use Rattle.chunk_codec.proofs.read.get_value.Goals as goal
 

@@ -1,5 +1,5 @@
 use Rattle.std.proofs.lemmas.Result.{err_from_is_err_and}
-use Rattle.plan_items.specs.Reading.{many}
+use Rattle.containers.specs.Reading.{many}
 use Rattle.chunk_codec.specs.Reading.{value_at}
 use Rattle.chunk_codec.proofs.Loops.{loop_fails, loop_goes, loop_done}
 use Rattle.chunk_codec.proofs.values.+values.Goals as goal

@@ -1,5 +1,5 @@
 use Rattle.std.proofs.Common.{◌≡◌, Some, take}
-use Rattle.typing_rules.specs.TypingNames.{place_of}
+use Rattle.plan_types_spec.specs.TypingNames.{place_of}
 use Rattle.eval_steps.proofs.Calling.{calls_function}
 use Rattle.eval_steps.proofs.call.function_call.Goals as goal
 

@@ -1,5 +1,5 @@
 use Rattle.std.proofs.Common.{◌≡◌, ◌∷◌, [], Some, None, take, refl}
-use Rattle.typing_rules.specs.TypingNames.{place_of}
+use Rattle.plan_types_spec.specs.TypingNames.{place_of}
 use Rattle.eval_steps.proofs.Deciding.{fold_right_step}
 use Rattle.eval_steps.proofs.Gathering.{no_right_step}
 use Rattle.eval_steps.proofs.fold.right_step.Goals as goal

@@ -1,6 +1,5 @@
 use Rattle.std.proofs.Common.{◌∙◌, ◌+◌, length, IsTrue, sym, ap, subst, arith}
 use Rattle.std.proofs.lemmas.List.{length_push}
-use Rattle.node_io.specs.Spawners.{StartResult}
 use Rattle.node_io.proofs.SpawnerLaws.{kept_both}
 use Rattle.fleet_run.specs.Children.{AreOpen, AreNumbered}
 use Rattle.fleet_run.proofs.ChildLaws.{open_more, numbered_more, starts_next}

@@ -1,6 +1,6 @@
 use Rattle.frag_chunks.specs.Saying.{as_said}
 use Rattle.frag_chunks.proofs.Judging.{kept_put, kept_not_spoiled}
-use Rattle.frag_chunks.specs.declared.holding.Holding.TheVariants as holding
+use Rattle.frag_chunks.specs.declared.holding.PartialMessage.TheVariants as holding
 use Rattle.frag_chunks.proofs.holding.put_part.Goals as goal
 
 pub returns-in_ok-piece-in-Open-clause-ok : goal.returns-in_ok-piece-in-Open-clause-ok

@@ -6,7 +6,7 @@ use Rattle.frag_chunks.specs.declared.gather.Held.TheVariants as held
 use Rattle.service_api.specs.declared.answer.Note.{Note}
 use Rattle.frag_chunks.specs.Parts.{IsMessage, parts_in}
 use Rattle.frag_chunks.specs.Gathers.{gathered_entries, holding_of, held_of, joined_pieces, filled_parts}
-use Rattle.frag_chunks.specs.Messages.{OnlyParts, was_given, given_from, held_now}
+use Rattle.frag_chunks.specs.Messages.{was_given, given_from, held_now}
 use Rattle.frag_chunks.proofs.Pieces.{slots_from, slots_joined, slots_whole, slots_open, slots_filled, slots_length, parts_reach}
 use Rattle.frag_chunks.proofs.Gathering.{Came, Ends, notes_end}
 use Rattle.frag_chunks.proofs.Gathering.Ends.{Kept, Full, Absent}

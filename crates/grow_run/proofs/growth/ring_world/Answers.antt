@@ -1,7 +1,7 @@
 use Rattle.std.proofs.Common.{sym, ap, ◌∙◌, subst}
 use Rattle.std.specs.Prelude.{map, IfOk}
-use Rattle.network_plan.specs.Rules.{KeepsNetwork}
-use Rattle.world_model.specs.World.{opening, opening_services}
+use Rattle.network_config.specs.Rules.{KeepsNetwork}
+use Rattle.net_world_spec.specs.World.{opening, opening_services}
 use Rattle.net_world.specs.Stands.{WorldStands}
 use Rattle.grow_run.proofs.RingRules.{ring_keeps}
 use Rattle.grow_run.proofs.growth.ring_world.Goals as goal

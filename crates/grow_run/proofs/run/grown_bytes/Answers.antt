@@ -1,10 +1,10 @@
 use Rattle.std.proofs.Common.{◌≡◌, ◌∙◌, ap, subst}
-use Rattle.world_model.specs.World.{opening, world_after, history_of}
-use Rattle.network_laws.proofs.Handings.{opening_balances}
+use Rattle.net_world_spec.specs.World.{opening, world_after, history_of}
+use Rattle.net_world_spec.proofs.Handings.{opening_balances}
 use Rattle.plan_base.specs.declared.stamp.Version.TheVariants.{One}
-use Rattle.world_model.specs.Sound.{EventsFit}
+use Rattle.net_world_spec.specs.Sound.{EventsFit}
 use Rattle.grow_run.proofs.RingRules.{ring_keeps}
-use Rattle.run_ledger.specs.Stands.{Stands}
+use Rattle.bound_ledger.specs.Stands.{Stands}
 use Rattle.grow_run.specs.Grow.{ring, grown_events, Grow}
 use Rattle.grow_run.specs.Summaries.{summary_of, grown_text}
 use Rattle.net_world.proofs.StandLaws.{if_ok}

@@ -1,5 +1,5 @@
 use Rattle.std.proofs.Common.{◌≡◌}
-use Rattle.world_model.specs.World.{neighbours_to}
+use Rattle.net_world_spec.specs.World.{neighbours_to}
 use Rattle.net_world.proofs.ends.neighbours_of.Given as goal
 
 abbrev pub invariant-loop-before : goal.invariant-loop-before

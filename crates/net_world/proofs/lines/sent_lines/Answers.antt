@@ -1,7 +1,7 @@
 use Rattle.std.proofs.Common.{◌∙◌, ◌++◌, ◌∷◌, [], ap}
 use Rattle.packet_frame.specs.Stamped.{stamped_bytes}
-use Rattle.world_model.specs.declared.lines.Line.TheVariants.{Wire}
-use Rattle.world_model.specs.World.{lines_at}
+use Rattle.net_world_spec.specs.declared.lines.Line.TheVariants.{Wire}
+use Rattle.net_world_spec.specs.World.{lines_at}
 use Rattle.net_world.proofs.StandLaws.{if_ok}
 use Rattle.net_world.proofs.lines.sent_lines.Goals as goal
 

@@ -1,6 +1,6 @@
 use Rattle.std.proofs.Common.{◌≡◌, ◌+◌, ◌++◌, length}
 use Rattle.std.specs.Prelude.{vec_len, vec_capacity}
-use Rattle.world_model.specs.World.{lines_at}
+use Rattle.net_world_spec.specs.World.{lines_at}
 use Rattle.net_world.proofs.lines.with_acts.Given as goal
 
 abbrev pub invariant-loop-act : goal.invariant-loop-act

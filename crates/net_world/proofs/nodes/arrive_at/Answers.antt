@@ -1,4 +1,4 @@
-use Rattle.node_model.specs.Node.{arrive_step}
+use Rattle.node_core_spec.specs.Node.{arrive_step}
 use Rattle.net_world.proofs.StandLaws.{stepped_at}
 use Rattle.net_world.proofs.nodes.arrive_at.Goals as goal
 

@@ -1,4 +1,4 @@
-use Rattle.node_model.specs.Node.{stamped_step}
+use Rattle.node_core_spec.specs.Node.{stamped_step}
 use Rattle.net_world.proofs.StandLaws.{stepped_where}
 use Rattle.net_world.proofs.nodes.hand_to.Goals as goal
 

@@ -1,6 +1,6 @@
 use Rattle.std.proofs.Common.{◌≡◌, ◌+◌, length}
 use Rattle.std.specs.List.{position_from}
-use Rattle.node_model.specs.State.{is_host}
+use Rattle.node_core_spec.specs.State.{is_host}
 use Rattle.net_world.proofs.nodes.host_place.Given as goal
 
 abbrev pub invariant-loop-rest : goal.invariant-loop-rest

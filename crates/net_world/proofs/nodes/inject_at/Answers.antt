@@ -1,5 +1,5 @@
 use Rattle.std.proofs.Common.{[]}
-use Rattle.node_model.specs.Node.{inject_step}
+use Rattle.node_core_spec.specs.Node.{inject_step}
 use Rattle.net_world.proofs.StandLaws.{stepped_where}
 use Rattle.net_world.proofs.nodes.inject_at.Goals as goal
 

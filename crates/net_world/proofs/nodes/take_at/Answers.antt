@@ -1,5 +1,5 @@
 use Rattle.std.specs.Prelude.{slice_set}
-use Rattle.node_model.specs.Node.{take_step}
+use Rattle.node_core_spec.specs.Node.{take_step}
 use Rattle.net_world.proofs.StandLaws.{stepped_at, unchanged_at}
 use Rattle.net_world.proofs.nodes.take_at.Goals as goal
 

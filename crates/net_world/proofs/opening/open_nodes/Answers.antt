@@ -1,7 +1,7 @@
 use Rattle.std.proofs.Common.{◌<◌, ◌∙◌, length, sym, ap, subst}
 use Rattle.std.specs.Prelude.{map, slice_get}
 use Rattle.std.proofs.lemmas.List.{nil_from_length}
-use Rattle.world_model.specs.World.{opening_node}
+use Rattle.net_world_spec.specs.World.{opening_node}
 use Rattle.net_world.specs.Stands.{AllStand}
 use Rattle.net_world.proofs.OpeningLaws.{Left, none_open, is_within, own_services, one_opened, all_opened}
 use Rattle.net_world.proofs.opening.open_nodes.Goals as goal

@@ -1,7 +1,7 @@
 use Rattle.std.proofs.Common.{◌∙◌, ◌+◌, ◌++◌, ap, subst}
-use Rattle.world_model.specs.Texts.{entries_text}
-use Rattle.world_model.specs.Counts.{late_in}
-use Rattle.run_ledger.specs.Stands.{Stands}
+use Rattle.net_world_spec.specs.Texts.{entries_text}
+use Rattle.net_world_spec.specs.Counts.{late_in}
+use Rattle.bound_ledger.specs.Stands.{Stands}
 use Rattle.net_world.proofs.StandLaws.{fits_within}
 use Rattle.net_world.proofs.RunLaws.{fits_as, leaves_as, entries_are}
 use Rattle.net_world.proofs.runs.make_event.Goals as goal

@@ -1,7 +1,7 @@
 use Rattle.std.proofs.Common.{take}
-use Rattle.network_laws.proofs.Wires.{opening_once, opening_leads}
+use Rattle.net_world_spec.proofs.Wires.{opening_once, opening_leads}
 use Rattle.net_world.proofs.RunLaws.{prefix_balances, prefix_bounded, prefix_granted, prefix_sound, prefix_ends}
-use Rattle.network_laws.proofs.Reaching.{run_keeps_routes}
+use Rattle.net_world_spec.proofs.Reaching.{run_keeps_routes}
 use Rattle.net_world.proofs.runs.run.Goals as goal
 
 pub returns-clause-keeps : goal.returns-clause-keeps

@@ -3,8 +3,8 @@ use Rattle.std.proofs.lemmas.Iterator.Adapters.{YieldsList-from_vec}
 use Rattle.std.proofs.lemmas.Iterator.Consumers.{YieldsList-turn, YieldsList-end}
 use Rattle.std.proofs.lemmas.List.{length_push}
 use Rattle.std.proofs.lemmas.List.Elements.{All-get_or}
-use Rattle.world_model.specs.World.{opening}
-use Rattle.world_model.specs.Sound.{event_fits}
+use Rattle.net_world_spec.specs.World.{opening}
+use Rattle.net_world_spec.specs.Sound.{event_fits}
 use Rattle.node_io.specs.Sinks.{Writes, FailsIn}
 use Rattle.node_io.proofs.SinkLaws.{writes_none}
 use Rattle.net_world.specs.declared.runs.RunFault.TheVariants.{WriteFault}

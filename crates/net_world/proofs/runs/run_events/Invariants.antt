@@ -1,7 +1,7 @@
 use Rattle.std.proofs.Common.{◌≡◌, length, take}
-use Rattle.world_model.specs.World.{world_after, history_of, opening}
-use Rattle.world_model.specs.Texts.{entries_text}
-use Rattle.run_ledger.specs.Stands.{Stands}
+use Rattle.net_world_spec.specs.World.{world_after, history_of, opening}
+use Rattle.net_world_spec.specs.Texts.{entries_text}
+use Rattle.bound_ledger.specs.Stands.{Stands}
 use Rattle.net_world.specs.Stands.{WorldStands}
 use Rattle.net_world.specs.Printing.{IsWaiting}
 use Rattle.net_world.proofs.runs.run_events.Given as goal

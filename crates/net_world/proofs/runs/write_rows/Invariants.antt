@@ -1,6 +1,6 @@
 use Rattle.std.proofs.Common.{◌++◌, take}
 use Rattle.bound_ledger.specs.Rows.{OneEach}
-use Rattle.run_text.specs.Printed.{all_printed}
+use Rattle.trace_text.specs.Printed.{all_printed}
 use Rattle.net_world.specs.Printing.{IsWaiting}
 use Rattle.net_world.proofs.runs.write_rows.Given as goal
 

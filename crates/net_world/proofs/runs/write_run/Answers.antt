@@ -1,7 +1,7 @@
 use Rattle.std.proofs.Common.{[], sym, subst}
-use Rattle.run_ledger.specs.Stands.{Stands}
-use Rattle.run_ledger.proofs.LineLaws.{nothing_stands}
-use Rattle.world_model.specs.World.{opening, world_after, history_of}
+use Rattle.bound_ledger.specs.Stands.{Stands}
+use Rattle.bound_ledger.proofs.LineLaws.{nothing_stands}
+use Rattle.net_world_spec.specs.World.{opening, world_after, history_of}
 use Rattle.net_world.proofs.RunLaws.{whole_balances, stopped_header, stopped_lines, stopped_ledger, whole_run}
 use Rattle.net_world.proofs.runs.write_run.Goals as goal
 

@@ -1,5 +1,5 @@
 use Rattle.std.proofs.Common.{ap, ◌∙◌}
-use Rattle.settled_visit.specs.Settles.{visit_settled}
+use Rattle.plan_eval_settle.specs.Settles.{visit_settled}
 use Rattle.node_core.specs.Turns.{closed_services}
 use Rattle.node_core.proofs.TurnLaws.{turn_visit, turn_closes}
 use Rattle.node_core.proofs.idle_services.settled_of.Goals as goal

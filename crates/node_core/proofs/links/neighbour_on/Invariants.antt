@@ -1,5 +1,5 @@
 use Rattle.std.proofs.Common.{◌≡◌, length}
-use Rattle.node_model.specs.State as spec
+use Rattle.node_core_spec.specs.State as spec
 use Rattle.node_core.proofs.links.neighbour_on.Given as goal
 
 abbrev pub invariant-loop-rest : goal.invariant-loop-rest

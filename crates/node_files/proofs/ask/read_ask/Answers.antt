@@ -1,6 +1,6 @@
 use Rattle.std.proofs.Common.{subst}
-use Rattle.line_files.specs.Files.{file_of}
-use Rattle.line_files.specs.Reads.{FileGives}
+use Rattle.line_reader.specs.Files.{file_of}
+use Rattle.line_reader.specs.Reads.{FileGives}
 use Rattle.node_files.specs.declared.ask.AskReading.{AskReading}
 use Rattle.node_files.specs.Asks.{ask_format}
 use Rattle.node_files.proofs.AskLaws.{ask_rules}

@@ -1,6 +1,6 @@
 use Rattle.std.proofs.Common.{subst}
-use Rattle.line_files.specs.Files.{file_of}
-use Rattle.line_files.specs.Reads.{FileGives}
+use Rattle.line_reader.specs.Files.{file_of}
+use Rattle.line_reader.specs.Reads.{FileGives}
 use Rattle.node_files.specs.declared.log.LogReading.{LogReading}
 use Rattle.node_files.specs.Logs.{log_format}
 use Rattle.node_files.proofs.LogLaws.{log_rules}

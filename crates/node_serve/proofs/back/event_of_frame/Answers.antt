@@ -1,7 +1,7 @@
 use Rattle.std.proofs.Common.{ap, arith, subst}
 use Rattle.wire_bytes.specs.Fields.{IsBytes}
-use Rattle.network_plan.specs.Hosts.{dev_of}
-use Rattle.network_plan.specs.declared.event.Event.TheVariants.{Frame}
+use Rattle.network_config.specs.Hosts.{dev_of}
+use Rattle.network_config.specs.declared.event.Event.TheVariants.{Frame}
 use Rattle.node_serve.proofs.FrameSizes.{frame_arrives}
 use Rattle.node_serve.proofs.back.event_of_frame.Goals as goal
 

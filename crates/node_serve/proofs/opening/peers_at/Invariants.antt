@@ -1,6 +1,6 @@
 use Rattle.std.proofs.Common.{◌≡◌, ◌∷◌, map, take}
-use Rattle.network_plan.specs.Hosts.{dev_of}
-use Rattle.serve_model.specs.Runs.{peer}
+use Rattle.network_config.specs.Hosts.{dev_of}
+use Rattle.node_log.specs.Runs.{peer}
 use Rattle.node_serve.proofs.opening.peers_at.Given as goal
 
 abbrev pub invariant-loop-port : goal.invariant-loop-port

@@ -1,4 +1,4 @@
-use Rattle.node_model.specs.State.{new_node}
+use Rattle.node_core_spec.specs.State.{new_node}
 use Rattle.node_serve.specs.Desks.{serving}
 use Rattle.node_serve.proofs.Starting.{serves_none}
 use Rattle.node_serve.proofs.serving.serve_as.Goals as goal

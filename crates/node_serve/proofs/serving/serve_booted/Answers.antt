@@ -1,5 +1,5 @@
 use Rattle.std.proofs.Common.{refl}
-use Rattle.node_model.specs.State.{new_node}
+use Rattle.node_core_spec.specs.State.{new_node}
 use Rattle.node_serve.specs.Desks.{serving}
 use Rattle.node_serve.specs.Moments.{booted_config}
 use Rattle.node_serve.proofs.Moments.{two_served}

@@ -1,6 +1,6 @@
 use Rattle.std.proofs.Common.{refl, ap, ◌∙◌}
-use Rattle.serve_model.specs.Runs.{entries_at}
-use Rattle.serve_model.specs.Texts.{lines_text}
+use Rattle.node_log.specs.Runs.{entries_at}
+use Rattle.node_log.specs.Texts.{lines_text}
 use Rattle.node_serve.proofs.steps.took_texts.Goals as goal
 
 pub returns : goal.returns

@@ -1,5 +1,5 @@
 use Rattle.std.proofs.Common.{sym, subst}
-use Rattle.chunk_spelling.specs.Spelling.{from_front}
+use Rattle.chunk_codec_spec.specs.Spelling.{from_front}
 use Rattle.packet_frame.specs.declared.kind.Kind.{Kind}
 use Rattle.packet_frame.specs.Forms.{reads, forms, frame_of_fields}
 use Rattle.packet_frame.specs.Reading.{Gives}

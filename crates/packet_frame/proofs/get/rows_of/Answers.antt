@@ -1,6 +1,6 @@
 use Rattle.std.proofs.Common.{None}
 use Rattle.std.proofs.lemmas.Result.{err_from_is_err_and}
-use Rattle.chunk_spelling.specs.Spelling.{from_front}
+use Rattle.chunk_codec_spec.specs.Spelling.{from_front}
 use Rattle.packet_frame.specs.Fields.{rows_from}
 use Rattle.packet_frame.proofs.Rows.{host_fails, cost_fails, rows_go_on, rows_done}
 use Rattle.packet_frame.proofs.get.rows_of.Goals as goal

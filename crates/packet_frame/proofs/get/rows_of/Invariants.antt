@@ -1,6 +1,6 @@
 use Rattle.std.proofs.Common.{◌≡◌, ◌-◌, None}
-use Rattle.chunk_spelling.specs.Spelling.{from_front}
-use Rattle.plan_items.proofs.ReadingLists.{with_front}
+use Rattle.chunk_codec_spec.specs.Spelling.{from_front}
+use Rattle.containers.proofs.ReadingLists.{with_front}
 use Rattle.packet_frame.specs.Fields.{rows_from}
 use Rattle.packet_frame.proofs.get.rows_of.Given as goal
 

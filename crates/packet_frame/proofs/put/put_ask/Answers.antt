@@ -1,6 +1,6 @@
 use Rattle.std.proofs.Common.{◌++◌, ◌∙◌, ap}
 use Rattle.std.specs.Int.{w32, to_be_bytes}
-use Rattle.chunk_spelling.specs.Values.{chunk_bytes}
+use Rattle.chunk_codec_spec.specs.Values.{chunk_bytes}
 use Rattle.packet_frame.specs.Bytes.{head_bytes}
 use Rattle.packet_frame.proofs.Sizes.{ask_spelled}
 use Rattle.packet_frame.proofs.put.put_ask.Goals as goal

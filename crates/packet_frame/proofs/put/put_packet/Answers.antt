@@ -1,7 +1,7 @@
 use Rattle.std.proofs.Common.{◌++◌, ◌∙◌, ap, arith}
 use Rattle.std.specs.Int.{w32, w64, to_be_bytes}
-use Rattle.chunk_spelling.specs.Fields.{name_bytes}
-use Rattle.chunk_spelling.specs.Values.{chunk_bytes}
+use Rattle.chunk_codec_spec.specs.Fields.{name_bytes}
+use Rattle.chunk_codec_spec.specs.Values.{chunk_bytes}
 use Rattle.packet_frame.specs.Bytes.{head_bytes}
 use Rattle.packet_frame.proofs.Sizes.{packet_spelled, route_short}
 use Rattle.packet_frame.proofs.put.put_packet.Goals as goal

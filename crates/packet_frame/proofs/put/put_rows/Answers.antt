@@ -1,7 +1,7 @@
 use Rattle.std.proofs.Common.{true}
 use Rattle.service_api.specs.declared.advert.AdvertRow.{AdvertRow}
 use Rattle.packet_frame.specs.Bytes.{row_bytes}
-use Rattle.chunk_writer.proofs.Puts.{written_none, written_bytes, written_room, all_true}
+use Rattle.chunk_codec.proofs.Puts.{written_none, written_bytes, written_room, all_true}
 use Rattle.packet_frame.proofs.Sizes.{row_room}
 use Rattle.packet_frame.proofs.put.put_rows.Goals as goal
 

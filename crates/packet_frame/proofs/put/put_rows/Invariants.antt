@@ -1,6 +1,6 @@
 use Rattle.std.proofs.Common.{true}
 use Rattle.packet_frame.specs.Bytes.{row_bytes}
-use Rattle.chunk_writer.proofs.Puts.{Written}
+use Rattle.chunk_codec.proofs.Puts.{Written}
 use Rattle.packet_frame.proofs.put.put_rows.Given as goal
 
 abbrev pub invariant-loop-r : goal.invariant-loop-r

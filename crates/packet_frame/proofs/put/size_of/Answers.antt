@@ -1,6 +1,6 @@
 use Rattle.std.proofs.Common.{arith}
 use Rattle.packet_frame.proofs.Sizes.{chunk_small}
-use Rattle.chunk_spelling.proofs.LengthLaws.{chunk_length}
+use Rattle.chunk_codec_spec.proofs.LengthLaws.{chunk_length}
 use Rattle.packet_frame.proofs.put.size_of.Goals as goal
 
 pub overflow_cast-result : goal.overflow_cast-result

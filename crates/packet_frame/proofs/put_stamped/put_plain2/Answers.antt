@@ -1,8 +1,8 @@
 use Rattle.packet_frame.proofs.Sizes.{route_short}
 use Rattle.std.proofs.Common.{◌++◌, ◌∙◌, ap, arith}
 use Rattle.std.specs.Int.{w32, w64, to_be_bytes}
-use Rattle.chunk_spelling.specs.Fields.{name_bytes}
-use Rattle.chunk_spelling.specs.Values.{chunk_bytes}
+use Rattle.chunk_codec_spec.specs.Fields.{name_bytes}
+use Rattle.chunk_codec_spec.specs.Values.{chunk_bytes}
 use Rattle.packet_frame.specs.Stamped.{stamped_head}
 use Rattle.packet_frame.proofs.StampedSizes.{packet2_spelled}
 use Rattle.packet_frame.proofs.put_stamped.put_plain2.Goals as goal

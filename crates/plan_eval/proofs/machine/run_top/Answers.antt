@@ -1,5 +1,5 @@
 use Rattle.std.proofs.Common.{sym, ◌∙◌}
-use Rattle.plan_items.proofs.Options.{none-some}
+use Rattle.containers.proofs.Options.{none-some}
 use Rattle.plan_eval.proofs.machine.run_top.Goals as goal
 
 pub returns-in-Err-clause-flows : goal.returns-in-Err-clause-flows

@@ -1,5 +1,5 @@
 use Rattle.std.proofs.Common.{◌≡◌, Some, None, refl, ◌∙◌}
-use Rattle.typing_rules.specs.TypingNames.{place_of}
+use Rattle.plan_types_spec.specs.TypingNames.{place_of}
 use Rattle.plan_meaning.specs.State.{joined_state}
 use Rattle.eval_steps.proofs.Delivering.{visited_on}
 use Rattle.eval_flow.proofs.Turning.{visited_nowhere}

@@ -1,6 +1,6 @@
 use Rattle.std.proofs.Common.{◌≡◌, Result, Ok, Err, ◌⊎◌, inl, inr, refl}
 use Rattle.plan_base.specs.declared.tree.Draft.{Draft}
-use Rattle.plan_grammar.specs.declared.fault.ParseFault.{ParseFault}
+use Rattle.plan_parser_exprs.specs.declared.fault.ParseFault.{ParseFault}
 use Rattle.plan_parser.specs.Programs.{program_of}
 use Rattle.plan_parser.proofs.laws.one_answer.Goals as goal
 

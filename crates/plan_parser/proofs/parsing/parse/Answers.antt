@@ -1,5 +1,5 @@
 use Rattle.std.proofs.Common.{subst}
-use Rattle.plan_grammar.specs.Ahead.{Answers}
+use Rattle.plan_parser_exprs.specs.Ahead.{Answers}
 use Rattle.plan_parser.specs.Programs.{program_of}
 use Rattle.plan_parser.proofs.Answered.{answered_found, answered_only, answered_fault}
 use Rattle.plan_parser.proofs.FormedPrograms.{draft_formed, draft_placed}

@@ -1,9 +1,9 @@
 use Rattle.std.proofs.Common.{◌≡◌, ◌-◌, ◌≤◌, length}
-use Rattle.plan_grammar.specs.Begins.{begins_name}
+use Rattle.plan_parser_exprs.specs.Begins.{begins_name}
 use Rattle.plan_base.specs.declared.limit.Limit.TheVariants as limits
 use Rattle.plan_lexer.specs.declared.token.Symbol.TheVariants as symbols
-use Rattle.plan_grammar.specs.declared.fault.Wanted.TheVariants as wanted
-use Rattle.plan_grammar.specs.Types.{more}
+use Rattle.plan_parser_exprs.specs.declared.fault.Wanted.TheVariants as wanted
+use Rattle.plan_parser_exprs.specs.Types.{more}
 use Rattle.plan_parser.specs.Signatures.{param_at}
 use Rattle.plan_parser.proofs.signature.more_params.Given as goal
 

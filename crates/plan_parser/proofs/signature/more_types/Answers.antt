@@ -1,5 +1,5 @@
 use Rattle.std.proofs.Common.{arith, length-append}
-use Rattle.plan_grammar.proofs.Mores.{more_ends, more_past, more_steps, more_stops}
+use Rattle.plan_parser_exprs.proofs.Mores.{more_ends, more_past, more_steps, more_stops}
 use Rattle.plan_parser.proofs.signature.more_types.Goals as goal
 
 pub loop-alloc-preserved : goal.loop-alloc-preserved

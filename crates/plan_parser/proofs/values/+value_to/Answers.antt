@@ -1,5 +1,5 @@
 use Rattle.std.proofs.Common.{◌≡◌, ap, arith}
-use Rattle.plan_grammar.proofs.Mores.{roomier}
+use Rattle.plan_parser_exprs.proofs.Mores.{roomier}
 use Rattle.plan_parser.specs.Values.{value_to}
 use Rattle.plan_parser.proofs.values.+value_to.Goals as goal
 

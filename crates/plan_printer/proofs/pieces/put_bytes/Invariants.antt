@@ -1,6 +1,6 @@
 use Rattle.std.proofs.Common.{◌≡◌, ◌++◌, drop}
 use Rattle.std.specs.List.{flat_map}
-use Rattle.printed_forms.specs.Literals.{byte_text}
+use Rattle.plan_printer_spec.specs.Literals.{byte_text}
 use Rattle.plan_printer.proofs.pieces.put_bytes.Given as goal
 
 abbrev pub invariant-loop-byte : goal.invariant-loop-byte

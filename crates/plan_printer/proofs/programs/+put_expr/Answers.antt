@@ -3,7 +3,7 @@ use Rattle.std.specs.Prelude.{codes}
 use Rattle.std.proofs.lemmas.Result.{on_ok_weaker}
 use Rattle.plan_base.specs.Trees.{trees}
 use Rattle.plan_base.proofs.SizeLaws.{expr_nodes_out}
-use Rattle.printed_forms.specs.Printed.{expr_text}
+use Rattle.plan_printer_spec.specs.Printed.{expr_text}
 use Rattle.plan_printer.proofs.PrintLaws.{expr_text_out, pieces_put}
 use Rattle.plan_printer.proofs.programs.+put_expr.Goals as goal
 

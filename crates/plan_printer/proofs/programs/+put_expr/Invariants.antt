@@ -2,8 +2,8 @@ use Rattle.std.proofs.Common.{◌≡◌, ◌++◌, ◌+◌, ◌*◌, [], drop}
 use Rattle.std.specs.Prelude.{codes}
 use Rattle.std.specs.List.{sum_by}
 use Rattle.plan_base.specs.Sizes.{expr_nodes, clause_nodes}
-use Rattle.printed_forms.specs.Pieces.{listed_pieces}
-use Rattle.printed_forms.specs.Printed.{expr_text, clause_text}
+use Rattle.plan_printer_spec.specs.Pieces.{listed_pieces}
+use Rattle.plan_printer_spec.specs.Printed.{expr_text, clause_text}
 use Rattle.plan_printer.proofs.programs.+put_expr.Given as goal
 
 abbrev pub invariant-put_exprs-loop-e : goal.invariant-put_exprs-loop-e

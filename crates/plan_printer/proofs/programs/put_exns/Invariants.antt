@@ -1,6 +1,6 @@
 use Rattle.std.proofs.Common.{◌≡◌, ◌++◌, drop}
 use Rattle.std.specs.List.{flat_map}
-use Rattle.printed_forms.specs.Printed.{exn_text}
+use Rattle.plan_printer_spec.specs.Printed.{exn_text}
 use Rattle.plan_printer.proofs.programs.put_exns.Given as goal
 
 abbrev pub invariant-loop-name : goal.invariant-loop-name

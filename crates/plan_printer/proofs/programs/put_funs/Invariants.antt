@@ -1,6 +1,6 @@
 use Rattle.std.proofs.Common.{◌≡◌, ◌++◌, drop}
 use Rattle.std.specs.List.{flat_map}
-use Rattle.printed_forms.specs.Printed.{fun_text}
+use Rattle.plan_printer_spec.specs.Printed.{fun_text}
 use Rattle.plan_printer.proofs.programs.put_funs.Given as goal
 
 abbrev pub invariant-loop-fun : goal.invariant-loop-fun

@@ -1,7 +1,7 @@
 use Rattle.std.proofs.Common.{◌≡◌, ◌++◌, [], drop}
 use Rattle.std.specs.Prelude.{codes}
-use Rattle.printed_forms.specs.Pieces.{listed_pieces}
-use Rattle.printed_forms.specs.Printed.{param_text}
+use Rattle.plan_printer_spec.specs.Pieces.{listed_pieces}
+use Rattle.plan_printer_spec.specs.Printed.{param_text}
 use Rattle.plan_printer.proofs.programs.put_params.Given as goal
 
 abbrev pub invariant-loop-param : goal.invariant-loop-param

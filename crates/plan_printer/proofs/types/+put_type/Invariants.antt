@@ -1,6 +1,6 @@
 use Rattle.std.proofs.Common.{◌≡◌, ◌++◌, [], drop}
-use Rattle.printed_forms.specs.Pieces.{listed_pieces}
-use Rattle.printed_forms.specs.Printed.{type_text}
+use Rattle.plan_printer_spec.specs.Pieces.{listed_pieces}
+use Rattle.plan_printer_spec.specs.Printed.{type_text}
 use Rattle.plan_printer.proofs.types.+put_type.Given as goal
 
 abbrev pub invariant-put_types-loop-t : goal.invariant-put_types-loop-t

@@ -1,7 +1,7 @@
 use Rattle.std.proofs.Common.{◌≡◌, ◌++◌, [], drop}
 use Rattle.std.specs.Prelude.{codes}
-use Rattle.printed_forms.specs.Pieces.{listed_pieces}
-use Rattle.printed_forms.specs.Printed.{value_text}
+use Rattle.plan_printer_spec.specs.Pieces.{listed_pieces}
+use Rattle.plan_printer_spec.specs.Printed.{value_text}
 use Rattle.plan_printer.proofs.values.+put_value.Given as goal
 
 abbrev pub invariant-put_values-loop-v : goal.invariant-put_values-loop-v

@@ -1,6 +1,6 @@
 use Rattle.std.proofs.Common.{◌≡◌, ap, refl, arith}
 use Rattle.std.specs.Option.{option_copied}
-use Rattle.typing_rules.specs.TypingOrder.{checked_expression}
+use Rattle.plan_types_spec.specs.TypingOrder.{checked_expression}
 use Rattle.plan_types.proofs.Loops.{deeper}
 use Rattle.plan_types.proofs.body.+check_expr.Goals as goal
 

@@ -1,5 +1,5 @@
 use Rattle.std.proofs.Common.{◌≡◌, take}
-use Rattle.typing_rules.specs.TypingNames.{param_types}
+use Rattle.plan_types_spec.specs.TypingNames.{param_types}
 use Rattle.plan_types.proofs.call.param_types.Given as goal
 
 abbrev pub invariant-loop-param : goal.invariant-loop-param

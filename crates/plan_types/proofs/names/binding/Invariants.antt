@@ -1,5 +1,5 @@
 use Rattle.std.proofs.Common.{◌≡◌, ◌≤◌, length, take}
-use Rattle.typing_rules.specs.TypingNames.{binding}
+use Rattle.plan_types_spec.specs.TypingNames.{binding}
 use Rattle.plan_types.proofs.names.binding.Given as goal
 
 abbrev pub invariant-loop-left : goal.invariant-loop-left

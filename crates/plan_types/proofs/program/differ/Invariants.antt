@@ -1,6 +1,6 @@
 use Rattle.std.proofs.Common.{◌≡◌, [], length}
-use Rattle.typing_rules.specs.Typing.{param_names}
-use Rattle.typing_rules.specs.TypingNames.{are_new}
+use Rattle.plan_types_spec.specs.Typing.{param_names}
+use Rattle.plan_types_spec.specs.TypingNames.{are_new}
 use Rattle.plan_types.proofs.program.differ.Given as goal
 
 abbrev pub invariant-loop-all : goal.invariant-loop-all

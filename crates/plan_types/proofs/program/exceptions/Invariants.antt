@@ -1,6 +1,6 @@
 use Rattle.std.proofs.Common.{◌≡◌, ◌++◌, length}
-use Rattle.typing_rules.specs.TypingNames.{built_in}
-use Rattle.typing_rules.specs.TypingOrder.{exceptions_from}
+use Rattle.plan_types_spec.specs.TypingNames.{built_in}
+use Rattle.plan_types_spec.specs.TypingOrder.{exceptions_from}
 use Rattle.plan_types.proofs.program.exceptions.Given as goal
 
 abbrev pub invariant-loop-all : goal.invariant-loop-all

@@ -1,5 +1,5 @@
 use Rattle.std.proofs.Common.{◌≡◌, [], length}
-use Rattle.typing_rules.specs.TypingOrder.{services_from}
+use Rattle.plan_types_spec.specs.TypingOrder.{services_from}
 use Rattle.plan_types.proofs.program.services.Given as goal
 
 abbrev pub invariant-loop-all : goal.invariant-loop-all

@@ -1,5 +1,5 @@
 use Rattle.std.proofs.Common.{arith}
-use Rattle.typing_rules.proofs.Same.{same_value_decides}
+use Rattle.plan_types_spec.proofs.Same.{same_value_decides}
 use Rattle.plan_values.proofs.operators.same.Goals as goal
 
 pub returns : goal.returns

@@ -1,8 +1,8 @@
 use Rattle.frag_chunks.specs.Messages.{missing_of}
 use Rattle.frag_chunks.specs.declared.gather.Held.TheVariants as held
-use Rattle.log_gather.proofs.NoteLaws.{key_line}
-use Rattle.log_replay.specs.Nodes.{log_node}
-use Rattle.message_commands.specs.Messages.{notes_of}
+use Rattle.frag_chunks_log.proofs.NoteLaws.{key_line}
+use Rattle.node_log.specs.Nodes.{log_node}
+use Rattle.planet_commands_fleet.specs.Messages.{notes_of}
 use Rattle.planet_cli.proofs.command_laws.messages.Goals as goal
 
 pub returns-clause-whole : goal.returns-clause-whole

@@ -1,4 +1,4 @@
-use Rattle.port_world.proofs.Promises.{keeps_purses}
+use Rattle.reliable_ports_world.proofs.Promises.{keeps_purses}
 use Rattle.planet_cli.proofs.Ports.{ports_pay}
 use Rattle.planet_cli.proofs.command_laws.paid.Goals as goal
 

@@ -1,4 +1,4 @@
-use Rattle.reliable_ports.specs.Scripts.{run, nothing_yet}
+use Rattle.reliable_ports.specs.Scripts.{nothing_yet}
 use Rattle.reliable_ports.proofs.Scripts.{together_run, together_first}
 use Rattle.reliable_ports.proofs.laws.scripts_deliver_in_order.Goals as goal
 

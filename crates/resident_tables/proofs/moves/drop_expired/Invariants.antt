@@ -1,5 +1,5 @@
 use Rattle.std.proofs.Common.{◌≡◌, ◌≤◌, ◌++◌, length, take, drop}
-use Rattle.table_rows.specs.Rows.{living}
+use Rattle.service_api.specs.Rows.{living}
 use Rattle.resident_tables.proofs.moves.drop_expired.Given as goal
 
 abbrev pub invariant-loop-i : goal.invariant-loop-i

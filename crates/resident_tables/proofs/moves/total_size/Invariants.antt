@@ -1,5 +1,5 @@
 use Rattle.std.proofs.Common.{◌≡◌, min, take}
-use Rattle.table_rows.specs.Rows.{rows_size}
+use Rattle.service_api.specs.Rows.{rows_size}
 use Rattle.resident_tables.proofs.moves.total_size.Given as goal
 
 abbrev pub invariant-loop-row : goal.invariant-loop-row

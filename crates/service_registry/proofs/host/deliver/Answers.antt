@@ -2,7 +2,7 @@ use Rattle.std.proofs.Common.{◌≡◌, ℤ, Some, ap, ◌∙◌, sym, w64, ari
 use Rattle.std.proofs.lemmas.Int.{to_z-of_z}
 use mir.Val.{to_z, of_z}
 use Rattle.plan_base.specs.declared.tree.Value.{out-Value}
-use Rattle.service_meaning.specs.Answers.{delivered_answer, of_int, of_two}
+use Rattle.service_registry_spec.specs.Answers.{delivered_answer, of_int, of_two}
 use Rattle.service_registry.proofs.ArgumentReads.{two_items, int_read, meets_as}
 use Rattle.service_registry.proofs.host.deliver.Goals as goal
 

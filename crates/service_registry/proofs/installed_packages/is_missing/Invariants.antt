@@ -1,5 +1,5 @@
 use Rattle.std.proofs.Common.{◌≡◌, length}
-use Rattle.service_meaning.specs.Beginning as spec
+use Rattle.service_registry_spec.specs.Beginning as spec
 use Rattle.service_registry.proofs.installed_packages.is_missing.Given as goal
 
 abbrev pub invariant-loop-rest : goal.invariant-loop-rest

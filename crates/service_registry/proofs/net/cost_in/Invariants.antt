@@ -1,6 +1,6 @@
 use Rattle.std.proofs.Common.{◌≡◌, length}
 use Rattle.service_api.specs.Services.{Rows}
-use Rattle.service_meaning.specs.Answers as spec
+use Rattle.service_registry_spec.specs.Answers as spec
 use Rattle.service_registry.proofs.net.cost_in.Given as goal
 
 abbrev pub invariant-loop-rest : goal.invariant-loop-rest

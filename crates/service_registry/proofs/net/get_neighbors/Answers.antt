@@ -1,8 +1,8 @@
 use Rattle.std.proofs.Common.{map}
 use Rattle.plan_base.specs.declared.tree.Value.TheVariants as value
 use Rattle.service_api.specs.Services.{refused_call}
-use Rattle.service_meaning.specs.Answers.{given_answer, hop_value}
-use Rattle.service_meaning.specs.Offered.{hop_type}
+use Rattle.service_registry_spec.specs.Answers.{given_answer, hop_value}
+use Rattle.service_registry_spec.specs.Offered.{hop_type}
 use Rattle.service_registry.proofs.ArgumentReads.{some_refused, none_given, meets_as}
 use Rattle.service_registry.proofs.net.get_neighbors.Goals as goal
 

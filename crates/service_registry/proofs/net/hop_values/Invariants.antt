@@ -1,5 +1,5 @@
 use Rattle.std.proofs.Common.{◌≡◌, map, take}
-use Rattle.service_meaning.specs.Answers as spec
+use Rattle.service_registry_spec.specs.Answers as spec
 use Rattle.service_registry.proofs.net.hop_values.Given as goal
 
 abbrev pub invariant-loop-neighbour : goal.invariant-loop-neighbour

@@ -1,6 +1,6 @@
 use Rattle.plan_base.specs.declared.tree.Value.TheVariants as value
 use Rattle.service_api.specs.Services.{refused_call}
-use Rattle.service_meaning.specs.Answers.{given_answer}
+use Rattle.service_registry_spec.specs.Answers.{given_answer}
 use Rattle.service_registry.proofs.ArgumentReads.{some_refused, meets_as}
 use Rattle.service_registry.proofs.net.this_host.Goals as goal
 

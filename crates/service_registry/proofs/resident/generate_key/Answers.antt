@@ -1,6 +1,6 @@
-use Rattle.table_rows.specs.Rows.{fresh_key}
+use Rattle.service_api.specs.Rows.{fresh_key}
 use Rattle.service_api.specs.Services.{refused_call}
-use Rattle.service_meaning.specs.Answers.{key_answer}
+use Rattle.service_registry_spec.specs.Answers.{key_answer}
 use Rattle.service_registry.specs.RegistryState.{rows_over}
 use Rattle.service_registry.proofs.ArgumentReads.{some_refused, meets_as}
 use Rattle.service_registry.proofs.resident.generate_key.Goals as goal

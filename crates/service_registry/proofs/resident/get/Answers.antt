@@ -4,10 +4,10 @@ use Rattle.std.specs.Option.{option_copied}
 use mir.Val.{to_z, of_z}
 use Rattle.plan_base.specs.declared.tree.Ty.{Ty}
 use Rattle.plan_base.specs.declared.tree.Value.{Value}
-use Rattle.table_rows.specs.Rows.{got}
+use Rattle.service_api.specs.Rows.{got}
 use Rattle.service_api.specs.declared.ctx.Ctx.{Ctx}
 use Rattle.service_api.specs.Services.{Rows, Served, refused_call}
-use Rattle.service_meaning.specs.Answers.{got_answer, raised_answer, not_found, key_of}
+use Rattle.service_registry_spec.specs.Answers.{got_answer, raised_answer, not_found, key_of}
 use Rattle.service_registry.specs.RegistryState.{rows_over}
 use Rattle.service_registry.proofs.ArgumentReads.{named_other, named_by, two_items, get_or_any, meets_as}
 use Rattle.service_registry.proofs.resident.get.Goals as goal

@@ -2,9 +2,9 @@ use Rattle.std.proofs.Common.{◌≡◌, ℕ, ◌+◌, min, length, get_or, Some
 use Rattle.std.proofs.lemmas.Int.{to_z-of_z}
 use Rattle.std.specs.Option.{option_copied}
 use mir.Val.{to_z, of_z}
-use Rattle.typing_rules.specs.Rules.{bad_index}
+use Rattle.plan_types_spec.specs.Rules.{bad_index}
 use Rattle.service_api.specs.Services.{refused_call}
-use Rattle.service_meaning.specs.Answers.{raised_answer, table_full}
+use Rattle.service_registry_spec.specs.Answers.{raised_answer, table_full}
 use Rattle.service_registry.specs.RegistryState.{rows_over}
 use Rattle.service_registry.proofs.ArgumentReads.{four_items, get_or_any, meets_as, meets_left, rows_path}
 use Rattle.service_registry.proofs.Puts.{put_other, put_by, kept_short, kept_full}

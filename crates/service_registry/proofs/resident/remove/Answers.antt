@@ -1,9 +1,9 @@
 use Rattle.std.proofs.Common.{◌≡◌, ℕ, ℤ, List, length, get_or, Some, None, refl, ap, ◌∙◌, sym, arith}
 use Rattle.std.specs.Option.{option_copied}
 use Rattle.plan_base.specs.declared.tree.Value.TheVariants as value
-use Rattle.table_rows.specs.Rows.{without_row}
+use Rattle.service_api.specs.Rows.{without_row}
 use Rattle.service_api.specs.Services.{Rows, Served, refused_call}
-use Rattle.service_meaning.specs.Answers.{given_answer, key_of}
+use Rattle.service_registry_spec.specs.Answers.{given_answer, key_of}
 use Rattle.service_registry.specs.RegistryState.{rows_over}
 use Rattle.service_registry.proofs.ArgumentReads.{named_other, named_by, two_items, get_or_any, meets_as}
 use Rattle.service_registry.proofs.resident.remove.Goals as goal

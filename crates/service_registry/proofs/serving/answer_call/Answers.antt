@@ -1,7 +1,7 @@
 use Rattle.std.proofs.Common.{◌∙◌, sym}
 use Rattle.std.specs.Option.{option_copied}
 use Rattle.service_api.specs.Services.{refused_call}
-use Rattle.service_meaning.specs.Serving.{serve_at}
+use Rattle.service_registry_spec.specs.Serving.{serve_at}
 use Rattle.service_registry.specs.RegistryState.{rows_over}
 use Rattle.service_registry.specs.Packages.{present_of}
 use Rattle.service_registry.proofs.ArgumentReads.{meets_as}

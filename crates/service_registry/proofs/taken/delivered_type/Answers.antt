@@ -1,7 +1,7 @@
 use Rattle.std.proofs.Common.{◌≡◌, length, get_or, sym, ◌∙◌, arith}
 use Rattle.std.proofs.lemmas.Bool.{false≢true}
-use Rattle.service_meaning.specs.declared.service.Service.TheVariants.{Deliver}
-use Rattle.service_meaning.specs.Offered.{type_of}
+use Rattle.service_registry_spec.specs.declared.service.Service.TheVariants.{Deliver}
+use Rattle.service_registry_spec.specs.Offered.{type_of}
 use Rattle.service_registry.proofs.TakenTypes.{none_found, other_many, two_types, type_any, delivered_found, delivered_needs}
 use Rattle.service_registry.proofs.taken.delivered_type.Goals as goal
 

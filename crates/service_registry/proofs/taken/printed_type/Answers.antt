@@ -1,7 +1,7 @@
 use Rattle.std.proofs.Common.{◌≡◌, length, sym, ◌∙◌, arith}
 use Rattle.std.proofs.lemmas.Bool.{false≢true}
-use Rattle.service_meaning.specs.declared.service.Service.TheVariants.{Print}
-use Rattle.service_meaning.specs.Offered.{type_of}
+use Rattle.service_registry_spec.specs.declared.service.Service.TheVariants.{Print}
+use Rattle.service_registry_spec.specs.Offered.{type_of}
 use Rattle.service_registry.proofs.TakenTypes.{none_found, other_many, one_type, printed_found, printed_needs}
 use Rattle.service_registry.proofs.taken.printed_type.Goals as goal
 

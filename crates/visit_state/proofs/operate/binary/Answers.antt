@@ -1,4 +1,4 @@
-use Rattle.typing_rules.specs.Rules as rules
+use Rattle.plan_types_spec.specs.Rules as rules
 use Rattle.visit_state.proofs.operate.binary.Goals as goal
 
 pub returns : goal.returns

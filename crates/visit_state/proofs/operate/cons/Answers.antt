@@ -1,5 +1,5 @@
 use Rattle.plan_base.specs.declared.tree.Value.{out-Value}
-use Rattle.typing_rules.specs.Rules as rules
+use Rattle.plan_types_spec.specs.Rules as rules
 use Rattle.visit_state.proofs.operate.cons.Goals as goal
 
 pub returns : goal.returns

@@ -1,7 +1,7 @@
 use Rattle.std.proofs.Common.{◌+◌, Ok, Err, sym, ◌∙◌, ap, arith}
 use Rattle.plan_base.specs.declared.limit.Limit.{Limit}
-use Rattle.chunk_spelling.specs.declared.fault.SpellFault.TheVariants.{OverLimit}
-use Rattle.chunk_spelling.specs.Scan.{Scan}
+use Rattle.chunk_codec_spec.specs.declared.fault.SpellFault.TheVariants.{OverLimit}
+use Rattle.chunk_codec_spec.specs.Scan.{Scan}
 use Rattle.chunk_codec.proofs.TagSteps.{expr_tag_nodes, expr_tag_depth, expr_tag_ok}
 use Rattle.chunk_codec.proofs.source.Source.expr_tag.Goals as goal
 

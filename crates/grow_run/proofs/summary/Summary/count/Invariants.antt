@@ -1,6 +1,6 @@
 use Rattle.std.proofs.Common.{◌≡◌, ◌++◌, ◌+◌, ℕ, List, take, map}
-use Rattle.world_model.specs.declared.lines.Entry.{Entry}
-use Rattle.world_model.specs.World.{entry_at}
+use Rattle.net_world_spec.specs.declared.lines.Entry.{Entry}
+use Rattle.net_world_spec.specs.World.{entry_at}
 use Rattle.grow_run.specs.Summaries.{HasRoom, summary_of}
 use Rattle.grow_run.proofs.summary.Summary.count.Given as goal
 

@@ -1,5 +1,5 @@
 use Rattle.std.proofs.Common.{◌∙◌, ◌++◌, ◌∷◌, [], ap, refl}
-use Rattle.world_model.specs.World.{wire_place, lines_at}
+use Rattle.net_world_spec.specs.World.{wire_place, lines_at}
 use Rattle.std.proofs.lemmas.List.{length-set}
 use Rattle.net_world.proofs.StandLaws.{if_ok, given_back, marked_there}
 use Rattle.net_world.proofs.EventLaws.{lent_nodes_stand, none_handed, none_there, one_handed}

@@ -1,6 +1,6 @@
 use Rattle.std.proofs.Common.{◌∙◌, ◌++◌, ◌∷◌, [], ap, refl}
-use Rattle.world_model.specs.declared.lines.Line.TheVariants.{Lost}
-use Rattle.world_model.specs.World.{wire_place}
+use Rattle.net_world_spec.specs.declared.lines.Line.TheVariants.{Lost}
+use Rattle.net_world_spec.specs.World.{wire_place}
 use Rattle.net_world.proofs.StandLaws.{if_ok}
 use Rattle.net_world.proofs.EventLaws.{none_lost, one_lost}
 use Rattle.net_world.proofs.network.Network.lose.Goals as goal

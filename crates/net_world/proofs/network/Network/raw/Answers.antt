@@ -1,8 +1,8 @@
 use Rattle.std.proofs.Common.{◌∙◌, ◌++◌, ap, refl}
 use Rattle.packet_frame.specs.Decoding.{read_by}
-use Rattle.world_model.specs.World.{forged_lines, forged_at}
-use Rattle.node_model.specs.Node.{arrive_step}
-use Rattle.world_model.specs.World.{lines_at}
+use Rattle.net_world_spec.specs.World.{forged_lines, forged_at}
+use Rattle.node_core_spec.specs.Node.{arrive_step}
+use Rattle.net_world_spec.specs.World.{lines_at}
 use Rattle.std.proofs.lemmas.List.{length-set}
 use Rattle.net_world.proofs.StandLaws.{if_ok, given_back}
 use Rattle.net_world.proofs.EventLaws.{lent_nodes_stand, no_step, one_step}

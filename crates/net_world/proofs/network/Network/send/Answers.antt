@@ -1,5 +1,5 @@
 use Rattle.std.proofs.Common.{◌∙◌, ap, refl, subst, ◌≤◌, ◌<◌}
-use Rattle.world_model.specs.World.{far_end}
+use Rattle.net_world_spec.specs.World.{far_end}
 use Rattle.std.proofs.lemmas.List.{length-set}
 use Rattle.net_world.proofs.StandLaws.{if_ok, given_back}
 use Rattle.net_world.proofs.EventLaws.{lent_nodes_stand, no_node_sends, no_end_sends, no_room_sends, none_sent, one_sent}

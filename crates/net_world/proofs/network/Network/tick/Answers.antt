@@ -1,6 +1,6 @@
 use Rattle.std.proofs.Common.{◌∙◌, ◌++◌, ap, refl}
-use Rattle.node_model.specs.Node.{tick_step}
-use Rattle.world_model.specs.World.{none_before, lines_at}
+use Rattle.node_core_spec.specs.Node.{tick_step}
+use Rattle.net_world_spec.specs.World.{none_before, lines_at}
 use Rattle.std.proofs.lemmas.List.{length-set}
 use Rattle.net_world.proofs.StandLaws.{if_ok, given_back}
 use Rattle.net_world.proofs.EventLaws.{lent_nodes_stand, no_step, one_step}

@@ -1,4 +1,4 @@
-use Rattle.network_laws.proofs.Opening.{opening_sound}
+use Rattle.net_world_spec.proofs.Opening.{opening_sound}
 use Rattle.net_world.proofs.world.World.new.Goals as goal
 
 pub returns : goal.returns

@@ -1,9 +1,9 @@
 use Rattle.std.proofs.Common.{sym, subst}
-use Rattle.network_laws.proofs.Balance.{event_balances}
-use Rattle.network_laws.proofs.Fitting.{event_sound}
-use Rattle.network_laws.proofs.Visits.{event_ends}
-use Rattle.network_laws.proofs.Reaching.{event_keeps_routes}
-use Rattle.world_model.specs.World.{acted_event}
+use Rattle.net_world_spec.proofs.Balance.{event_balances}
+use Rattle.net_world_spec.proofs.Fitting.{event_sound}
+use Rattle.net_world_spec.proofs.Visits.{event_ends}
+use Rattle.net_world_spec.proofs.Reaching.{event_keeps_routes}
+use Rattle.net_world_spec.specs.World.{acted_event}
 use Rattle.net_world.specs.Stands.{WorldStands}
 use Rattle.net_world.proofs.StandLaws.{fits_there, typed_fits, typed_there}
 use Rattle.net_world.proofs.world.World.step.Goals as goal

@@ -1,5 +1,5 @@
 use Rattle.std.proofs.Common.{◌++◌, [], ◌∷◌, ap, ◌∙◌, arith}
-use Rattle.node_model.specs.declared.acts.Act.TheVariants.{Injected}
+use Rattle.node_core_spec.specs.declared.acts.Act.TheVariants.{Injected}
 use Rattle.node_core.proofs.StepLaws.{own_result}
 use Rattle.node_core.proofs.node.Node.admit_next.Goals as goal
 

@@ -1,6 +1,6 @@
 use Rattle.std.proofs.Common.{sym, subst}
 use Rattle.packet_frame.specs.Typed.{plain_of}
-use Rattle.node_parts.specs.Carried.{MayBear}
+use Rattle.node_core_parts.specs.Carried.{MayBear}
 use Rattle.node_core.specs.Stands.{with_stamp}
 use Rattle.node_core.proofs.StepLaws.{freshly}
 use Rattle.node_core.proofs.node.Node.arrive_fresh.Goals as goal

@@ -1,6 +1,6 @@
 use Rattle.std.proofs.Common.{sym, subst}
 use Rattle.packet_frame.specs.Typed.{plain_of}
-use Rattle.node_parts.specs.Carried.{MayBear, MayGoOn}
+use Rattle.node_core_parts.specs.Carried.{MayBear, MayGoOn}
 use Rattle.node_core.proofs.node.Node.arrive_read.Goals as goal
 
 pub arrive_stamped-requires-clause-borne : goal.arrive_stamped-requires-clause-borne

@@ -1,5 +1,5 @@
 use Rattle.std.proofs.Common.{sym, ◌∙◌, refl}
-use Rattle.link_window.specs.declared.window.Took.TheVariants.{Repeated, TooOld}
+use Rattle.replay_window.specs.declared.window.Took.TheVariants.{Repeated, TooOld}
 use Rattle.packet_frame.specs.Typed.{plain_of}
 use Rattle.node_core.specs.Stands.{with_stamp}
 use Rattle.node_core.proofs.StepLaws.{fresh_result, stale_result}

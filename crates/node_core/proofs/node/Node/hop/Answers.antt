@@ -2,7 +2,7 @@ use Rattle.std.proofs.Common.{◌∙◌, ap}
 use Rattle.service_api.specs.Routes.{hop}
 use Rattle.dv_routing.specs.Routing.{all_routes}
 use Rattle.dv_routing.proofs.Hops.{one_hop}
-use Rattle.node_model.specs.State.{routing_of}
+use Rattle.node_core_spec.specs.State.{routing_of}
 use Rattle.node_core.proofs.node.Node.hop.Goals as goal
 
 pub returns : goal.returns

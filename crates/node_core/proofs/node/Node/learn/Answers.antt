@@ -1,4 +1,4 @@
-use Rattle.node_model.specs.State.{routing_of}
+use Rattle.node_core_spec.specs.State.{routing_of}
 use Rattle.node_core.proofs.node.Node.learn.Goals as goal
 
 pub returns-clause-stands : goal.returns-clause-stands

@@ -1,5 +1,5 @@
-use Rattle.node_model.proofs.Fitting.{step_fits}
-use Rattle.node_model.proofs.NodeBalance.{step_balances}
+use Rattle.node_core_spec.proofs.Fitting.{step_fits}
+use Rattle.node_core_spec.proofs.NodeBalance.{step_balances}
 use Rattle.node_core.proofs.node.Node.step.Goals as goal
 
 pub returns-clause-balance : goal.returns-clause-balance

@@ -1,5 +1,5 @@
 use Rattle.std.proofs.Common.{refl, sym, subst}
-use Rattle.node_parts.specs.Heard.{TellsAll}
+use Rattle.node_core_parts.specs.Heard.{TellsAll}
 use Rattle.node_core.proofs.StepLaws.{same_stands}
 use Rattle.node_core.proofs.node.Node.visit.Goals as goal
 

@@ -1,7 +1,7 @@
 use Rattle.std.proofs.Common.{rules, refl, subst, sym, ap, ◌∙◌}
 use Rattle.std.specs.Vec.{with_items}
 use Rattle.std.proofs.lemmas.List.{with_items_is, places}
-use Rattle.node_parts.specs.Heard.{TellsAll}
+use Rattle.node_core_parts.specs.Heard.{TellsAll}
 use Rattle.node_core.proofs.StepLaws.{if_ok, on_ok, on_err, same_stands, around_is, visited}
 use Rattle.node_core.proofs.node.Node.visit_with.Goals as goal
 

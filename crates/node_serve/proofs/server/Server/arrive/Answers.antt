@@ -1,4 +1,4 @@
-use Rattle.serve_model.specs.Runs.{arrival}
+use Rattle.node_log.specs.Runs.{arrival}
 use Rattle.node_serve.proofs.FrameLaws.{arrives_quiet}
 use Rattle.node_core.specs.Stands.{version_of}
 use Rattle.node_serve.proofs.Coming.{may_come_always}

@@ -1,6 +1,6 @@
 use Rattle.std.proofs.Common.{length, IsTrue, subst, sym}
-use Rattle.serve_model.proofs.Going.{inject_to_grows}
-use Rattle.serve_model.specs.Runs.{tick, inject_to}
+use Rattle.node_log.proofs.Going.{inject_to_grows}
+use Rattle.node_log.specs.Runs.{tick, inject_to}
 use Rattle.node_serve.proofs.Joining.{goes_then, goes_stopped, no_link}
 use Rattle.node_serve.proofs.server.Server.begin_turn.Goals as goal
 

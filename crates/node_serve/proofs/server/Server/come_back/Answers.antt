@@ -1,8 +1,8 @@
 use Rattle.std.proofs.Common.{◌≡◌, Some, None, refl, arith}
 use Rattle.std.proofs.lemmas.Grind.{common_steps}
-use Rattle.serve_model.specs.Runs.{come_back, make}
-use Rattle.network_plan.specs.Hosts.{dev_of}
-use Rattle.network_plan.specs.declared.event.Event.TheVariants.{Frame}
+use Rattle.node_log.specs.Runs.{come_back, make}
+use Rattle.network_config.specs.Hosts.{dev_of}
+use Rattle.network_config.specs.declared.event.Event.TheVariants.{Frame}
 use Rattle.packet_frame.specs.Stamped.{stamped_bytes}
 use Rattle.node_core.specs.Stands.{version_of}
 use Rattle.node_serve.specs.Desks.{desk}

@@ -1,6 +1,6 @@
 use Rattle.std.proofs.Common.{refl}
-use Rattle.serve_model.specs.Runs.{loop_back, flush, peers_of}
-use Rattle.serve_model.proofs.Going.{flush_grows}
+use Rattle.node_log.specs.Runs.{loop_back, flush, peers_of}
+use Rattle.node_log.proofs.Going.{flush_grows}
 use Rattle.node_serve.proofs.Joining.{still_serving, goes_then, goes_stopped}
 use Rattle.node_serve.proofs.server.Server.end_turn.Goals as goal
 

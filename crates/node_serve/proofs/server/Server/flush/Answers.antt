@@ -1,5 +1,5 @@
 use Rattle.std.proofs.Common.{refl}
-use Rattle.serve_model.specs.Runs.{flush_to, peers_of}
+use Rattle.node_log.specs.Runs.{flush_to, peers_of}
 use Rattle.node_serve.proofs.Turning.{goes_released}
 use Rattle.node_serve.proofs.server.Server.flush.Goals as goal
 

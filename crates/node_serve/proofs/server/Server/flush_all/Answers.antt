@@ -1,6 +1,6 @@
 use Rattle.std.proofs.Common.{◌≡◌, ◌+◌, refl, ap, ◌∙◌, arith}
-use Rattle.serve_model.specs.Runs.{flush_device, flush_to, peers_of}
-use Rattle.network_plan.specs.Hosts.{dev_of}
+use Rattle.node_log.specs.Runs.{flush_device, flush_to, peers_of}
+use Rattle.network_config.specs.Hosts.{dev_of}
 use Rattle.node_serve.proofs.MakeLaws.{flush_none, flush_next}
 use Rattle.node_serve.specs.Desks.{desk}
 use Rattle.node_serve.proofs.Looping.{flush_up}

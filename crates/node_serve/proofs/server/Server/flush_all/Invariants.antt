@@ -1,5 +1,5 @@
 use Rattle.std.proofs.Common.{◌≡◌, ◌≤◌, Ok}
-use Rattle.serve_model.specs.Runs.{flush_to, peers_of}
+use Rattle.node_log.specs.Runs.{flush_to, peers_of}
 use Rattle.node_serve.specs.Desks.{desk}
 use Rattle.node_serve.specs.Goes.{Goes}
 use Rattle.node_serve.proofs.server.Server.flush_all.Given as goal

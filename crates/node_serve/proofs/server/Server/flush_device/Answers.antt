@@ -1,5 +1,5 @@
 use Rattle.std.proofs.Common.{◌≡◌, true, false, arith, refl, sym, ◌∙◌}
-use Rattle.serve_model.specs.Runs.{repeat_send, flush_device, peers_of}
+use Rattle.node_log.specs.Runs.{repeat_send, flush_device, peers_of}
 use Rattle.node_serve.specs.Desks.{desk}
 use Rattle.node_serve.proofs.Joining.{goes_same, goes_as}
 use Rattle.node_serve.proofs.MakeLaws.{no_flush, some_flush, count_is}

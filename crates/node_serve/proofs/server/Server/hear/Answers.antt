@@ -1,6 +1,6 @@
 use Rattle.std.proofs.Common.{◌≡◌, Some, None, take, length, subst, inl, ◌∙◌, arith}
 use Rattle.std.proofs.lemmas.List.{length-take-le}
-use Rattle.serve_model.specs.Runs.{peers_of}
+use Rattle.node_log.specs.Runs.{peers_of}
 use Rattle.node_io.specs.Links.{Heard, HasPeer, next_heard}
 use Rattle.node_serve.proofs.PeerLaws.{peer_small}
 use Rattle.node_serve.proofs.Turning.{hears_frame, hears_nothing, hears_fail, used_one}

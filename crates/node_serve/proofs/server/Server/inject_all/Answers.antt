@@ -1,8 +1,8 @@
 use Rattle.std.proofs.Common.{sym, ap, subst, length, Some, IsTrue, get_or, ◌∙◌, ◌≤◌, ◌<◌}
 use Rattle.std.proofs.lemmas.Option.{slice_get-get_or}
 use Rattle.std.proofs.lemmas.List.Elements.{All-get_or}
-use Rattle.network_plan.specs.NodeRules.{KeepsInject}
-use Rattle.serve_model.specs.Runs.{Running, inject_to, inject_one}
+use Rattle.network_config.specs.NodeRules.{KeepsInject}
+use Rattle.node_log.specs.Runs.{Running, inject_to, inject_one}
 use Rattle.node_serve.specs.Desks.{desk}
 use Rattle.node_serve.proofs.MakeLaws.{inject_next, inject_none}
 use Rattle.node_serve.proofs.Looping.{inject_up, inject_past}

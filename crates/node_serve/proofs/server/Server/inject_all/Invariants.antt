@@ -1,6 +1,6 @@
 use Rattle.std.proofs.Common.{Ok, IsTrue}
 use Rattle.node_io.specs.Links.{LinkState}
-use Rattle.serve_model.specs.Runs.{inject_to}
+use Rattle.node_log.specs.Runs.{inject_to}
 use Rattle.node_serve.specs.Desks.{desk}
 use Rattle.node_serve.specs.Goes.{Goes}
 use Rattle.node_serve.proofs.server.Server.inject_all.Given as goal

@@ -1,7 +1,7 @@
 use Rattle.std.proofs.Common.{Some, IfSome, refl, subst}
-use Rattle.serve_model.specs.Runs.{inject_one, make}
-use Rattle.network_plan.specs.declared.event.Event.TheVariants.{Inject}
-use Rattle.node_model.specs.Fits.{comes_within}
+use Rattle.node_log.specs.Runs.{inject_one, make}
+use Rattle.network_config.specs.declared.event.Event.TheVariants.{Inject}
+use Rattle.node_core_spec.specs.Fits.{comes_within}
 use Rattle.node_serve.specs.Desks.{desk}
 use Rattle.node_serve.proofs.MakeLaws.{inject_stay, inject_makes, not_same, is_same}
 use Rattle.node_serve.proofs.Joining.{goes_same, goes_as}

@@ -1,5 +1,5 @@
-use Rattle.serve_model.specs.Runs.{take_back, loop_back}
-use Rattle.network_plan.specs.Hosts.{dev_of}
+use Rattle.node_log.specs.Runs.{take_back, loop_back}
+use Rattle.network_config.specs.Hosts.{dev_of}
 use Rattle.node_serve.specs.Desks.{desk}
 use Rattle.node_serve.proofs.Joining.{goes_same, goes_as}
 use Rattle.node_serve.proofs.MakeLaws.{no_back, some_back, some_one, count_is}

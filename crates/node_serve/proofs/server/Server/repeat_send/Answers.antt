@@ -1,5 +1,5 @@
 use Rattle.std.proofs.Common.{◌≡◌, refl, ap, ◌∙◌, arith}
-use Rattle.serve_model.specs.Runs.{take_send, repeat_send}
+use Rattle.node_log.specs.Runs.{take_send, repeat_send}
 use Rattle.node_serve.proofs.MakeLaws.{repeat_none, repeat_next}
 use Rattle.node_serve.specs.Desks.{desk}
 use Rattle.node_serve.proofs.Looping.{repeat_up}

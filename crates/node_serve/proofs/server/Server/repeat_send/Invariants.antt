@@ -1,5 +1,5 @@
 use Rattle.std.proofs.Common.{◌≡◌, ◌≤◌, Ok}
-use Rattle.serve_model.specs.Runs.{repeat_send}
+use Rattle.node_log.specs.Runs.{repeat_send}
 use Rattle.node_serve.specs.Desks.{desk}
 use Rattle.node_serve.specs.Goes.{Goes}
 use Rattle.node_serve.proofs.server.Server.repeat_send.Given as goal

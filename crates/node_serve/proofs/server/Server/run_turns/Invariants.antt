@@ -1,5 +1,5 @@
 use Rattle.std.proofs.Common.{◌≡◌, ◌≤◌, IsTrue, Ok, length}
-use Rattle.serve_model.specs.Runs.{time_at}
+use Rattle.node_log.specs.Runs.{time_at}
 use Rattle.node_serve.specs.Desks.{serving}
 use Rattle.node_serve.specs.Goes.{GoesTurns}
 use Rattle.node_serve.proofs.server.Server.run_turns.Given as goal

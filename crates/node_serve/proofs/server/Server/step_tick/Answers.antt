@@ -1,5 +1,5 @@
 use Rattle.std.proofs.Common.{refl}
-use Rattle.network_plan.specs.declared.event.Event.TheVariants.{Tick}
+use Rattle.network_config.specs.declared.event.Event.TheVariants.{Tick}
 use Rattle.node_serve.proofs.server.Server.step_tick.Goals as goal
 
 pub returns : goal.returns

@@ -1,5 +1,5 @@
 use Rattle.std.proofs.Common.{refl}
-use Rattle.network_plan.specs.declared.event.Event.TheVariants.{Take}
+use Rattle.network_config.specs.declared.event.Event.TheVariants.{Take}
 use Rattle.node_serve.proofs.server.Server.take_frame.Goals as goal
 
 pub returns : goal.returns

@@ -1,5 +1,5 @@
 use Rattle.std.proofs.Common.{◌≡◌, true, false, refl, arith, ◌∙◌}
-use Rattle.serve_model.specs.Runs.{tick}
+use Rattle.node_log.specs.Runs.{tick}
 use Rattle.node_serve.specs.Desks.{desk}
 use Rattle.node_serve.proofs.Following.{tick_early}
 use Rattle.node_serve.proofs.MakeLaws.{over_is}

@@ -1,7 +1,7 @@
 use Rattle.std.proofs.Common.{IsTrue, Err, refl, sym, subst, inl, ◌∙◌}
 use Rattle.node_io.specs.Links.{next_heard}
-use Rattle.serve_model.specs.Runs.{hear, begin_turn, end_turn, then_do, peers_of}
-use Rattle.serve_model.proofs.Going.{grows_then, hear_grows, end_turn_grows}
+use Rattle.node_log.specs.Runs.{hear, begin_turn, end_turn, then_do, peers_of}
+use Rattle.node_log.proofs.Going.{grows_then, hear_grows, end_turn_grows}
 use Rattle.node_serve.proofs.Joining.{goes_then, goes_stopped, no_link}
 use Rattle.node_serve.proofs.Turning.{used_one}
 use Rattle.node_serve.proofs.server.Server.turn.Goals as goal

@@ -1,6 +1,6 @@
 use Rattle.std.proofs.Common.{◌≡◌, length}
 use Rattle.std.specs.Option.{option_copied}
-use Rattle.typing_rules.specs.TypingOrder.{parts_from}
+use Rattle.plan_types_spec.specs.TypingOrder.{parts_from}
 use Rattle.plan_types.specs.Checks.{below}
 use Rattle.plan_types.proofs.checker.Checker.add_parts.Given as goal
 

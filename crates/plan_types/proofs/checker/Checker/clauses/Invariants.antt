@@ -1,5 +1,5 @@
 use Rattle.std.proofs.Common.{◌≡◌, [], length}
-use Rattle.typing_rules.specs.TypingOrder.{clauses_from}
+use Rattle.plan_types_spec.specs.TypingOrder.{clauses_from}
 use Rattle.plan_types.specs.Checks.{below}
 use Rattle.plan_types.proofs.checker.Checker.clauses.Given as goal
 

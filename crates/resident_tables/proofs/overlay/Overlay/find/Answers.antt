@@ -1,7 +1,7 @@
 use Rattle.std.proofs.Common.{◌∙◌, ap, subst}
 use Rattle.std.specs.Option.{option_copied}
-use Rattle.plan_items.specs.Keys.{IsUnique}
-use Rattle.table_rows.specs.Rows.{row_key, found_row}
+use Rattle.containers.specs.Keys.{IsUnique}
+use Rattle.service_api.specs.Rows.{row_key, found_row}
 use Rattle.resident_tables.specs.Layers.{Layer, over}
 use Rattle.resident_tables.proofs.Over.{find_put, find_gone, find_base, unique_over}
 use Rattle.resident_tables.proofs.overlay.Overlay.find.Goals as goal

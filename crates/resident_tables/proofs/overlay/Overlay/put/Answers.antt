@@ -1,9 +1,9 @@
 use Rattle.std.proofs.Common.{◌≡◌, ℤ, true, ◌∙◌, ap, sym, subst, w64}
 use Rattle.std.proofs.lemmas.Int.{to_z-of_z}
 use mir.Val.{to_z, of_z}
-use Rattle.plan_items.specs.Keys.{IsUnique}
-use Rattle.table_rows.specs.declared.row.Row.{Row}
-use Rattle.table_rows.specs.Rows.{row_key, put_row, fits}
+use Rattle.containers.specs.Keys.{IsUnique}
+use Rattle.service_api.specs.declared.row.Row.{Row}
+use Rattle.service_api.specs.Rows.{row_key, put_row, fits}
 use Rattle.resident_tables.specs.declared.counts.Counts.{Counts}
 use Rattle.resident_tables.specs.Counted.{counts_of, within}
 use Rattle.resident_tables.specs.Layers.{Layer, over}

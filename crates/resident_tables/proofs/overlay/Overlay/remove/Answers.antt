@@ -1,8 +1,8 @@
 use Rattle.std.proofs.Common.{◌∙◌, ap, sym, w64}
 use Rattle.std.proofs.lemmas.Int.{to_z-of_z}
 use mir.Val.{to_z, of_z}
-use Rattle.plan_items.specs.Keys.{Key}
-use Rattle.table_rows.specs.Rows.{without_row}
+use Rattle.containers.specs.Keys.{Key}
+use Rattle.service_api.specs.Rows.{without_row}
 use Rattle.resident_tables.specs.Counted.{counts_of}
 use Rattle.resident_tables.specs.Layers.{Layer, over}
 use Rattle.resident_tables.proofs.Over.{removed_over, key_named}

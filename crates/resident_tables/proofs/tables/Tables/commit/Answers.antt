@@ -1,5 +1,5 @@
 use Rattle.std.proofs.Common.{◌≡◌, ◌∙◌, Option, rules, ap, sym, subst}
-use Rattle.table_rows.specs.Rows.{rows_size, fits}
+use Rattle.service_api.specs.Rows.{rows_size, fits}
 use Rattle.resident_tables.specs.declared.counts.Counts.{Counts}
 use Rattle.resident_tables.specs.Counted.{bytes_after}
 use Rattle.resident_tables.specs.Expiries.{least_expiry}

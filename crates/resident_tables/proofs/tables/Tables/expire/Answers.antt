@@ -1,5 +1,5 @@
 use Rattle.std.proofs.Common.{◌≡◌, true, min, ◌∙◌, ap, sym, subst}
-use Rattle.table_rows.specs.Rows.{rows_size, fits, living}
+use Rattle.service_api.specs.Rows.{rows_size, fits, living}
 use Rattle.resident_tables.specs.Expiries.{AllStay, least_expiry}
 use Rattle.resident_tables.specs.Tables.{Table}
 use Rattle.resident_tables.proofs.Expiries.{all_living, least_stay}

@@ -1,5 +1,5 @@
 use Rattle.std.specs.Option.{option_copied}
-use Rattle.table_rows.specs.Rows.{row_key}
+use Rattle.service_api.specs.Rows.{row_key}
 use Rattle.resident_tables.specs.PartRows.{part_row}
 use Rattle.resident_tables.proofs.Fits.{fit_is}
 use Rattle.resident_tables.proofs.Over.{has_found}

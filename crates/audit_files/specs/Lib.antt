@@ -1,2 +1,0 @@
-pub mod AuditRules
-pub mod AuditFiles

@@ -1,5 +1,0 @@
-use Rattle.checked_texts.proofs.TypesRead.{type_takes}
-use Rattle.checked_texts.proofs.again.printed_type_reads.Goals as goal
-
-pub returns : goal.returns
-returns c = λ t most f rest p small room h w. type_takes p most room small f rest h w

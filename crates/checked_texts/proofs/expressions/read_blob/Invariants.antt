@@ -1,7 +1,0 @@
-use Rattle.std.proofs.Common.{◌≡◌, true, take}
-use Rattle.std.specs.List.{list_all}
-use Rattle.checked_texts.specs.Exact.{is_byte}
-use Rattle.checked_texts.proofs.expressions.read_blob.Given as goal
-
-abbrev pub invariant-loop-byte : goal.invariant-loop-byte
-invariant-loop-byte l = list_all is_byte (take l.byte-index l.blob) ≡ true

@@ -1,5 +1,0 @@
-use Rattle.checked_texts.proofs.ProgramTokens.{program_lexes}
-use Rattle.checked_texts.proofs.printed.printed_program_lexes.Goals as goal
-
-pub returns : goal.returns
-returns c = λ p h. program_lexes p h

@@ -1,3 +1,0 @@
-pub mod RangeLaws
-pub mod TestLaws
-pub mod Spelled

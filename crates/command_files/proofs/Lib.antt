@@ -1,0 +1,3 @@
+pub mod AuditLaws
+pub mod CutLaws
+pub mod PortLaws

@@ -1,5 +1,0 @@
-use Rattle.file_faults.proofs.ProgramTexts.{text_own}
-use Rattle.file_faults.proofs.programs.program_refusals_hold_no_memory.Goals as goal
-
-pub returns : goal.returns
-returns c = text_own

@@ -1,8 +1,0 @@
-use Rattle.std.proofs.Common.{ap, ◌∙◌}
-use Rattle.fleet_audit.specs.Books.{plus}
-use Rattle.fleet_audit.proofs.ActLaws.{set_adds}
-use Rattle.fleet_audit.proofs.book.Book.add.Goals as goal
-
-pub returns : goal.returns
-returns c =
-    set_adds c.args.f c.args.more c.in-Some.counts c.args.self.now c.set.new.self c.in_ok-set.ensures (c.in-Some.ensures ∙ ap (λ x. plus x c.args.more) c.of.ensures)

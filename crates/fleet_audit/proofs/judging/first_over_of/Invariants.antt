@@ -1,8 +1,0 @@
-use Rattle.std.proofs.Common.{List, []}
-use Rattle.ledger_audit.specs.Crossings.{Crossing}
-use Rattle.fleet_audit.specs.Tallies.{Tallied}
-use Rattle.fleet_audit.proofs.JudgeLaws.{Judging}
-use Rattle.fleet_audit.proofs.judging.first_over_of.Given as goal
-
-abbrev pub invariant-loop-arrival : goal.invariant-loop-arrival
-invariant-loop-arrival l = (sent : List Crossing) → Tallied sent [] l.initial.tallies → Judging sent l.arrived l.arrival-index l.tallies

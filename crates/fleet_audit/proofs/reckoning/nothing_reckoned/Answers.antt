@@ -1,5 +1,0 @@
-use Rattle.fleet_audit.proofs.PastLaws.{nothing_held}
-use Rattle.fleet_audit.proofs.reckoning.nothing_reckoned.Goals as goal
-
-pub returns : goal.returns
-returns c = λ links. record { holds = nothing_held _ c.new-5.ensures c.new.ensures c.new-2.ensures c.new-3.ensures c.new-4.ensures; begin = tt; read = tt }

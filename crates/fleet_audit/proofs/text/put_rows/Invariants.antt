@@ -1,6 +1,0 @@
-use Rattle.std.proofs.Common.{◌≡◌, ◌++◌, take}
-use Rattle.fleet_audit.specs.Texts.{rows_text}
-use Rattle.fleet_audit.proofs.text.put_rows.Given as goal
-
-abbrev pub invariant-loop-row : goal.invariant-loop-row
-invariant-loop-row l = l.out ≡ l.initial.out ++ rows_text (take l.row-index l.rows)

@@ -1,6 +1,0 @@
-pub mod Keys
-pub mod Tallies
-pub mod Books
-pub mod Pasts
-pub mod Ledgers
-pub mod Texts

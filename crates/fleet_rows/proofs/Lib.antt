@@ -1,2 +1,0 @@
-pub mod Injecting
-pub mod Ordering

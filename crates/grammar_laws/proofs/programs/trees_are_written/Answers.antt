@@ -1,5 +1,0 @@
-use Rattle.grammar_laws.proofs.WrittenTrees.{expr_holds}
-use Rattle.grammar_laws.proofs.programs.trees_are_written.Goals as goal
-
-pub returns : goal.returns
-returns c = λ r f g n e. expr_holds e

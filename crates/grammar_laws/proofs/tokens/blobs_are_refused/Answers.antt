@@ -1,5 +1,0 @@
-use Rattle.grammar_laws.proofs.Blobs.{blobs}
-use Rattle.grammar_laws.proofs.tokens.blobs_are_refused.Goals as goal
-
-pub returns : goal.returns
-returns c = blobs

@@ -1,5 +1,0 @@
-use Rattle.grammar_laws.proofs.Strays.{strays}
-use Rattle.grammar_laws.proofs.tokens.strays_are_refused.Goals as goal
-
-pub returns : goal.returns
-returns c = strays

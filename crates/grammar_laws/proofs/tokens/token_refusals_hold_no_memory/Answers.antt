@@ -1,5 +1,0 @@
-use Rattle.grammar_laws.proofs.TokenOwn.{refused_own}
-use Rattle.grammar_laws.proofs.tokens.token_refusals_hold_no_memory.Goals as goal
-
-pub returns : goal.returns
-returns c = refused_own

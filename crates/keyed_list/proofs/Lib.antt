@@ -1,4 +1,0 @@
-pub mod Orders
-pub mod Lists
-pub mod Indexes
-pub mod ByIndex

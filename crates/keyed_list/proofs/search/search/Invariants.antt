@@ -1,9 +1,0 @@
-use Rattle.std.proofs.Common.{◌-◌, map}
-use Rattle.keyed_list.specs.Index.{Splits}
-use Rattle.keyed_list.proofs.search.search.Given as goal
-
-abbrev pub invariant-loop-lo : goal.invariant-loop-lo
-invariant-loop-lo g l = Splits (map g.T.HasKey.key_of l.items) l.order (g.Q.HasKey.key_of l.wanted) l.lo l.hi
-
-abbrev pub decreases-loop-lo : goal.decreases-loop-lo
-decreases-loop-lo g l = l.hi - l.lo

@@ -1,4 +1,0 @@
-pub mod Roomy
-pub mod Order
-pub mod Index
-pub mod Moved

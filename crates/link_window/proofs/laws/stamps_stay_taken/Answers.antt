@@ -1,5 +1,0 @@
-use Rattle.link_window.proofs.Stale.{stale_once_seen, stays}
-use Rattle.link_window.proofs.laws.stamps_stay_taken.Goals as goal
-
-pub returns : goal.returns
-returns c = record { taken = stale_once_seen; stays = stays }

@@ -1,7 +1,0 @@
-use Rattle.std.proofs.Common.{◌≡◌, ◌++◌}
-use Rattle.std.specs.Prelude.{drop}
-use Rattle.log_gather.specs.Texts.{keys_text}
-use Rattle.log_gather.proofs.text.put_keys.Given as goal
-
-abbrev pub invariant-loop-i : goal.invariant-loop-i
-invariant-loop-i l = l.out ++ keys_text (drop l.i l.gather.entries) ≡ l.initial.out ++ keys_text l.gather.entries

@@ -1,8 +1,0 @@
--- The node whose steps a log has.
-use Rattle.service_meaning.specs.Beginning.{opening_standing, present_without}
-use Rattle.network_plan.specs.declared.node.Log.{Log}
-use Rattle.node_model.specs.State.{NodeState, new_node}
-
--- the node of a log: new, with the services that it doesn't lack, and no rows
-abbrev pub log_node : Log → NodeState
-log_node l = new_node l.node (opening_standing (present_without l.missing))

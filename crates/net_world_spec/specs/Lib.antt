@@ -1,0 +1,13 @@
+pub mod Network
+pub mod Truths
+pub mod Walks
+pub mod Roads
+pub mod Routes
+pub mod Led
+pub mod World
+pub mod Counts
+pub mod Sound
+pub mod Texts
+pub mod Wires
+pub mod Visits
+pub mod Numbers

@@ -1,5 +1,0 @@
-use Rattle.network_laws.proofs.Handings.{opening_tells, opening_leaves}
-use Rattle.network_laws.proofs.laws.runs_tell_handings.Goals as goal
-
-pub returns : goal.returns
-returns c = record { past = opening_tells; left = opening_leaves }

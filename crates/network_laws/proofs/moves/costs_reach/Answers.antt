@@ -1,5 +1,0 @@
-use Rattle.network_laws.proofs.Walking.{cost_reaches, dist_within}
-use Rattle.network_laws.proofs.moves.costs_reach.Goals as goal
-
-pub returns : goal.returns
-returns c = record { walk = cost_reaches; dist = dist_within }

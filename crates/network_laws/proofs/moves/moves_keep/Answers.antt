@@ -1,5 +1,0 @@
-use Rattle.network_laws.proofs.Keep.{goes_keep, goes_rise}
-use Rattle.network_laws.proofs.moves.moves_keep.Goals as goal
-
-pub returns : goal.returns
-returns c = record { holds = goes_keep; rises = goes_rise }

@@ -1,5 +1,0 @@
-use Rattle.network_laws.proofs.Walking.{hop_leads, home}
-use Rattle.network_laws.proofs.moves.routes_lead.Goals as goal
-
-pub returns : goal.returns
-returns c = record { other = λ far w x n row h hop. ((hop_leads far w x n row h hop).end, (hop_leads far w x n row h hop).leads); own = home }

@@ -1,6 +1,0 @@
-pub mod Network
-pub mod Truths
-pub mod Walks
-pub mod Roads
-pub mod Routes
-pub mod Led

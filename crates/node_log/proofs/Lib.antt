@@ -1,0 +1,9 @@
+pub mod LineLaws
+pub mod ReplayLaws
+pub mod Printing
+pub mod Within
+pub mod Resting
+pub mod BeginningAgain
+pub mod Going
+pub mod Places
+pub mod Beginning

@@ -1,5 +1,0 @@
-use Rattle.node_model.proofs.Orders.{step_moves}
-use Rattle.node_model.proofs.laws.queues_move_in_order.Goals as goal
-
-pub returns : goal.returns
-returns c = step_moves

@@ -1,5 +1,0 @@
-use Rattle.node_model.proofs.VisitLaws.{settled_keeps}
-use Rattle.node_model.proofs.laws.settled_visit_balance.Goals as goal
-
-pub returns : goal.returns
-returns c = settled_keeps

@@ -1,0 +1,7 @@
+//! Whether two trees are the same.
+#![tactic(auto)]
+
+mod equal;
+mod same;
+
+pub use equal::SameAs;

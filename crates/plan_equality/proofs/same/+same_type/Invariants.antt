@@ -1,5 +1,0 @@
-use Rattle.std.proofs.Common.{◌≡◌, take}
-use Rattle.plan_equality.proofs.same.+same_type.Given as goal
-
-abbrev pub invariant-same_types-loop-i : goal.invariant-same_types-loop-i
-invariant-same_types-loop-i l = take l.i l.a ≡ take l.i l.b

@@ -1,5 +1,0 @@
-use Rattle.plan_base.proofs.SameTypes.{same_decided}
-use Rattle.plan_equality.proofs.same.TySame.is.Goals as goal
-
-pub returns-clause-tested : goal.returns-clause-tested
-returns-clause-tested c = same_decided c.same_type.result c.args.self.now c.args.other.now c.same_type.ensures

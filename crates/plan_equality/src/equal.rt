@@ -1,8 +1,0 @@
-ghost use Rattle.std.specs.Prelude.{◌≡◌, ◌↔◌, IsTrue};
-
-/// Trees that can be compared whole.
-pub trait Same {
-    /// Whether the two trees are the same. Takes no memory.
-    fn is(&self, other: &Self) -> bool
-        ensures { IsTrue result ↔ (self.now ≡ other.now) };
-}

@@ -1,4 +1,0 @@
-use Rattle.plan_grammar.proofs.levels.+expr_to.Given as goal
-
-abbrev pub decreases-expr_to : goal.decreases-expr_to
-decreases-expr_to l = l.room

@@ -1,8 +1,0 @@
-use Rattle.std.proofs.Common.{◌≡◌, ◌-◌, length}
-use Rattle.plan_grammar.specs.declared.joint.Chain.TheVariants as chains
-use Rattle.plan_grammar.specs.Exprs.{chain_from, conjunction, expr_to}
-use Rattle.plan_grammar.proofs.reader.ExprReader.disjunction_from.Given as goal
-
-abbrev pub invariant-loop : goal.invariant-loop
-invariant-loop g l = chain_from (conjunction (expr_to l.self.room) l.self.room) chains.Or (length l.fn.ahead.tokens) l.fn.left l.fn.ahead
-    ≡ chain_from (conjunction (expr_to l.self.room) l.self.room) chains.Or (length l.fn.ahead.tokens - l.counter) l.left l.ahead

@@ -1,4 +1,0 @@
-use Rattle.plan_grammar.proofs.types.+type_to.Given as goal
-
-abbrev pub decreases-type_to : goal.decreases-type_to
-decreases-type_to l = l.room

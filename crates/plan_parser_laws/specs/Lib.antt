@@ -1,0 +1,17 @@
+pub mod Grammar
+pub mod Follow
+pub mod Agenda
+pub mod Answers
+pub mod Faulty
+pub mod Comments
+pub mod Strays
+pub mod ProgramGrammar
+pub mod ProgramAgenda
+pub mod Written
+pub mod ValueGrammar
+pub mod ValueAgenda
+pub mod ValueRefusals
+pub mod Judgements
+pub mod Conditions
+pub mod ChunkConditions
+pub mod Memory

@@ -1,7 +1,0 @@
-use Rattle.std.proofs.Common.{◌≡◌, min, take}
-use Rattle.std.specs.List.{sum_by}
-use Rattle.plan_base.specs.Sizes.{expr_nodes}
-use Rattle.plan_sizes.proofs.depths.ProgramCounted.nodes.Given as goal
-
-abbrev pub invariant-loop-fun : goal.invariant-loop-fun
-invariant-loop-fun l = l.total ≡ min (sum_by (λ f. expr_nodes f.body) (take l.fun-index l.fun-items)) 4294967295

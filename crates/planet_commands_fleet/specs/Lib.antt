@@ -1,0 +1,5 @@
+pub mod Audits
+pub mod Asks
+pub mod Fleets
+pub mod Nodes
+pub mod Messages

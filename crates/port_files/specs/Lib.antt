@@ -1,2 +1,0 @@
-pub mod PortRules
-pub mod PortFiles

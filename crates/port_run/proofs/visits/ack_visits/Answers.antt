@@ -1,7 +1,0 @@
-use Rattle.std.proofs.Common.{refl}
-use Rattle.port_run.specs.Visits.{ack_allowed}
-use Rattle.port_run.proofs.Closed.{ack_closed}
-use Rattle.port_run.proofs.visits.ack_visits.Goals as goal
-
-pub returns : goal.returns
-returns c offer dest next s good serves = ack_closed (ack_allowed offer dest next) dest next refl serves.here serves.purse serves.notes s good

@@ -1,5 +1,0 @@
-use Rattle.port_world.proofs.Promises.{keeps_purses}
-use Rattle.port_world.proofs.laws.ports_keep_purses.Goals as goal
-
-pub returns : goal.returns
-returns c = keeps_purses

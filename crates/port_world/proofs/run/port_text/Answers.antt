@@ -1,5 +1,0 @@
-use Rattle.std.proofs.Common.{arith}
-use Rattle.port_world.proofs.run.port_text.Goals as goal
-
-pub text_of-text-requires-clause-cost : goal.text_of-text-requires-clause-cost
-text_of-text-requires-clause-cost g c = omega (arith, c.in_ok-ports.ensures.cost, c.requires.keeps.second)

@@ -1,9 +1,0 @@
-pub mod Networks
-pub mod Told
-pub mod Lines
-pub mod Saying
-pub mod Scripts
-pub mod Texts
-pub mod Limits
-pub mod Stands
-pub mod Keeping

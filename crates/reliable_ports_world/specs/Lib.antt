@@ -1,0 +1,15 @@
+pub mod Known
+pub mod Only
+pub mod Visits
+pub mod Ports
+pub mod Allowed
+pub mod Paid
+pub mod Networks
+pub mod Told
+pub mod Lines
+pub mod Saying
+pub mod Scripts
+pub mod Texts
+pub mod Limits
+pub mod Stands
+pub mod Keeping

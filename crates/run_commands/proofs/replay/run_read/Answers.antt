@@ -1,6 +1,0 @@
-use Rattle.std.proofs.Common.{map, ap, ◌∙◌}
-use Rattle.world_model.specs.World.{opening_services}
-use Rattle.run_commands.proofs.replay.run_read.Goals as goal
-
-pub run-requires : goal.run-requires
-run-requires g c = record { rules = c.requires; services = c.in-Ok.ensures ∙ ap (map opening_services) c.as_slice.ensures }

@@ -1,4 +1,0 @@
-pub mod ByFamily
-pub mod Grants
-pub mod LineLaws
-pub mod Runs

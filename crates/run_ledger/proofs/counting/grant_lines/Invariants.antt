@@ -1,6 +1,0 @@
-use Rattle.std.proofs.Common.{take}
-use Rattle.run_ledger.specs.Counting.{Granted}
-use Rattle.run_ledger.proofs.counting.grant_lines.Given as goal
-
-abbrev pub invariant-loop-line : goal.invariant-loop-line
-invariant-loop-line l = Granted (take l.line-index l.lines) l.initial.ledger l.ledger

@@ -1,5 +1,0 @@
-use Rattle.run_ledger.proofs.LineLaws.{nothing_stands}
-use Rattle.run_ledger.proofs.laws.ledgers_begin.Goals as goal
-
-pub returns : goal.returns
-returns c = nothing_stands

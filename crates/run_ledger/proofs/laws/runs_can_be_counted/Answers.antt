@@ -1,5 +1,0 @@
-use Rattle.run_ledger.proofs.Runs.{event_fits_ledger}
-use Rattle.run_ledger.proofs.laws.runs_can_be_counted.Goals as goal
-
-pub returns : goal.returns
-returns c = event_fits_ledger

@@ -1,5 +1,0 @@
-use Rattle.service_meaning.proofs.Goods.{serve_good}
-use Rattle.service_meaning.proofs.laws.answers_are_good.Goals as goal
-
-pub returns : goal.returns
-returns c = serve_good

@@ -1,5 +1,0 @@
-use Rattle.settled_visit.proofs.Sums.{ok_balance}
-use Rattle.settled_visit.proofs.settling.settle.Goals as goal
-
-pub returns-clause-balance : goal.returns-clause-balance
-returns-clause-balance c = ok_balance c.args.p.now c.args.ctx.now c.args.v c.settle_by.result c.settle_by.ensures

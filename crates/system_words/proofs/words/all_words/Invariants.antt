@@ -1,7 +1,0 @@
-use Rattle.std.proofs.Common.{◌≡◌, take}
-use Rattle.std.specs.Prelude.{map}
-use Rattle.system_words.specs.Words.{word_of}
-use Rattle.system_words.proofs.words.all_words.Given as goal
-
-abbrev pub invariant-loop-argument : goal.invariant-loop-argument
-invariant-loop-argument l = l.words ≡ map word_of (take l.argument-index l.arguments)

@@ -1,0 +1,16 @@
+pub mod Lexes
+pub mod Proper
+pub mod PrintedTokens
+pub mod Reads
+pub mod Readable
+pub mod Exact
+pub mod ReadBack
+pub mod Outside
+pub mod Later
+pub mod Skipping
+pub mod Words
+pub mod Configs
+pub mod Asks
+pub mod Fleets
+pub mod Ends
+pub mod Given

@@ -1,0 +1,76 @@
+-- As many arrows, crosses and ends as frames, losses and visits.
+use Rattle.std.proofs.Common.{◌≡◌, ℕ, Bool, List, [], ◌∷◌, ◌+◌, cond, refl, sym, ap, ◌∙◌, map}
+use Rattle.std.proofs.lemmas.List.Sums.{sum_by-cons}
+use Rattle.std.specs.List.{count_by}
+use Rattle.trace_chart_picture.specs.declared.line.Line.{Line}
+use Rattle.trace_chart_picture.specs.declared.line.Line.TheVariants.{Injected, Forged, Arrived, Asked, Printed, Delivered, Gave, Raised, Spent, Handled, Queued, Dropped, Refused, Advert, Heard, Ticked, Sent, Wire, WireShown, Off, Again, Lost, LostAdvert, Nothing}
+use Rattle.trace_chart_picture.specs.Counts.{is_frame, is_loss, is_visit}
+use Rattle.trace_chart_picture.specs.declared.drawing.Kind.{Kind}
+use Rattle.trace_chart_picture.specs.declared.line.Entry.{Entry}
+use Rattle.trace_chart_picture.specs.declared.line.Trace.{Trace}
+use Rattle.trace_chart_picture.specs.declared.drawing.Drawing.{Drawing}
+use Rattle.trace_chart_picture.specs.Kinds.{kind_of, label_text, is_arrow, is_cross, is_end}
+use Rattle.trace_chart_picture.specs.Charts.{lines_of, kinds_of, labels_of, Draws}
+
+-- a line and what it is drawn as are counted alike
+record Alike (l : Line) : Type 0 where
+  arrow : is_arrow (kind_of l) ≡ is_frame l
+  cross : is_cross (kind_of l) ≡ is_loss l
+  ending : is_end (kind_of l) ≡ is_visit l
+
+alike : (l : Line) → Alike l
+alike (Injected h f bound) = record { arrow = refl; cross = refl; ending = refl }
+alike (Forged h f bound) = record { arrow = refl; cross = refl; ending = refl }
+alike (Arrived h d) = record { arrow = refl; cross = refl; ending = refl }
+alike (Asked h) = record { arrow = refl; cross = refl; ending = refl }
+alike (Printed h v) = record { arrow = refl; cross = refl; ending = refl }
+alike (Delivered h p v) = record { arrow = refl; cross = refl; ending = refl }
+alike (Gave h f v evals rest) = record { arrow = refl; cross = refl; ending = refl }
+alike (Raised h f x evals rest) = record { arrow = refl; cross = refl; ending = refl }
+alike (Spent h f rest) = record { arrow = refl; cross = refl; ending = refl }
+alike (Handled h f n bound) = record { arrow = refl; cross = refl; ending = refl }
+alike (Queued h d f bound) = record { arrow = refl; cross = refl; ending = refl }
+alike (Dropped h r f bound) = record { arrow = refl; cross = refl; ending = refl }
+alike (Refused h why) = record { arrow = refl; cross = refl; ending = refl }
+alike (Advert h d) = record { arrow = refl; cross = refl; ending = refl }
+alike (Heard h d) = record { arrow = refl; cross = refl; ending = refl }
+alike (Ticked h now) = record { arrow = refl; cross = refl; ending = refl }
+alike (Sent h d x) = record { arrow = refl; cross = refl; ending = refl }
+alike (Wire number) = record { arrow = refl; cross = refl; ending = refl }
+alike (WireShown number hex) = record { arrow = refl; cross = refl; ending = refl }
+alike (Off number) = record { arrow = refl; cross = refl; ending = refl }
+alike (Again number) = record { arrow = refl; cross = refl; ending = refl }
+alike (Lost f bound) = record { arrow = refl; cross = refl; ending = refl }
+alike LostAdvert = record { arrow = refl; cross = refl; ending = refl }
+alike Nothing = record { arrow = refl; cross = refl; ending = refl }
+
+-- a count over the kinds is the count over the lines
+same_count : (p : Kind → Bool) (q : Line → Bool) → ((l : Line) → p (kind_of l) ≡ q l) → (ls : List Line) → count_by p (map kind_of ls) ≡ count_by q ls
+same_count p q same [] = refl
+same_count p q same (l ∷ ls) =
+    sum_by-cons (λ (k : Kind). cond (p k) 1 0) (kind_of l) (map kind_of ls)
+    ∙ ap (λ (b : Bool). cond b 1 0 + count_by p (map kind_of ls)) (same l)
+    ∙ ap (λ (n : ℕ). cond (q l) 1 0 + n) (same_count p q same ls)
+    ∙ sym (sum_by-cons (λ (x : Line). cond (q x) 1 0) l ls)
+
+arrow_count : (ks : List Kind) (ls : List Line) → ks ≡ map kind_of ls → count_by is_arrow ks ≡ count_by is_frame ls
+arrow_count ks ls e = rw e (same_count is_arrow is_frame (λ l. (alike l).arrow) ls)
+
+cross_count : (ks : List Kind) (ls : List Line) → ks ≡ map kind_of ls → count_by is_cross ks ≡ count_by is_loss ls
+cross_count ks ls e = rw e (same_count is_cross is_loss (λ l. (alike l).cross) ls)
+
+end_count : (ks : List Kind) (ls : List Line) → ks ≡ map kind_of ls → count_by is_end ks ≡ count_by is_visit ls
+end_count ks ls e = rw e (same_count is_end is_visit (λ l. (alike l).ending) ls)
+
+-- what the marks, their labels and the ledger have to be
+pub draws : (t : Trace) (d : Drawing) (es : List Entry) → es ≡ t.entries → kinds_of d.marks ≡ map kind_of (lines_of es) → labels_of d.marks ≡ map label_text (lines_of es) → d.ledger ≡ t.ledger → Draws t d
+draws t d es e kinds labels ledger =
+    let known : kinds_of d.marks ≡ map kind_of (lines_of t.entries) = kinds ∙ ap (λ (xs : List Entry). map kind_of (lines_of xs)) e in
+    record {
+      kinds = known;
+      labels = labels ∙ ap (λ (xs : List Entry). map label_text (lines_of xs)) e;
+      arrows = arrow_count (kinds_of d.marks) (lines_of t.entries) known;
+      crosses = cross_count (kinds_of d.marks) (lines_of t.entries) known;
+      ends = end_count (kinds_of d.marks) (lines_of t.entries) known;
+      ledger = ledger;
+    }

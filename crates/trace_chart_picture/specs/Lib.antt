@@ -1,0 +1,10 @@
+pub mod Counts
+pub mod Lines
+pub mod Traces
+pub mod Kinds
+pub mod Signs
+pub mod Escapes
+pub mod Places
+pub mod Styles
+pub mod Pictures
+pub mod Charts

@@ -1,9 +1,0 @@
-pub mod Stands
-pub mod Forms
-pub mod Exprs
-pub mod Named
-pub mod Names
-pub mod Programs
-pub mod Own
-pub mod ChunkFirsts
-pub mod ChunkOwn

@@ -1,5 +1,0 @@
-use Rattle.typing_order.proofs.ChunkFirsts.{first_is}
-use Rattle.typing_order.proofs.first_failing_is_answered.Goals as goal
-
-pub returns : goal.returns
-returns c = λ k i w f. first_is k w f i

@@ -1,4 +1,0 @@
-pub mod Judgements
-pub mod Conditions
-pub mod ChunkConditions
-pub mod Memory

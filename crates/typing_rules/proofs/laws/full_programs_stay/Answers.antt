@@ -1,5 +1,0 @@
-use Rattle.typing_rules.proofs.Programs.{fills_itself, fills_full}
-use Rattle.typing_rules.proofs.laws.full_programs_stay.Goals as goal
-
-pub returns : goal.returns
-returns c = record { same = fills_full; itself = fills_itself }
