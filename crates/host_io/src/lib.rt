@@ -8,6 +8,7 @@ mod host_clock;
 mod host_files;
 mod host_sink;
 mod host_spawner;
+mod stack;
 mod udp_link;
 mod words;
 
@@ -16,5 +17,6 @@ pub use host_clock::HostClock;
 pub use host_files::HostFiles;
 pub use host_sink::HostSink;
 pub use host_spawner::HostSpawner;
+pub use stack::take_stack;
 pub use udp_link::UdpLink;
 pub use words::{program_of, words_of};
