@@ -9,10 +9,10 @@ mod words;
 
 pub use by_words::run;
 pub use call_laws::{
-    accepted, asked, complete, cut_notes, explained, files, fleet_lines, fleet_stops, front, grow_ends,
-    link_fault, made, no_arrivals, no_frames, no_link_fault, no_moments, no_nodes_failed,
-    no_spawn_fault, no_starts, note, own, read_fault, refused, refused_always, silent, spawn_fault,
-    statuses, unserved, usage, usage_always, whole, write_fault,
+    accepted, asked, complete, cut_notes, explained, files, fleet_lines, fleet_stops, front,
+    grow_ends, link_fault, made, no_arrivals, no_frames, no_link_fault, no_moments,
+    no_nodes_failed, no_spawn_fault, no_starts, note, own, read_fault, refused, refused_always,
+    silent, spawn_fault, statuses, unserved, usage, usage_always, whole, write_fault,
 };
 pub use command_laws::{
     audit_asked, audited, checked, failed_keeps, fleet, fleet_accepts_once, fleet_adds_up,
