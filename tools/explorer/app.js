@@ -89,20 +89,21 @@ class Page {
     const box = byId("verdict");
     box.title = "";
     box.className = "good";
-    if (run.differences.length > 0) {
+    if (run.gap > 0) {
+      box.className = "bad";
+      say(box, `lines are missing, first before line ${run.gap}, so counts and places may be wrong`);
+    } else if (run.differences.length > 0) {
       box.className = "bad";
       box.title = run.differences.slice(0, 50).join("\n");
       say(box, `the ledger isn't what the lines make: ${run.differences[0]}${run.differences.length > 1 ? `, and ${run.differences.length - 1} more` : ""}`);
-    } else if (run.gap > 0) {
-      box.className = "bad";
-      say(box, `lines are missing, first before line ${run.gap}, so counts and places may be wrong`);
     } else if (run.accounts.unbalanced) {
       box.className = "bad";
       say(box, `the counts of ${run.accounts.unbalanced.family} don't add up from event ${run.number(run.accounts.unbalanced.event)} on`);
     } else if (run.ledger && !run.fault) {
       const { length } = run.ledger;
       say(box, `the ledger of ${length} ${length === 1 ? "family" : "families"} is what the lines make`);
-    } else say(box, run.fault ? "the trace ends early, so it has no ledger to compare with" : "a node's log: it has no ledger, and frames come from outside");
+    } else if (run.fault) say(box, "the trace ends early, so it has no ledger to compare with");
+    else say(box, run.hasWire ? "the trace has no ledger to compare with" : "a node's log: it has no ledger, and frames come from outside");
   }
 
   fillChoices() {

@@ -1,4 +1,4 @@
-// Made of tools/planet_tools/trace_forms.json by tools/explore; scripts/test/explorer compares the two.
+// Made of tools/planet_tools/trace_forms.json by tools/explore --make.
 export const FORMS = {
  "about": [
   "The forms of all lines of traces (with their ledgers) and of logs of nodes.",
@@ -10,25 +10,25 @@ export const FORMS = {
  "types": {
   "number": {
    "as": "number",
-   "pattern": "(?:0|[1-9][0-9]*)"
+   "pattern": "(?:0|[1-9][0-9]{0,19})"
   },
   "numbers": {
    "as": "numbers",
-   "pattern": "(?:0|[1-9][0-9]*)(?: (?:0|[1-9][0-9]*))*"
+   "pattern": "(?:0|[1-9][0-9]{0,19})(?: (?:0|[1-9][0-9]{0,19}))*"
   },
   "host": {
    "as": "number",
    "mark": "@",
-   "pattern": "(?:0|[1-9][0-9]*)"
+   "pattern": "(?:0|[1-9][0-9]{0,19})"
   },
   "device": {
    "as": "number",
    "mark": "%",
-   "pattern": "(?:0|[1-9][0-9]*)"
+   "pattern": "(?:0|[1-9][0-9]{0,19})"
   },
   "family": {
    "as": "text",
-   "pattern": "(?:0|[1-9][0-9]*)\\.(?:0|[1-9][0-9]*)"
+   "pattern": "(?:0|[1-9][0-9]{0,19})\\.(?:0|[1-9][0-9]{0,19})"
   },
   "name": {
    "as": "text",

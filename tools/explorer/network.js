@@ -2,6 +2,7 @@
 import { NEVER } from "./columns.js";
 import { colourOf, cutText, svg } from "./dom.js";
 import { fitted, spread } from "./layout.js";
+import { isOfAdvert } from "./lines.js";
 import { markPath, signOf } from "./signs.js";
 
 const STEP = 9;
@@ -253,7 +254,7 @@ export class Network {
 
   /** Marks what the event itself did: its hosts, its link, and a cross where a frame was lost. */
   showEvent(event, choice) {
-    const told = this.told(event);
+    const told = this.told(event, choice);
     for (const [number, { host, clock, signs }] of this.hostMarks) {
       host.classList.toggle("acting", told.signs.has(number));
       host.classList.toggle("chosen", choice.host === number);
@@ -271,10 +272,12 @@ export class Network {
     this.showLost(told.lost);
   }
 
-  told(event) {
+  /** What an event did: by hosts its signs, the ways that its frame took, and the frame that was lost. Adverts and ticks only where they are shown. */
+  told(event, choice) {
     const [first, behind] = this.run.linesOf(event);
     const told = { signs: new Map(), ways: new Set(), lost: null };
     for (let line = first; line < behind; line += 1) {
+      if ((!choice.ticks && this.run.lineKinds[line - 2] === "tick") || (!choice.adverts && isOfAdvert(this.run, line - 2))) continue;
       const [kind, host, index] = [this.run.lineKinds[line - 2], this.run.lineHosts.at(line - 2), this.run.lineFrames.at(line - 2)];
       const frame = index < 0 ? null : this.run.frames[index];
       if (frame && (kind === "off" || kind === "again" || kind === "wire")) told.ways.add(`${frame.host} ${frame.device}`);

@@ -1,7 +1,7 @@
 // A run that was read: what stands where after each event. Events have places from 0; after place -1 nothing has happened.
 import { differences } from "./accounts.js";
 import { RunBuilder, SPACING } from "./build.js";
-import { NEVER, lastAtMost, lastOf } from "./columns.js";
+import { lastAtMost, lastOf } from "./columns.js";
 import { decoded, readLine, readTrace } from "./reader.js";
 
 /** The events that change a queue's front, so that what is behind the front can be found: the latest leaving of all frames up to each. */
@@ -165,4 +165,3 @@ export function stateWords(run, event) {
   return { queues, wire };
 }
 
-export { NEVER };

@@ -1,4 +1,5 @@
 // What the page says of packets and frames.
+import { NEVER } from "./columns.js";
 
 const BEGINNINGS = {
   injected: "injected", forged: "forged", entered: "came from outside", sent: "sent by a visit", handler: "sent to the handler", unknown: "of lines that are missing",
@@ -38,12 +39,11 @@ export function whereabouts(run, packet, event) {
 
 /** The way of one frame as rows of event and words. */
 export function steps(run, frame) {
-  const never = 0x7fffffff;
   const found = [];
-  const add = (event, text) => event !== never && found.push({ event, text });
-  add(frame.queued, `queued @${frame.host} %${frame.device}, bound ${frame.bound}`);
-  if (frame.outside !== never) add(frame.outside, `sent outside on @${frame.host} %${frame.device}`);
-  else if (frame.on !== never) add(frame.on, `on the wire as frame ${frame.number}, ${towards(run, frame)}`);
+  const add = (event, text) => event !== NEVER && found.push({ event, text });
+  add(frame.queued, `queued @${frame.host} %${frame.device}${frame.packet < 0 ? "" : `, bound ${frame.bound}`}`);
+  if (frame.outside !== NEVER) add(frame.outside, `sent outside on @${frame.host} %${frame.device}`);
+  else if (frame.on !== NEVER) add(frame.on, `on the wire as frame ${frame.number}, ${towards(run, frame)}`);
   else add(frame.sent, "sent");
   for (const handing of frame.handings ?? []) {
     const stays = handing !== frame.off;

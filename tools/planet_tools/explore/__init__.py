@@ -1,0 +1,1 @@
+"""The command `explore`: a page that looks into a run."""
