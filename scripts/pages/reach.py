@@ -191,23 +191,41 @@ def words_of_type(declared: Type) -> list[str]:
 
 
 def reached(graph: Graph, roots: list[Place]) -> tuple[list[Place], list[str]]:
-    """Returns all that the roots reach, each behind what it cites, and what is found nowhere."""
-    order: dict[Place, None] = {}
+    """Returns all that the roots reach, each behind what it cites, by crate, lowest first; and what is found nowhere."""
+    order: dict[Place, list[Place]] = {}
     seen: set[Place] = set()
     lost: list[str] = []
-    waiting: list[tuple[Place, bool]] = [(it, False) for it in reversed(roots)]
+    waiting: list[tuple[Place, list[Place] | None]] = [(it, None) for it in reversed(roots)]
     while waiting:
-        place, is_done = waiting.pop()
-        if is_done:
-            order[place] = None
+        place, done = waiting.pop()
+        if done is not None:
+            order[place] = done
         elif place not in seen:
             seen.add(place)
-            waiting.append((place, True))
+            cited: list[Place] = []
             try:
-                cited = graph.cited(place)
+                cited = sorted(set(graph.cited(place)), key=dataclasses.astuple, reverse=True)
             except Nowhere as it:
                 lost.append(str(it))
-                continue
-            cited = sorted(set(cited), key=dataclasses.astuple, reverse=True)
-            waiting += [(it, False) for it in cited if it not in seen]
-    return list(order), lost
+            waiting.append((place, cited))
+            waiting += [(it, None) for it in cited if it not in seen]
+    return by_crate(order), lost
+
+
+def by_crate(order: dict[Place, list[Place]]) -> list[Place]:
+    """Returns these by crate, lowest first, and in each by file as far as what is cited stands before what cites it."""
+    rank = {name: at for at, name in enumerate(crates())}
+    place_in = {it: at for at, it in enumerate(order)}
+    found: list[Place] = []
+    left = sorted(order, key=lambda it: rank.get(it.crate, -1))
+    done: set[Place] = set()
+    while left:
+        # what is cited and found no earlier is cited in a circle
+        ready = [it for it in left if it.crate == left[0].crate
+                 and all(one in done or place_in[one] >= place_in[it] for one in order[it])]
+        last = found[-1] if found else ready[0]
+        following = [it for it in ready if (it.kind, it.module) == (last.kind, last.module)] or ready
+        found.append(following[0])
+        done.add(following[0])
+        left.remove(following[0])
+    return found
