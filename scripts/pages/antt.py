@@ -6,7 +6,7 @@ defines or imports, or else it is told as found nowhere."""
 import dataclasses
 import pathlib
 import re
-from typing import Dict, Iterator, List, Optional, Set, Tuple
+from typing import Dict, Iterator, List, Optional, Sequence, Set, Tuple, Union
 
 NAME = r"(?P<name>◌\S*◌|[^\s:(){}=,;.]+)"
 BEGIN = re.compile(r"(?P<kind>(?:pub )?(?:record |data )(?:pub )?)" + NAME + r"(?= *[:({])"
@@ -144,14 +144,26 @@ def parts_of(it: Definition) -> Iterator[str]:
                 yield from found[1].split(" ")
 
 
-def tokens_of(text: str) -> List[str]:
+class Token(str):
+    """A word or a sign, with its place in the text."""
+    at: int
+
+    def __new__(cls, text: str, at: int) -> "Token":
+        it = super().__new__(cls, text)
+        it.at = at
+        return it
+
+
+def tokens_of(text: str) -> List[Token]:
     """Returns the words and signs of a text without comments; the dot of a field is `.f`, that of a binder `.`."""
-    tokens: List[str] = []
+    tokens: List[Token] = []
+    place = 0
     for line in text.split("\n"):
         for it in TOKEN.finditer(re.sub(r"(?:^|(?<=\s))--.*", "", line)):
             is_field = it[0] == "." and it.string[it.end():it.end() + 1].strip()
-            tokens.append(".f" if is_field else it[0])
-        tokens.append("\n")
+            tokens.append(Token(".f" if is_field else it[0], place + it.start()))
+        place += len(line) + 1
+        tokens.append(Token("\n", place - 1))
     return tokens
 
 
@@ -183,14 +195,14 @@ def is_word(token: str) -> bool:
     return bool(re.match(r"[^\W\d]|«", token))
 
 
-def variables(tokens: List[str]) -> Set[str]:
+def variables(tokens: Sequence[str]) -> Set[str]:
     """Returns the words of a pattern that are variables: what builds a value begins with a capital, or is known to."""
     return {it for at, it in enumerate(tokens)
             if is_word(it) and not it[0].isupper() and it not in BUILDS and tokens[at - 1:at] != [".f"]
             and tokens[at + 1:at + 2] != [".f"]}
 
 
-def back_to(tokens: List[str], at: int, ends: Tuple[str, ...]) -> List[str]:
+def back_to(tokens: Sequence[str], at: int, ends: Tuple[str, ...]) -> Sequence[str]:
     """Returns the tokens before a place, back to the last of these."""
     begin = at
     while begin and tokens[begin - 1] not in ends:
@@ -198,7 +210,7 @@ def back_to(tokens: List[str], at: int, ends: Tuple[str, ...]) -> List[str]:
     return tokens[begin:at]
 
 
-def on_to(tokens: List[str], at: int, ends: Tuple[str, ...]) -> List[str]:
+def on_to(tokens: Sequence[str], at: int, ends: Tuple[str, ...]) -> Sequence[str]:
     """Returns the tokens from a place on, up to the first of these."""
     end = at
     while end < len(tokens) and tokens[end] not in ends:
@@ -206,7 +218,7 @@ def on_to(tokens: List[str], at: int, ends: Tuple[str, ...]) -> List[str]:
     return tokens[at:end]
 
 
-def bound_by(tokens: List[str]) -> Set[str]:
+def bound_by(tokens: Sequence[str]) -> Set[str]:
     """Returns the names that a statement binds: parameters, and the variables of `λ`, `let`, `do` and `elim`."""
     bound: Set[str] = set()
     for at, token in enumerate(tokens):
@@ -225,7 +237,7 @@ def bound_by(tokens: List[str]) -> Set[str]:
     return bound
 
 
-def left_of(tokens: List[str]) -> List[str]:
+def left_of(tokens: Sequence[str]) -> Sequence[str]:
     """Returns the left side of an equation; nothing of a signature."""
     depth = 0
     for at, token in enumerate(tokens):
@@ -235,61 +247,71 @@ def left_of(tokens: List[str]) -> List[str]:
     return []
 
 
-def words_used(tokens: List[str]) -> Iterator[Tuple[str, str]]:
+def words_used(tokens: Sequence[Token]) -> Iterator[Tuple[Token, str]]:
     """Yields each word or sign that may cite a definition, with the field that stands behind it, if any."""
     for at, token in enumerate(tokens):
-        behind = tokens[at + 1:at + 2]
-        is_field = tokens[at - 1:at] == [".f"] if at else False
-        is_given = behind == ["="] and tokens[at - 1:at] in (["{"], [";"], ["\n"]) and at > 0
-        if not is_field and not (is_given and is_word(token)):
-            yield token, tokens[at + 2] if behind == [".f"] and at + 2 < len(tokens) else ""
+        before, behind = tokens[at - 1] if at else "", tokens[at + 1] if at + 1 < len(tokens) else ""
+        is_given = behind == "=" and before in ("{", ";", "\n")
+        if before != ".f" and not (is_given and is_word(token)):
+            yield token, tokens[at + 2] if behind == ".f" and at + 2 < len(tokens) else ""
 
 
 class Cited:
-    """What a definition cites: definitions of its own file, names of others, and words that are found nowhere."""
+    """What a definition cites, with each place in its text: definitions of its own file, names of others, and words
+    that are found nowhere."""
 
     def __init__(self, it: Definition, file: File) -> None:
         self.own: Set[str] = set()
         self.origins: Set[Origin] = set()
         self.nowhere: Set[str] = set()
         self.bound: Set[str] = set()
+        self.marks: List[Tuple[int, int, Union[str, Origin]]] = []
         self._it, self._file = it, file
         self._signs = signs_of(file)
         always = set(it.inside)
         for head in it.around:
             always |= bound_by(tokens_of(head))
-            self._take(tokens_of(head), always)
+            self._take(tokens_of(head), always, None)
         if it.inside:
             always |= bound_by(tokens_of(next(statements(it))))
+        begin = 0
         for text in statements(it):
             tokens = tokens_of(text)
             left = left_of(tokens)
             bound = always | bound_by(tokens) | (variables(left) - {it.name})
             bound |= {word for word in left if is_word(word) and not self._is_known(word)}
             self.bound |= bound
-            self._take(tokens, bound)
+            self._take(tokens, bound, begin)
+            begin += len(text) + 1
 
     def _is_known(self, name: str) -> bool:
         file = self._file
         return name == self._it.name or name in file.definitions or name in file.inner or name in file.imports
 
-    def _take(self, tokens: List[str], bound: Set[str]) -> None:
+    def _take(self, tokens: Sequence[Token], bound: Set[str], begin: Optional[int]) -> None:
         for token, field in words_used(tokens):
             if token == "do":
                 self._cite("◌>>=◌", "")
             elif token not in bound and token not in KEYWORDS and not token[0].isdigit() and token[0] != '"':
-                for name in self._signs.get(token, [token]):
-                    self._cite(name, field)
+                for name in self._signs.get(token, [str(token)]):
+                    cited = self._cite(name, field)
+                    if begin is not None and cited is not None:
+                        self.marks.append((begin + token.at, len(token), cited))
 
-    def _cite(self, name: str, field: str) -> None:
+    def _cite(self, name: str, field: str) -> Union[str, Origin, None]:
+        """Keeps a name that is cited, and returns its definition in the own file or where it comes from."""
         file = self._file
         if name in file.definitions or name in file.inner:
             self.own.add(file.inner.get(name, name))
-        elif name in file.imports:
+            return file.inner.get(name, name)
+        if name in file.imports:
             origin = file.imports[name]
-            self.origins.add(Origin(origin.path, field or None) if origin.name is None else origin)
-        elif name != self._it.name:
+            origin = Origin(origin.path, str(field) or None) if origin.name is None else origin
+            self.origins.add(origin)
+            return origin
+        if name != self._it.name:
             self.nowhere.add(name)
+        return None
 
 
 def signs_of(file: File) -> Dict[str, List[str]]:

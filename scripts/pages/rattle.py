@@ -189,6 +189,16 @@ def exported(lib: str) -> set[str]:
     return names
 
 
+def is_shown(it: Function, names: set[str]) -> bool:
+    """Whether a function can be called from outside its crate, or is an implementation with clauses of its own."""
+    owner = it.owner
+    if owner is None:
+        return it.is_pub and it.name in names
+    if owner.trait:
+        return bool(it.clauses) and bool({owner.of, owner.trait} & names)
+    return owner.of in names and (it.is_pub or owner.word == "pub trait")
+
+
 def sources_of(folder: pathlib.Path) -> typing.Iterator[Source]:
     """Yields the sources of a crate."""
     for path in sorted((folder / "src").rglob("*.rt")):

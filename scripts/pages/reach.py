@@ -8,11 +8,14 @@ import re
 import sys
 
 sys.path.insert(0, str(pathlib.Path(__file__).resolve().parent.parent))
-from sources import ROOT, crates  # noqa: E402
-from antt import Cited, Definition, File, Origin, Unreadable, origins_of, tokens_of  # noqa: E402
-from rattle import Source, Type, sources_of  # noqa: E402
+from sources import PROGRAM, ROOT, crates  # noqa: E402
+from antt import (KEYWORDS, Cited, Definition, File, Origin, Unreadable, bound_by, is_word, origins_of,  # noqa: E402
+                  tokens_of, words_used)
+from rattle import Function, Source, Type, sources_of  # noqa: E402
 
 CRATES = ROOT / "crates"
+# the clauses of the headline
+CLAUSES = "replayed", "keeps"
 LOGIC = "base", "denote", "mathlib", "lib", "Prim"
 
 
@@ -109,7 +112,8 @@ class Graph:
         """Returns where an imported name leads; nothing where only a module is meant, of which no name is cited."""
         parts = origin.path.split(".")
         crate = parts[0]
-        if crate in LOGIC or crate not in self._known or not (CRATES / crate).is_dir():
+        is_ours = crate in self._known and (CRATES / crate).is_dir()
+        if crate in LOGIC or not is_ours or parts[1] == "proofs":
             return Place("outside", crate, ".".join(parts[1:]), origin.name or parts[-1])
         if parts[1:3] in (["specs", "declared"], ["specs", "contracts"]):
             return self._declared(crate, parts[3:], origin)
@@ -190,8 +194,41 @@ def words_of_type(declared: Type) -> list[str]:
     return [it for it in dict.fromkeys(words) if it != declared.name]
 
 
+def top() -> tuple[Source, Function]:
+    """Returns the call that has the headline, and its source."""
+    for path in sorted(ROOT.glob("crates/*/src/*.rt")):
+        if re.search(r"^    ensures replayed ", path.read_text("utf-8"), re.M):
+            source = Source(path)
+            for it in source.functions:
+                if it.name == PROGRAM:
+                    return source, it
+    raise Nowhere("a call with the clauses of the headline")
+
+
+def roots(graph: Graph) -> list[Place]:
+    """Returns what the clauses of the headline cite, in their order."""
+    source, call = top()
+    uses = re.findall(r"^ghost (use [^;]*);", source.text, re.M)
+    imports = {name: it for line in uses for name, it in origins_of(line)}
+    head = "\n".join(call.head)
+    known = set(re.findall(r"(\w+): ", head)) | {"result"} | set(re.findall(r"\b[A-Z]\b", head)) | KEYWORDS
+    code = graph.code(source.path.parts[-3])
+    found: dict[Place, None] = {}
+    for clause in call.clauses:
+        tokens = tokens_of(clause.term) if clause.name in CLAUSES else []
+        bound = bound_by(tokens)
+        for word, _ in words_used(tokens):
+            operator = next((it for it in imports if it.strip("◌") == word), None)
+            place = graph.place_of(imports[operator]) if operator else graph.type_of(code, source.path.stem, word)
+            if place:
+                found[place] = None
+            elif is_word(word) and word not in known | bound:
+                raise Nowhere(f"{word} in the clause {clause.name}")
+    return list(found)
+
+
 def reached(graph: Graph, roots: list[Place]) -> tuple[list[Place], list[str]]:
-    """Returns all that the roots reach, each behind what it cites, by crate, lowest first; and what is found nowhere."""
+    """Returns all that the roots reach, by crate, each behind what it cites; and what is found nowhere."""
     order: dict[Place, list[Place]] = {}
     seen: set[Place] = set()
     lost: list[str] = []
