@@ -1,5 +1,5 @@
 -- As many arrows, crosses and ends as frames, losses and visits.
-use Rattle.std.proofs.Common.{◌≡◌, ℕ, Bool, List, [], ◌∷◌, ◌+◌, cond, refl, sym, ap, ◌∙◌, map}
+use Rattle.std.proofs.Common.{◌≡◌, ℕ, Bool, List, [], ◌∷◌, ◌+◌, ◌≤◌, length, cond, refl, sym, ap, ◌∙◌, map}
 use Rattle.std.proofs.lemmas.List.Sums.{sum_by-cons}
 use Rattle.std.specs.List.{count_by}
 use Rattle.trace_lines.specs.declared.line.Line.{Line}
@@ -10,6 +10,10 @@ use Rattle.trace_lines.specs.declared.line.Entry.{Entry}
 use Rattle.trace_lines.specs.declared.line.Trace.{Trace}
 use Rattle.trace_picture.specs.declared.drawing.Drawing.{Drawing}
 use Rattle.trace_picture.specs.Kinds.{kind_of, label_text, is_arrow, is_cross, is_end}
+use Rattle.trace_picture.specs.declared.walk.TraceWalk.{TraceWalk}
+use Rattle.trace_picture.specs.Hosts.{hosts_of}
+use Rattle.trace_picture.specs.Walks.{start, go}
+use Rattle.trace_picture.specs.Marks.{marks_from, is_log, drawing_of}
 use Rattle.trace_picture.specs.Charts.{lines_of, kinds_of, labels_of, Draws}
 
 -- a line and what it is drawn as are counted alike
@@ -62,15 +66,26 @@ cross_count ks ls e = rw e (same_count is_cross is_loss (λ l. (alike l).cross) 
 end_count : (ks : List Kind) (ls : List Line) → ks ≡ map kind_of ls → count_by is_end ks ≡ count_by is_visit ls
 end_count ks ls e = rw e (same_count is_end is_visit (λ l. (alike l).ending) ls)
 
--- what the marks, their labels and the ledger have to be
-pub draws : (t : Trace) (d : Drawing) (es : List Entry) → es ≡ t.entries → kinds_of d.marks ≡ map kind_of (lines_of es) → labels_of d.marks ≡ map label_text (lines_of es) → d.ledger ≡ t.ledger → Draws t d
-draws t d es e kinds labels ledger =
-    let known : kinds_of d.marks ≡ map kind_of (lines_of t.entries) = kinds ∙ ap (λ (xs : List Entry). map kind_of (lines_of xs)) e in
+kinds_are : (w : TraceWalk) (is_log : Bool) (i : ℕ) (es : List Entry) → kinds_of (marks_from w is_log i es) ≡ map kind_of (lines_of es)
+kinds_are w is_log i [] = refl
+kinds_are w is_log i (e ∷ es) = ap (λ (ks : List Kind). kind_of e.line ∷ ks) (kinds_are w is_log (i + 1) es)
+
+labels_are : (w : TraceWalk) (is_log : Bool) (i : ℕ) (es : List Entry) → labels_of (marks_from w is_log i es) ≡ map label_text (lines_of es)
+labels_are w is_log i [] = refl
+labels_are w is_log i (e ∷ es) = ap (λ (ls : List (List ℕ)). label_text e.line ∷ ls) (labels_are w is_log (i + 1) es)
+
+-- the drawing of a trace draws it
+pub draws : (t : Trace) (d : Drawing) → d ≡ drawing_of t → length (hosts_of t.entries) ≤ 64 → Draws t d
+draws t d e few =
+    let w : TraceWalk = go (hosts_of t.entries) t.entries start in
+    let marks : d.marks ≡ marks_from w (is_log t.ledger) 0 t.entries = ap (λ (x : Drawing). x.marks) e in
+    let known : kinds_of d.marks ≡ map kind_of (lines_of t.entries) = ap kinds_of marks ∙ kinds_are w (is_log t.ledger) 0 t.entries in
     record {
+      whole = e;
+      few = few;
       kinds = known;
-      labels = labels ∙ ap (λ (xs : List Entry). map label_text (lines_of xs)) e;
+      labels = ap labels_of marks ∙ labels_are w (is_log t.ledger) 0 t.entries;
       arrows = arrow_count (kinds_of d.marks) (lines_of t.entries) known;
       crosses = cross_count (kinds_of d.marks) (lines_of t.entries) known;
       ends = end_count (kinds_of d.marks) (lines_of t.entries) known;
-      ledger = ledger;
     }

@@ -1,2 +1,4 @@
 pub mod Clean
+pub mod Columns
 pub mod Counts
+pub mod Frames

@@ -1,6 +1,12 @@
 pub mod Kinds
 pub mod Signs
 pub mod Escapes
+pub mod Hosts
+pub mod Walks
+pub mod Sights
+pub mod Marks
+pub mod Faults
+pub mod Turned
 pub mod Places
 pub mod Styles
 pub mod Pictures

@@ -1,5 +1,6 @@
-ghost use Rattle.std.specs.Prelude.{◌≡◌, IfOk};
+ghost use Rattle.std.specs.Prelude.{◌≡◌, IfOk, IfErr};
 ghost use Rattle.trace_picture.specs.Charts.{IsChart};
+ghost use Rattle.trace_picture.specs.Faults.{IsChartFault};
 ghost use Rattle.trace_picture.specs.Pictures.{picture_text};
 
 use crate::drawing::Drawing;
@@ -26,6 +27,10 @@ pub enum ChartFault {
 }
 
 impl From<TraceFault> for ChartFault {
+    ghost use Rattle.trace_picture.specs.Turned.{as_trace};
+
+    ghost from_gives = { λ f r. r ≡ as_trace f };
+
     fn from(fault: TraceFault) -> ChartFault {
         match fault {
             TraceFault::BadLine(line) => ChartFault::BadLine(line),
@@ -35,6 +40,10 @@ impl From<TraceFault> for ChartFault {
 }
 
 impl From<DrawFault> for ChartFault {
+    ghost use Rattle.trace_picture.specs.Turned.{as_draw};
+
+    ghost from_gives = { λ f r. r ≡ as_draw f };
+
     fn from(fault: DrawFault) -> ChartFault {
         match fault {
             DrawFault::TooManyHosts => ChartFault::TooManyHosts,
@@ -44,6 +53,10 @@ impl From<DrawFault> for ChartFault {
 }
 
 impl From<NoMemory> for ChartFault {
+    ghost use Rattle.trace_picture.specs.declared.charts.ChartFault.TheVariants as chart;
+
+    ghost from_gives = { λ _ r. r ≡ chart.NoMemory };
+
     fn from(_refused: NoMemory) -> ChartFault {
         ChartFault::NoMemory
     }
@@ -58,9 +71,11 @@ fn drawing_text(alloc: Global, d: &Drawing) -> Result<Bytes, NoMemory>
     Ok(picture)
 }
 
-/// The chart of the trace that these bytes are, as SVG.
+/// The chart of the trace that these bytes are, as SVG. Each refusal has its cause, but for want of
+/// memory.
 pub fn chart(alloc: Global, bytes: &[u8]) -> Result<Bytes, ChartFault>
-    ensures { IfOk result (λ picture. IsChart bytes.now picture) }
+    ensures chart { IfOk result (λ picture. IsChart bytes.now picture) }
+    ensures fault { IfErr result (λ e. IsChartFault bytes.now e) }
 {
     if bytes.len() > MOST_BYTES {
         return Err(ChartFault::TooLong);

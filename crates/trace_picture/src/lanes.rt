@@ -1,56 +1,85 @@
+ghost use Rattle.std.specs.Prelude.{◌≡◌, ◌≤◌, ◌<◌, length, OnOk, IfOk, IfErr};
+ghost use Rattle.trace_picture.specs.Hosts.{with_host, with_named, hosts_of, hosts_from, column, lanes_of};
+ghost use Rattle.trace_picture.specs.Faults.{IsDrawFault};
+
 use crate::drawing::{Lane, MOST_HOSTS};
 use crate::marks::DrawFault;
+use plan_base::Host;
 use plan_items::Items;
 use std::alloc::{AllocError, Global};
 use trace_lines::Entry;
 
-/// The half columns between the margin and a host, by the host's place among all.
-fn across_of(place: usize) -> u32 {
-    match u32::try_from(place) {
-        Ok(n) => n.saturating_mul(2).saturating_add(1),
-        Err(_) => 1,
-    }
-}
-
 /// Adds a host to hosts in rising order, or nothing where it is there.
-fn add_host(hosts: &mut Vec<u32>, host: u32) -> Result<(), AllocError> {
-    match hosts.iter().position(|h| *h >= host) {
-        Some(i) if hosts.get(i) == Some(&host) => {}
-        Some(i) => hosts.insert(i, host)?,
-        None => hosts.push(host)?,
+fn add_host(hosts: &mut Vec<u32>, host: u32) -> Result<(), AllocError>
+    ensures { OnOk result (hosts.new.items ≡ with_host host hosts.old.items) }
+{
+    let mut i = 0;
+    while i < hosts.len() && hosts[i] < host {
+        i += 1;
     }
+    if i < hosts.len() && hosts[i] == host {
+        return Ok(());
+    }
+    hosts.insert(i, host)?;
     Ok(())
 }
 
-/// Adds the hosts that the lines name, in rising order.
-pub(crate) fn add_hosts(hosts: &mut Vec<u32>, entries: &[Entry]) -> Result<(), DrawFault> {
+/// Adds the host that a line names, where it names one.
+fn add_named(hosts: &mut Vec<u32>, host: Option<Host>) -> Result<(), AllocError>
+    ensures { OnOk result (hosts.new.items ≡ with_named host hosts.old.items) }
+{
+    match host {
+        Some(h) => add_host(hosts, h.0),
+        None => Ok(()),
+    }
+}
+
+/// The hosts that the lines name, in rising order.
+pub(crate) fn hosts_of(alloc: Global, entries: &[Entry]) -> Result<Vec<u32>, DrawFault>
+    ensures hosts { IfOk result (λ hosts. hosts.items ≡ hosts_of entries.now) }
+    ensures few { IfOk result (λ hosts. length hosts.items ≤ 64) }
+    ensures fault { IfErr result (λ e. IsDrawFault entries.now e) }
+{
+    let mut hosts = Vec::new(alloc);
     for entry in entries {
-        if let Some(h) = entry.line.host() {
-            add_host(hosts, h.0)?;
-            if hosts.len() > MOST_HOSTS {
-                return Err(DrawFault::TooManyHosts);
-            }
+        add_named(&mut hosts, entry.line.host())?;
+        if hosts.len() > MOST_HOSTS {
+            return Err(DrawFault::TooManyHosts);
         }
     }
-    Ok(())
+    Ok(hosts)
 }
 
 /// Where a host's column stands.
-pub(crate) fn column(hosts: &[u32], host: u32) -> u32 {
-    match hosts.iter().position(|h| *h == host) {
-        Some(i) => across_of(i),
-        None => 0,
+pub(crate) fn column(hosts: &[u32], host: u32) -> u32
+    requires { length hosts.now ≤ 64 }
+    ensures { result ≡ column hosts.now host }
+{
+    let mut across: u32 = 1;
+    let mut rest = hosts;
+    while let [other, more @ ..] = rest {
+        if *other == host {
+            return across;
+        }
+        across += 2;
+        rest = more;
     }
+    0
 }
 
 /// The columns of these hosts.
-pub(crate) fn lanes_of(alloc: Global, hosts: &[u32]) -> Result<Items<Lane>, AllocError> {
+pub(crate) fn lanes_of(alloc: Global, hosts: &[u32]) -> Result<Items<Lane>, AllocError>
+    requires { length hosts.now ≤ 64 }
+    ensures { IfOk result (λ lanes. lanes ≡ lanes_of hosts.now) }
+{
     let mut lanes = Items::new(alloc);
+    let mut across: u32 = 1;
     for host in hosts {
         lanes.add(Lane {
-            across: column(hosts, *host),
+            across,
             host: *host,
         })?;
+        across += 2;
     }
     Ok(lanes)
 }

@@ -1,13 +1,18 @@
+ghost use Rattle.std.specs.Prelude.{◌≡◌, ◌≤◌, ◌∷◌, ◌++◌, length, OnOk, IfOk};
+ghost use Rattle.trace_picture.specs.Walks as spec;
+
 use crate::drawing::{Spot, Stroke};
-use crate::lanes::{add_hosts, column};
-use crate::marks::DrawFault;
+use crate::lanes::column;
 use plan_base::{Dev, Host};
+use plan_items::Items;
 use std::alloc::{AllocError, Global};
 use trace_lines::{Entry, Line, What};
 
 /// The way of a frame.
 #[derive(Clone, Copy, Drop)]
 pub(crate) struct Journey {
+    /// The frame's number, as its line on the wire gives it.
+    pub number: u32,
     pub from: Spot,
     pub to: Spot,
     pub device: u32,
@@ -30,6 +35,8 @@ pub(crate) struct TraceLink {
 pub(crate) struct LinePlace {
     pub at: Spot,
     pub begins: bool,
+    /// Whether its event takes a frame off the wire.
+    pub is_off: bool,
     pub frame: Option<usize>,
 }
 
@@ -40,242 +47,403 @@ const MOST_LINKS: usize = 1_024;
 /// The lines gone through so far.
 #[derive(Drop)]
 pub(crate) struct TraceWalk {
-    /// The hosts that have columns, in rising order.
-    pub hosts: Vec<u32>,
     /// Where each line stands.
-    pub places: Vec<LinePlace>,
-    /// The frames by the order on the wire: frame K is at K - 1.
-    pub journeys: Vec<Journey>,
-    pub links: Vec<TraceLink>,
+    pub places: Items<LinePlace>,
+    /// The frames by the order of their lines on the wire. Some of a trace's may be missing.
+    pub journeys: Items<Journey>,
+    pub links: Items<TraceLink>,
     pub row: u32,
-    event: u64,
-    is_row_used: bool,
-    sender: u32,
-    device: u32,
-    what: Stroke,
+    pub event: u64,
+    pub is_row_used: bool,
+    /// The column from which this event sent a frame: 0, the margin, as long as none is known.
+    pub sender: u32,
+    pub device: u32,
+    pub what: Stroke,
+    /// Whether this event takes a frame off the wire, known or not.
+    pub is_off: bool,
     /// The frame that left the wire in this event, or came out and stayed there.
-    taken: Option<usize>,
+    pub taken: Option<usize>,
 }
 
 /// Whether a line takes a row of its own.
-fn takes_row(line: &Line) -> bool {
+fn takes_row(line: &Line) -> bool
+    ensures { result ≡ spec.takes_row line.now }
+{
     match line {
         Line::Sent(..) | Line::Wire(_) | Line::WireShown(..) | Line::Off(_) => false,
-        _ => true,
+        Line::Injected(..)
+        | Line::Forged(..)
+        | Line::Arrived(..)
+        | Line::Asked(_)
+        | Line::Printed(..)
+        | Line::Delivered(..)
+        | Line::Gave(..)
+        | Line::Raised(..)
+        | Line::Spent(..)
+        | Line::Handled(..)
+        | Line::Queued(..)
+        | Line::Dropped(..)
+        | Line::Refused(..)
+        | Line::Advert(..)
+        | Line::Heard(..)
+        | Line::Ticked(..)
+        | Line::Again(_)
+        | Line::Lost(..)
+        | Line::LostAdvert
+        | Line::Nothing => true,
     }
+}
+
+/// What was sent, as an arrow.
+fn stroke_of(what: What) -> Stroke
+    ensures { result ≡ spec.stroke_of what }
+{
+    match what {
+        What::Packet(_) => Stroke::Packet,
+        What::Advert => Stroke::Advert,
+    }
+}
+
+/// The place of the last frame of this number.
+#[tactic(auto, using(crate::proofs::Frames::frame_found, crate::proofs::Frames::frame_passed))]
+fn frame_of(journeys: &[Journey], number: u32) -> Option<usize>
+    ensures { result ≡ spec.frame_of number journeys.now }
+{
+    let mut i = journeys.len();
+    while i > 0 {
+        i -= 1;
+        if journeys[i].number == number {
+            return Some(i);
+        }
+    }
+    None
 }
 
 impl TraceWalk {
     /// No line yet.
-    pub fn new(alloc: Global) -> TraceWalk {
+    pub fn new(alloc: Global) -> TraceWalk
+        ensures { result ≡ spec.start }
+    {
         TraceWalk {
-            hosts: Vec::new(alloc),
-            places: Vec::new(alloc),
-            journeys: Vec::new(alloc),
-            links: Vec::new(alloc),
+            places: Items::new(alloc),
+            journeys: Items::new(alloc),
+            links: Items::new(alloc),
             row: 0,
             event: 0,
             is_row_used: false,
             sender: 0,
             device: 0,
-            what: Stroke::Packet,
+            what: Stroke::Advert,
+            is_off: false,
             taken: None,
         }
     }
 
-    fn next_row(&mut self) {
+    fn next_row(&mut self)
+        ensures { self.new ≡ spec.next_row self.old }
+    {
         self.row = self.row.saturating_add(1);
         self.is_row_used = false;
     }
 
-    /// Goes down to the row of a line, and answers whether its event begins.
-    fn go_down(&mut self, entry: &Entry) -> bool {
-        let begins = entry.event != self.event;
-        if begins {
-            self.event = entry.event;
-            self.taken = None;
-            self.next_row();
+    /// Goes down where another event begins, and answers whether one does.
+    fn begin(&mut self, event: u64) -> bool
+        ensures begins { result ≡ spec.begins event self.old }
+        ensures state { self.new ≡ spec.begin event self.old }
+    {
+        if event == self.event {
+            return false;
         }
-        if takes_row(&entry.line) {
-            if self.is_row_used {
-                self.next_row();
-            }
-            self.is_row_used = true;
-        }
-        begins
+        self.event = event;
+        self.sender = 0;
+        self.device = 0;
+        self.what = Stroke::Advert;
+        self.is_off = false;
+        self.taken = None;
+        self.next_row();
+        true
     }
 
-    fn add_link(&mut self, across: u32, device: u32, far: u32) -> Result<(), AllocError> {
-        if self.links.len() < MOST_LINKS && far_end(&self.links, across, device).is_none() {
-            self.links.push(TraceLink {
-                across,
-                device,
-                far,
-            })?;
+    /// Takes a row for a line that has one of its own.
+    fn take_row(&mut self, line: &Line)
+        ensures { self.new ≡ spec.take_row line.now self.old }
+    {
+        if !takes_row(line) {
+            return;
         }
+        if self.is_row_used {
+            self.next_row();
+        }
+        self.is_row_used = true;
+    }
+
+    /// Remembers where the frames of a device come out, once.
+    fn add_link(&mut self, across: u32, device: u32, far: u32) -> Result<(), AllocError>
+        ensures { OnOk result (self.new ≡ spec.add_link across device far self.old) }
+    {
+        if self.links.len() >= MOST_LINKS {
+            return Ok(());
+        }
+        if far_end(self.links.as_slice(), across, device).is_some() {
+            return Ok(());
+        }
+        self.links.add(TraceLink {
+            across,
+            device,
+            far,
+        })?;
         Ok(())
     }
 
-    /// Puts the frame that was sent last onto the wire.
-    fn set_off(&mut self) -> Result<LinePlace, AllocError> {
-        let at = Spot {
-            across: self.sender,
-            row: self.row,
-        };
-        let frame = self.journeys.len();
-        self.journeys.push(Journey {
-            from: at,
-            to: Spot {
-                across: self.sender,
-                row: self.row.saturating_add(1),
-            },
-            device: self.device,
-            what: self.what,
-            stroke: Stroke::Open,
-        })?;
-        Ok(self.place(at.across, Some(frame)))
-    }
-
-    fn place(&self, across: u32, frame: Option<usize>) -> LinePlace {
+    /// A place in the row, about this frame.
+    fn place(&self, across: u32, frame: Option<usize>) -> LinePlace
+        ensures { result ≡ spec.here across frame self.now }
+    {
         LinePlace {
             at: Spot {
                 across,
                 row: self.row,
             },
             begins: false,
+            is_off: self.is_off,
             frame,
         }
     }
 
-    /// The frame came out here. Its arrow ends where it came out first.
-    fn come_out(&mut self, across: u32, device: u32) -> Result<LinePlace, AllocError> {
-        let place = self.place(across, self.taken);
-        let Some(frame) = self.taken else {
-            return Ok(place);
+    /// Puts the frame that this event sent onto the wire under this number. One of which no line says from where it was
+    /// sent comes from the margin.
+    fn set_off(&mut self, number: u32) -> Result<LinePlace, AllocError>
+        ensures place { IfOk result (λ p. p ≡ spec.set_off_place self.old) }
+        ensures state { OnOk result (self.new ≡ spec.set_off number self.old) }
+    {
+        let place = self.place(self.sender, Some(self.journeys.len()));
+        let to = Spot {
+            across: self.sender,
+            row: self.row.saturating_add(1),
         };
-        let Some(journey) = self.journeys.get_mut(frame) else {
-            return Ok(place);
-        };
-        if !is_open(*journey) {
-            return Ok(place);
-        }
-        journey.to = place.at;
-        journey.stroke = journey.what;
-        let (from, out) = (journey.from.across, journey.device);
-        self.add_link(from, out, across)?;
-        self.add_link(across, device, from)?;
+        self.journeys.add(Journey {
+            number,
+            from: place.at,
+            to,
+            device: self.device,
+            what: self.what,
+            stroke: Stroke::Open,
+        })?;
         Ok(place)
     }
 
-    /// The frame that left the wire was lost. The label stands in the next row. Where the frame came out before, its
-    /// arrow stays, and the cross stands where it would have come out again.
-    fn vanish(&mut self) -> LinePlace {
-        let place = self.place(0, self.taken);
+    /// The frame that left the wire, where its line on the wire was among the lines.
+    fn taken(&self) -> Option<Journey>
+        ensures { result ≡ spec.taken_journey self.now }
+    {
+        match self.taken {
+            Some(frame) => match self.journeys.get(frame) {
+                Some(journey) => Some(*journey),
+                None => None,
+            },
+            None => None,
+        }
+    }
+
+    /// The frame that left the wire went this way.
+    fn set_taken(&mut self, journey: Journey)
+        ensures { self.new ≡ spec.set_taken journey self.old }
+    {
+        if let Some(frame) = self.taken {
+            if frame < self.journeys.len() {
+                self.journeys.set(frame, journey);
+            }
+        }
+    }
+
+    /// A frame on its way came out in this column, over this device.
+    fn arrive(&mut self, journey: Journey, across: u32, device: u32) -> Result<(), AllocError>
+        ensures { OnOk result (self.new ≡ spec.arrive journey across device self.old) }
+    {
+        let to = Spot {
+            across,
+            row: self.row,
+        };
+        self.set_taken(Journey {
+            to,
+            stroke: journey.what,
+            ..journey
+        });
+        if journey.from.across == 0 {
+            return Ok(());
+        }
+        self.add_link(journey.from.across, journey.device, across)?;
+        self.add_link(across, device, journey.from.across)
+    }
+
+    /// The frame came out here. Its arrow ends where it came out first.
+    fn come_out(&mut self, across: u32, device: u32) -> Result<LinePlace, AllocError>
+        ensures place { IfOk result (λ p. p ≡ spec.here across self.old.taken self.old) }
+        ensures state { OnOk result (self.new ≡ spec.come_out across device self.old) }
+    {
+        let place = self.place(across, self.taken);
+        if let Some(journey) = self.taken() {
+            if is_open(journey) {
+                self.arrive(journey, across, device)?;
+            }
+        }
+        Ok(place)
+    }
+
+    /// Where a loss stands. Where the frame came out before, its arrow stays, and the cross stands where it would have
+    /// come out again.
+    fn loss_place(&self) -> LinePlace
+        ensures { result ≡ spec.loss_place self.now }
+    {
+        match self.taken() {
+            Some(journey) => {
+                if is_open(journey) {
+                    self.place(0, self.taken)
+                } else {
+                    self.place(journey.to.across, None)
+                }
+            }
+            None => self.place(0, self.taken),
+        }
+    }
+
+    /// The frame that left the wire was lost. The label stands in the next row.
+    fn vanish(&mut self)
+        ensures { self.new ≡ spec.vanish self.old }
+    {
+        if let Some(journey) = self.taken() {
+            if is_open(journey) {
+                let to = Spot {
+                    across: 0,
+                    row: self.row,
+                };
+                self.set_taken(Journey {
+                    to,
+                    stroke: Stroke::Lost,
+                    ..journey
+                });
+            }
+        }
         self.next_row();
         self.is_row_used = true;
-        let Some(frame) = self.taken else {
-            return place;
-        };
-        let Some(journey) = self.journeys.get_mut(frame) else {
-            return place;
-        };
-        if !is_open(*journey) {
-            let at = Spot {
-                across: journey.to.across,
-                row: place.at.row,
-            };
-            return LinePlace {
-                at,
-                frame: None,
-                ..place
-            };
-        }
-        journey.to = place.at;
-        journey.stroke = Stroke::Lost;
-        place
     }
 
     /// A frame leaves its queue.
-    fn leave(&mut self, across: u32, device: u32, what: What) -> LinePlace {
+    fn leave(&mut self, across: u32, device: u32, what: What)
+        ensures { self.new ≡ spec.leave across device what self.old }
+    {
         self.sender = across;
         self.device = device;
-        self.what = match what {
-            What::Packet(_) => Stroke::Packet,
-            What::Advert => Stroke::Advert,
-        };
-        self.place(across, None)
+        self.what = stroke_of(what);
     }
 
     /// Takes frame `number` off the wire.
-    fn take_off(&mut self, number: u32) -> LinePlace {
-        self.taken = match usize::try_from(number) {
-            Ok(n) => n.checked_sub(1),
-            Err(_) => None,
-        };
-        self.place(0, None)
+    fn take_off(&mut self, number: u32)
+        ensures { self.new ≡ spec.take_off number self.old }
+    {
+        self.is_off = true;
+        self.taken = frame_of(self.journeys.as_slice(), number);
     }
 
-    /// Frame `number` comes out, and stays on the wire. The label stands where it was sent.
-    fn stay_on(&mut self, number: u32) -> LinePlace {
-        let place = self.take_off(number);
-        let Some(frame) = self.taken else {
-            return place;
-        };
-        match self.journeys.get(frame) {
-            Some(journey) => self.place(journey.from.across, None),
-            None => place,
+    /// The column from which the frame came that came out, and stays on the wire.
+    fn taken_from(&self) -> u32
+        ensures { result ≡ spec.taken_from self.now }
+    {
+        match self.taken() {
+            Some(journey) => journey.from.across,
+            None => 0,
         }
     }
 
-    fn across(&self, host: Host) -> u32 {
-        column(&self.hosts, host.0)
-    }
-
-    fn place_of(&mut self, line: &Line) -> Result<LinePlace, AllocError> {
+    /// Goes on by what a line says of frames, and answers where the line stands.
+    fn go_by(&mut self, hosts: &[u32], line: &Line) -> Result<LinePlace, AllocError>
+        requires { length hosts.now ≤ 64 }
+        ensures place { IfOk result (λ p. p ≡ spec.place_of hosts.now line.now self.old) }
+        ensures state { OnOk result (self.new ≡ spec.go_by hosts.now line.now self.old) }
+    {
         match line {
-            Line::Sent(h, Dev(d), what) => Ok(self.leave(self.across(*h), *d, *what)),
-            Line::Wire(_) | Line::WireShown(..) => self.set_off(),
-            Line::Off(number) => Ok(self.take_off(*number)),
-            Line::Again(number) => Ok(self.stay_on(*number)),
-            Line::Arrived(h, Dev(d)) => self.come_out(self.across(*h), *d),
-            Line::Lost(..) | Line::LostAdvert => Ok(self.vanish()),
-            _ => match line.host() {
-                Some(h) => Ok(self.place(self.across(h), None)),
-                None => Ok(self.place(0, None)),
-            },
+            Line::Sent(h, Dev(d), what) => {
+                self.leave(column(hosts, h.0), *d, *what);
+                Ok(self.place(self.sender, None))
+            }
+            Line::Wire(number) | Line::WireShown(number, _) => self.set_off(*number),
+            Line::Off(number) => {
+                self.take_off(*number);
+                Ok(self.place(0, None))
+            }
+            Line::Again(number) => {
+                self.take_off(*number);
+                Ok(self.place(self.taken_from(), None))
+            }
+            Line::Arrived(h, Dev(d)) => self.come_out(column(hosts, h.0), *d),
+            Line::Lost(..) | Line::LostAdvert => {
+                let place = self.loss_place();
+                self.vanish();
+                Ok(place)
+            }
+            Line::Nothing => Ok(self.place(0, None)),
+            Line::Injected(h, ..)
+            | Line::Forged(h, ..)
+            | Line::Asked(h)
+            | Line::Printed(h, _)
+            | Line::Delivered(h, ..)
+            | Line::Gave(h, ..)
+            | Line::Raised(h, ..)
+            | Line::Spent(h, ..)
+            | Line::Handled(h, ..)
+            | Line::Queued(h, ..)
+            | Line::Dropped(h, ..)
+            | Line::Refused(h, _)
+            | Line::Advert(h, _)
+            | Line::Heard(h, _)
+            | Line::Ticked(h, _) => Ok(self.place(column(hosts, h.0), None)),
         }
     }
 
     /// Goes on by a line.
-    fn step(&mut self, entry: &Entry) -> Result<(), AllocError> {
-        let begins = self.go_down(entry);
-        let place = self.place_of(&entry.line)?;
-        self.places.push(LinePlace { begins, ..place })?;
+    fn step(&mut self, hosts: &[u32], entry: &Entry) -> Result<(), AllocError>
+        requires { length hosts.now ≤ 64 }
+        ensures { OnOk result (self.new ≡ spec.step hosts.now entry.now self.old) }
+    {
+        let begins = self.begin(entry.event);
+        self.take_row(&entry.line);
+        let place = self.go_by(hosts, &entry.line)?;
+        self.places.add(LinePlace { begins, ..place })?;
         Ok(())
     }
 
-    /// Goes through all lines, behind the hosts that they name.
-    pub fn go(&mut self, entries: &[Entry]) -> Result<(), DrawFault> {
-        add_hosts(&mut self.hosts, entries)?;
+    /// Goes through all lines, between the columns of these hosts.
+    pub fn go(&mut self, hosts: &[u32], entries: &[Entry]) -> Result<(), AllocError>
+        requires { length hosts.now ≤ 64 }
+        ensures { OnOk result (self.new ≡ spec.go hosts.now entries.now self.old) }
+    {
         for entry in entries {
-            self.step(entry)?;
+            self.step(hosts, entry)?;
         }
         Ok(())
     }
 }
 
 /// Whether a frame has neither come out nor been lost.
-fn is_open(journey: Journey) -> bool {
-    matches!(journey.stroke, Stroke::Open)
+fn is_open(journey: Journey) -> bool
+    ensures { result ≡ spec.is_open journey.stroke }
+{
+    match journey.stroke {
+        Stroke::Open => true,
+        Stroke::Packet | Stroke::Advert | Stroke::Lost | Stroke::Forged => false,
+    }
 }
 
 /// Where the frames of a device come out, where that is known.
-pub(crate) fn far_end(links: &[TraceLink], across: u32, device: u32) -> Option<u32> {
-    let i = links
-        .iter()
-        .position(|l| l.across == across && l.device == device)?;
-    match links.get(i) {
-        Some(l) => Some(l.far),
-        None => None,
+pub(crate) fn far_end(links: &[TraceLink], across: u32, device: u32) -> Option<u32>
+    ensures { result ≡ spec.far_end across device links.now }
+{
+    let mut rest = links;
+    while let [link, more @ ..] = rest {
+        if link.across == across && link.device == device {
+            return Some(link.far);
+        }
+        rest = more;
     }
+    None
 }

@@ -1,10 +1,10 @@
 use Rattle.trace_picture.proofs.charts.chart.Goals as goal
 
-pub returns : goal.returns
-returns c = record {
+pub returns-clause-chart : goal.returns-clause-chart
+returns-clause-chart c = record {
   trace = c.in_ok-trace.trace;
   drawing = c.in_ok-drawing.drawing;
   read = c.in_ok-trace.ensures;
-  drawn = c.in_ok-drawing.ensures;
+  drawn = c.in_ok-drawing.ensures.drawn;
   written = c.in_ok-picture.ensures;
 }

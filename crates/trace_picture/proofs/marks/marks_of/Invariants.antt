@@ -1,10 +1,12 @@
-use Rattle.std.proofs.Common.{◌≡◌, ◌++◌, drop, map}
-use Rattle.trace_picture.specs.Kinds.{kind_of, label_text}
-use Rattle.trace_picture.specs.Charts.{lines_of, kinds_of, labels_of}
+use Rattle.std.proofs.Common.{◌≡◌, ◌++◌, drop}
+use Rattle.trace_picture.specs.Marks.{marks_from}
 use Rattle.trace_picture.proofs.marks.marks_of.Given as goal
 
 abbrev pub invariant-loop-entry : goal.invariant-loop-entry
-invariant-loop-entry l = record {
-  kinds : kinds_of l.marks ++ map kind_of (lines_of (drop l.entry-index l.entries)) ≡ map kind_of (lines_of l.entries);
-  labels : labels_of l.marks ++ map label_text (lines_of (drop l.entry-index l.entries)) ≡ map label_text (lines_of l.entries);
-}
+invariant-loop-entry l =
+    let w = l.sights.walk in
+    let is_log = l.sights.is_log in
+    record {
+      marks : l.marks ++ marks_from w is_log l.i (drop l.entry-index l.entries) ≡ marks_from w is_log 0 l.entries;
+      place : l.i ≡ l.entry-index;
+    }
