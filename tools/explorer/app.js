@@ -343,6 +343,8 @@ listen(page);
 const held = byId("trace");
 if (held) {
   const { name, text } = JSON.parse(held.textContent);
+  // its text isn't kept twice
+  held.remove();
   try {
     page.open(() => runOfText(text), name);
   } catch (fault) {

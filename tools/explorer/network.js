@@ -43,6 +43,7 @@ export class Network {
     box.replaceChildren(this.picture);
     this.marks = new Map();
     this.run = null;
+    this.event = undefined;
     new ResizeObserver(() => this.arrange()).observe(box);
   }
 
@@ -59,7 +60,8 @@ export class Network {
     });
     this.placeOf = placeOf;
     this.shape = spread(this.points.length, pairs);
-    this.marks.clear();
+    // the event that was shown is of another run
+    this.event = undefined;
     this.size = "";
     this.arrange();
   }

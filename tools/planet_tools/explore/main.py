@@ -32,12 +32,16 @@ class Parser(argparse.ArgumentParser):
 def words_of(given: Sequence[str]) -> argparse.Namespace:
     """The words of the command."""
     parser = Parser(prog="explore", description=ABOUT)
-    parser.add_argument("file", metavar="FILE", nargs="?", help="a trace, or the file of an audit")
-    parser.add_argument("out", metavar="OUT.html", nargs="?", help="the page; else it stands beside FILE, and ends in .html")
-    parser.add_argument("--program", metavar="PROGRAM", default=str(ROOT / "planet"), help="the program that makes the steps of logs again (planet)")
-    parser.add_argument("--trace", metavar="OUT.trace", help="writes the trace of the fleet too, as others read it")
-    parser.add_argument("--make", action="store_true", help="makes the page tools/explorer/explorer.html, which has no trace in it, and its table of forms")
-    parser.add_argument("--check", action="store_true", help="with --make: says whether these two are what would be made")
+    add = parser.add_argument
+    add("file", metavar="FILE", nargs="?", help="a trace, or the file of an audit")
+    add("out", metavar="OUT.html", nargs="?", help="the page (else FILE's name with the ending .html)")
+    add(
+        "--program", metavar="PROGRAM", default=str(ROOT / "planet"),
+        help="planet, which audits a fleet and makes the steps of its logs again (./planet of this repository)",
+    )
+    add("--trace", metavar="OUT.trace", help="writes the trace of the fleet too, as other tools read it")
+    add("--make", action="store_true", help="makes explorer.html, the page without a trace, and forms.js")
+    add("--check", action="store_true", help="with --make: says whether these two are what would be made")
     words = parser.parse_args(given)
     if words.make == bool(words.file):
         parser.error("a FILE is wanted, or --make")
@@ -48,9 +52,9 @@ def write_whole(name: str, text: str) -> None:
     """Writes a file whole, or leaves what was there."""
     folder = os.path.dirname(name) or "."
     try:
-        with tempfile.NamedTemporaryFile("w", dir=folder, prefix=".explore", delete=False, encoding="utf-8", newline="") as file:
+        with tempfile.NamedTemporaryFile("wb", dir=folder, prefix=".explore", delete=False) as file:
             part = file.name
-            file.write(text)
+            file.write(text.encode("utf-8"))
         os.chmod(part, 0o644)
         os.replace(part, name)
     except OSError as fault:

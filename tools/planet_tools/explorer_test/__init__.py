@@ -1,0 +1,1 @@
+"""Tries the explorer in a browser."""

@@ -1,0 +1,171 @@
+"""The script `explorer` of scripts/test."""
+from __future__ import annotations
+
+import argparse
+import os
+import subprocess
+import sys
+import tempfile
+from concurrent.futures import ThreadPoolExecutor
+from pathlib import Path
+from typing import Callable, Dict, List, Sequence, Tuple
+
+from planet_tools.explore import page
+from planet_tools.explore.logs import Program, run_program
+from planet_tools.explorer_test import checks, fleets, pictures, schedules
+from planet_tools.explorer_test.browser import Browser
+from planet_tools.explorer_test.figures import measured
+
+ROOT = Path(__file__).resolve().parents[3]
+SEEDS = range(1, 15)
+GROWN = (1, 2, 3)
+GROWN_EVENTS = 60
+STEPPED = (
+    "ticks-and-ping", "first-run", "loss-and-order", "frames-repeat", "handler-called", "bytes-from-outside",
+    "every-service", "route-traced",
+)
+
+
+def words_of(given: Sequence[str]) -> argparse.Namespace:
+    """The words of the script."""
+    about = "Tries the explorer in a headless Chromium, against what the lines of traces say, and measures it."
+    parser = argparse.ArgumentParser(prog="explorer", description=about)
+    parser.add_argument("program", metavar="PROGRAM", help="the built planet")
+    parser.add_argument("--pictures", metavar="FOLDER", type=Path, help="writes the pictures of the pages there")
+    parser.add_argument("--only", metavar="CHECK", action="append", default=[], help="one of the checks, by its name")
+    return parser.parse_args(given)
+
+
+class Trial:
+    """All that is tried, with what each check needs."""
+
+    def __init__(self, browser: Browser, program: str, room: Path) -> None:
+        self.browser, self.program, self.room = browser, program, room
+        self.ping = self.trace_of("ping", (ROOT / "samples/ticks-and-ping/ping.schedule").read_text("utf-8"))
+
+    def trace_of(self, name: str, text: str) -> Path:
+        """The trace of a schedule, as a file."""
+        with tempfile.TemporaryDirectory() as room:
+            trace = Program(self.program, room).on_text("replay", text)
+        file = self.room / f"{name}.trace"
+        file.write_text(trace, "utf-8")
+        return file
+
+    def steps(self) -> str:
+        """Each event of the samples."""
+        count = 0
+        for sample in STEPPED:
+            words = (ROOT / f"samples/{sample}/command").read_text("utf-8").split()
+            count += checks.check_steps(self.browser, self.trace_of(sample, (ROOT / words[1]).read_text("utf-8")))
+        return f"{count} events as the lines say"
+
+    def ledgers(self) -> str:
+        """The ledgers of many schedules."""
+        made = self.made_schedules()
+        self.browser.size(1400, 900)
+        self.browser.open()
+        for name, trace in made:
+            checks.check_ledger(self.browser, name, trace)
+        checks.check_wrong_ledgers(self.browser, self.ping, self.room)
+        return f"{len(made)} schedules with their ledgers"
+
+    def made_schedules(self) -> List[Tuple[str, Path]]:
+        """The traces of schedules of networks that grow, of drawn ones, of scenarios, and of those written by hand."""
+        def grown(seed: int) -> Tuple[str, str]:
+            with tempfile.TemporaryDirectory() as room:
+                return f"grown {seed}", schedules.grown(Program(self.program, room), seed, GROWN_EVENTS)
+
+        def drawn(seed: int) -> Tuple[str, str]:
+            with tempfile.TemporaryDirectory() as room:
+                text = schedules.drawn(Program(self.program, room), seed, 1 + seed % 2, seed % 3 == 0)
+                return f"drawn {seed}", text
+
+        with ThreadPoolExecutor(2) as workers:
+            made = [*workers.map(grown, GROWN), *workers.map(drawn, SEEDS)]
+            made += [(f"scenario {file.stem}", text) for file, text in scenario_texts(self.program)]
+            made += [(file.parent.name, file.read_text("utf-8")) for file in schedules.rows_by_hand(ROOT)]
+            names = [f"{place}-{name}" for place, (name, _) in enumerate(made)]
+            return list(zip(names, workers.map(self.trace_of, names, (text for _, text in made))))
+
+    def inputs(self) -> str:
+        """Bad inputs and hostile texts."""
+        count = checks.check_bad_inputs(self.browser, self.ping, self.room)
+        checks.check_harmless(self.browser, self.room)
+        return f"{count} bad inputs refused"
+
+    def choices(self) -> str:
+        """Keys, filters, links."""
+        checks.check_selection(self.browser, self.ping)
+        return "keys, filters and links lead where they say"
+
+    def labels(self) -> str:
+        """Names of hosts in networks of 32."""
+        networks = {
+            "ring": schedules.ring(32), "row": schedules.row(32), "grid": schedules.grid(8, 4),
+            "tangle": schedules.tangle(32, 7), "sparse": schedules.tangle(24, 3),
+        }
+        traces = [self.trace_of(name, schedules.quiet_network(links)) for name, links in networks.items()]
+        checks.check_labels(self.browser, traces)
+        return f"no names over each other in {len(traces)} networks"
+
+    def fleets(self) -> str:
+        """Live fleets as one run."""
+        arrows = fleets.check_fleets(self.browser, self.program, ROOT, self.room)
+        return f"{arrows} frames of live fleets as the audit has them"
+
+    def figures(self) -> str:
+        """How fast it is, and how much memory it takes."""
+        return measured(self.trace_of("long", schedules.long_schedule()), self.room)
+
+    def pictures(self, folder: Path) -> None:
+        """Writes the pictures."""
+        pictures.take(self.browser, self, folder)
+
+
+def scenario_texts(program: str) -> List[Tuple[Path, str]]:
+    """The schedules that tools/scenario makes of the samples' scenarios."""
+    found = []
+    for file in sorted((ROOT / "samples").rglob("*.scenario")):
+        words = [sys.executable, str(ROOT / "tools/scenario"), str(file), "--program", program]
+        done = subprocess.run(words, capture_output=True, text=True, check=False)
+        if done.returncode == 0 and done.stdout.startswith("planet schedule "):
+            found.append((file, done.stdout))
+    return found
+
+
+def tried(trial: Trial, only: Sequence[str]) -> int:
+    """Tries each check, and answers how many failed."""
+    failed = 0
+    checks_by_name: Dict[str, Callable[[], str]] = {
+        name: getattr(trial, name) for name in ("steps", "inputs", "choices", "labels", "ledgers", "fleets", "figures")
+    }
+    for name, check in checks_by_name.items():
+        if only and name not in only:
+            continue
+        try:
+            print(f"explorer: {name}: {check()}", flush=True)
+        except checks.Wrong as wrong:
+            failed += 1
+            print(f"explorer: {name}: {wrong}", file=sys.stderr, flush=True)
+        for complaint in trial.browser.complaints():
+            failed += 1
+            print(f"explorer: {name}: the browser says {complaint}", file=sys.stderr, flush=True)
+    return failed
+
+
+def main(given: Sequence[str]) -> int:
+    """Tries the explorer, and answers the exit status."""
+    words = words_of(given)
+    checks.check_code(page.FOLDER)
+    run_program(words.program, ["replay", str(ROOT / "samples/first-run/first.schedule")])
+    browser = Browser()
+    try:
+        with tempfile.TemporaryDirectory() as room:
+            trial = Trial(browser, os.path.abspath(words.program), Path(room))
+            failed = tried(trial, words.only)
+            if words.pictures:
+                trial.pictures(words.pictures)
+    finally:
+        browser.quit()
+    print(f"explorer: {'all as wanted' if failed == 0 else f'{failed} failed'}")
+    return 1 if failed else 0
