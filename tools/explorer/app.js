@@ -103,7 +103,7 @@ class Page {
       const { length } = run.ledger;
       say(box, `the ledger of ${length} ${length === 1 ? "family" : "families"} is what the lines make`);
     } else if (run.fault) say(box, "the trace ends early, so it has no ledger to compare with");
-    else say(box, run.hasWire ? "the trace has no ledger to compare with" : "a node's log: it has no ledger, and frames come from outside");
+    else say(box, run.isOpen ? "a node's log: it has no ledger, and frames come from outside" : "the trace has no ledger to compare with");
   }
 
   fillChoices() {
@@ -330,8 +330,8 @@ function listen(page) {
 }
 
 function explain() {
-  refill(byId("key-list"), ...KEYS.flatMap(([key, does]) => [html("dt", {}, key), html("dd", {}, does)]));
-  const marks = LEGEND.map(([name, path]) => [svg("svg", { class: "mark colour-0", viewBox: "-6 -6 12 12", width: 14, height: 14 }, svg("path", { d: path })), name]);
+  refill(byId("key-list"), ...KEYS.map(([key, does]) => html("div", {}, html("dt", {}, key), html("dd", {}, does))));
+  const marks = LEGEND.map(([name, path]) => [svg("svg", { class: `mark ${name === "advert" ? "of-advert" : "colour-0"}`, viewBox: "-6 -6 12 12", width: 14, height: 14 }, svg("path", { d: path })), name]);
   const signs = WORDS.filter((word) => word !== "port").map((word) => [signOf(word, 13), word]);
   refill(byId("legend"), ...[...marks, ...signs].map(([sign, name]) => html("div", {}, html("dt", {}, sign), html("dd", {}, name))));
   refill(byId("ledger-head"), ...["family", "granted", "hops", "evals", "live", "left"].map((name) => html("span", {}, name)));

@@ -65,8 +65,8 @@ export class Balance {
     }
     const counts = this.run.accounts.after(this.family, this.event);
     const row = (name, value, sign) => html("div", { class: `count-${name}` }, html("dt", {}, ...(sign ? [sign, " "] : []), NAMES[name] ?? name), html("dd", {}, String(value)));
-    const shown = PARTS.filter((part) => part !== "gone" || !this.run.hasWire);
-    const came = this.run.hasWire ? [] : [row("entered", counts.entered)];
+    const shown = PARTS.filter((part) => part !== "gone" || this.run.isOpen);
+    const came = this.run.isOpen ? [row("entered", counts.entered)] : [];
     refill(this.numbers, row("granted", counts.granted), ...came, ...shown.map((part) => row(part, counts[part], key(part))));
   }
 

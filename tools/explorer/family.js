@@ -63,8 +63,8 @@ export class Ledger {
     const isNotYet = counts.granted + counts.entered === 0 && this.run.accounts.history(place)[0]?.event > this.event;
     row.classList.toggle("chosen", place === this.family);
     row.classList.toggle("later", isNotYet);
-    const came = this.run.hasWire ? counts.granted : counts.granted + counts.entered;
-    const last = this.run.hasWire ? counts.left : counts.left + counts.gone;
+    const came = this.run.isOpen ? counts.granted + counts.entered : counts.granted;
+    const last = this.run.isOpen ? counts.left + counts.gone : counts.left;
     row.append(html("span", { class: `name ${colourOf(place)}` }, this.run.familyName(place)),
       ...[came, counts.hops, counts.evals, counts.live, last].map((count) => html("span", { class: "number" }, String(count))));
     row.dataset.words = this.words(place);

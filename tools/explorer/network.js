@@ -1,6 +1,6 @@
 // The picture of the network: hosts, links, queues as stacks, and frames on the wire.
 import { NEVER } from "./columns.js";
-import { colourOf, cutText, svg } from "./dom.js";
+import { colourOf, cutText, say, svg } from "./dom.js";
 import { fitted, spread } from "./layout.js";
 import { isOfAdvert } from "./lines.js";
 import { markPath, signOf } from "./signs.js";
@@ -134,10 +134,11 @@ export class Network {
       const { x, y } = this.spotOf(number);
       const body = svg("rect", { x: -this.half.x, y: -this.half.y, width: this.half.x * 2, height: this.half.y * 2, rx: 6 });
       const name = svg("text", { class: "host-name", "text-anchor": "middle", "dominant-baseline": "central" }, `@${number}`);
-      const clock = svg("text", { class: "clock", "text-anchor": "middle", y: this.half.y + 11 });
+      const clock = svg("text", { class: "clock", "text-anchor": "middle", y: this.half.y - 4 });
+      const title = svg("title");
       const signs = svg("g", { class: "signs", transform: `translate(${this.half.x - 12} ${-this.half.y - 15})` });
       const host = svg("g", { class: "host", tabindex: 0, role: "button", "aria-label": `host @${number}`, transform: `translate(${x} ${y})` },
-        body, name, clock, signs);
+        title, body, name, clock, signs);
       host.addEventListener("click", () => this.choose({ host: number }));
       host.addEventListener("keydown", (press) => {
         if (press.key !== "Enter") return;
@@ -145,7 +146,7 @@ export class Network {
         press.stopPropagation();
       });
       this.hostLayer.append(host);
-      this.hostMarks.set(number, { host, clock, signs });
+      this.hostMarks.set(number, { host, name, clock, title, signs });
     }
   }
 
@@ -181,7 +182,7 @@ export class Network {
     const places = Math.max(1, Math.min(MOST_IN_STACK, Math.floor((way.length / 2 - 14) / STEP)));
     const shown = Math.min(frames.length, places);
     frames.slice(0, shown).forEach((frame, place) => wanted.set(frame.index, { frame, state: "queued", ...this.onLane(way, (shown - place - 0.5) * STEP) }));
-    if (frames.length > shown) counts.push({ ...this.onLane(way, (shown + 0.9) * STEP), text: `+${frames.length - shown}` });
+    if (frames.length > shown) counts.push({ ...this.onLane(way, (shown + 1.3) * STEP), text: `+${frames.length - shown}` });
   }
 
   ownStack(queue, frames, wanted, counts) {
@@ -257,12 +258,14 @@ export class Network {
   /** Marks what the event itself did: its hosts, its link, and a cross where a frame was lost. */
   showEvent(event, choice) {
     const told = this.told(event, choice);
-    for (const [number, { host, clock, signs }] of this.hostMarks) {
+    for (const [number, { host, name, clock, title, signs }] of this.hostMarks) {
       host.classList.toggle("acting", told.signs.has(number));
       host.classList.toggle("chosen", choice.host === number);
       const now = choice.ticks ? this.run.clock(number, event) : null;
-      const text = now === null ? "" : `now ${now}`;
-      if (clock.textContent !== text) clock.textContent = text;
+      const hasRoom = this.half.y > 12;
+      say(clock, now === null || !hasRoom ? "" : `now ${now}`);
+      name.setAttribute("y", clock.textContent === "" ? 0 : -6);
+      say(title, this.describe(number, event));
       const kinds = [...(told.signs.get(number) ?? [])].slice(0, 3);
       if (signs.dataset.kinds !== kinds.join()) {
         signs.dataset.kinds = kinds.join();
@@ -305,6 +308,7 @@ export class Network {
   describe(number, event) {
     const queues = this.run.queueList.filter((queue) => queue.host === number);
     const counts = queues.map((queue) => `%${queue.device}: ${this.run.queued(queue, event).length}`);
-    return cutText(`@${number}${counts.length ? `, queued on ${counts.join(", ")}` : ""}`, 120);
+    const now = this.run.clock(number, event);
+    return cutText(`@${number}${now === null ? "" : `, now ${now}`}${counts.length ? `, queued on ${counts.join(", ")}` : ""}`, 160);
   }
 }

@@ -13,6 +13,8 @@ export class RowList {
     this.choose = choose;
     this.count = 0;
     this.cursor = -1;
+    /** What was brought into sight last, and stays there in another size. */
+    this.kept = -1;
     this.rows = new Map();
     this.sheet = html("div", { class: "sheet" });
     box.replaceChildren(this.sheet);
@@ -20,7 +22,7 @@ export class RowList {
     box.addEventListener("scroll", () => this.place(), { passive: true });
     box.addEventListener("keydown", (press) => this.pressed(press));
     box.addEventListener("click", (press) => this.clicked(press));
-    new ResizeObserver(() => this.place()).observe(box);
+    new ResizeObserver(() => this.reveal(this.kept)).observe(box);
   }
 
   get view() {
@@ -76,7 +78,11 @@ export class RowList {
 
   /** Brings a place into sight, into the middle where it was outside. */
   reveal(place) {
-    if (place < 0 || place >= this.count) return;
+    if (place < 0 || place >= this.count) {
+      this.place();
+      return;
+    }
+    this.kept = place;
     const top = this.box.scrollTop * this.stretch;
     const at = place * this.height;
     if (at < top || at + this.height > top + this.view) {

@@ -132,9 +132,14 @@ export class Run {
     return `${this.familyName(packet.family)} #${packet.number}`;
   }
 
-  /** Whether the trace is of a network, whose frames have numbers on the wire, and not of the log of one node. */
+  /** Whether frames have numbers on a wire. */
   get hasWire() {
     return this.wireOrder.length > 0;
+  }
+
+  /** Whether frames come from and go to where the trace doesn't see. */
+  get isOpen() {
+    return this.ledger === null && !this.hasWire;
   }
 }
 

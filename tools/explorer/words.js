@@ -49,6 +49,6 @@ export function steps(run, frame) {
     const stays = handing !== frame.off;
     add(handing, `arrived at @${frame.far?.host ?? "?"} %${frame.far?.device ?? "?"}${stays ? ", and a copy stays on the wire" : ""}`);
   }
-  add(frame.lost, "lost on the wire");
+  add(frame.lost, frame.handings ? "the copy on the wire was lost" : "lost on the wire");
   return found;
 }

@@ -4,6 +4,8 @@ from __future__ import annotations
 import shutil
 import subprocess
 import sys
+import time
+from concurrent.futures import ThreadPoolExecutor
 from pathlib import Path
 from typing import Dict, List, Set, Tuple
 
@@ -15,19 +17,28 @@ from planet_tools.trace.files import read_run
 from planet_tools.trace.flow import Flow, number
 
 SAMPLES = ("live-fleet", "live-stamped")
+TRIES, PAUSE = 5, 12.0
+
+
+def run_fleet(program: str, folder: Path) -> None:
+    """Runs a fleet. One whose ports another run has taken is tried again a little later."""
+    for _ in range(TRIES):
+        done = subprocess.run([program, "fleet", "fleet.txt"], cwd=folder, capture_output=True, text=True, check=False)
+        if done.returncode == 0:
+            return
+        if "planet: link fault\n" not in done.stderr:
+            break
+        time.sleep(PAUSE)
+    raise Wrong(f"{folder.name}: the fleet ended with {done.returncode}: {done.stderr.strip()}")
 
 
 def run_fleets(program: str, root: Path, room: Path) -> List[Path]:
     """Runs the fleets side by side, and answers their folders."""
-    folders, children = [], []
-    for sample in SAMPLES:
-        folder = room / sample
-        shutil.copytree(root / "samples" / sample, folder)
-        folders.append(folder)
-        children.append(subprocess.Popen([program, "fleet", "fleet.txt"], cwd=folder, stdout=subprocess.DEVNULL))
-    for child, folder in zip(children, folders):
-        if child.wait() != 0:
-            raise Wrong(f"{folder.name}: the fleet ended with {child.returncode}")
+    folders = [room / sample for sample in SAMPLES]
+    for folder in folders:
+        shutil.copytree(root / "samples" / folder.name, folder)
+    with ThreadPoolExecutor(len(folders)) as workers:
+        list(workers.map(run_fleet, [program] * len(folders), folders))
     return folders
 
 

@@ -17,8 +17,8 @@ from planet_tools.explorer_test.browser import Browser
 from planet_tools.explorer_test.figures import measured
 
 ROOT = Path(__file__).resolve().parents[3]
-SEEDS = range(1, 15)
-GROWN = (1, 2, 3)
+SEEDS = range(1, 13)
+GROWN = (1, 2)
 GROWN_EVENTS = 60
 STEPPED = (
     "ticks-and-ping", "first-run", "loss-and-order", "frames-repeat", "handler-called", "bytes-from-outside",
@@ -118,8 +118,11 @@ class Trial:
         return measured(self.trace_of("long", schedules.long_schedule()), self.room)
 
     def pictures(self, folder: Path) -> None:
-        """Writes the pictures."""
-        pictures.take(self.browser, self, folder)
+        """Writes the pictures: of the ping, and of a fleet where one was run."""
+        pictures.take_ping(self.browser, self.ping, folder)
+        fleet = self.room / fleets.SAMPLES[0]
+        if (fleet / "fleet.html").exists():
+            pictures.take_fleet(self.browser, fleet / "fleet.html", fleet / "fleet.trace", folder)
 
 
 def scenario_texts(program: str) -> List[Tuple[Path, str]]:

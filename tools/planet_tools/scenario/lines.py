@@ -13,7 +13,7 @@ USE = re.compile(r"\$(?:\$|([A-Za-z][A-Za-z0-9_]*)|\{([A-Za-z][A-Za-z0-9_]*)\})?
 LOOP_END = "end for"
 PROGRAM_END = "end program"
 # more lines than a schedule of 50,000 events needs
-MOST_LINES = 1_000_000
+MOST_LINES = 200_000
 
 
 @dataclass

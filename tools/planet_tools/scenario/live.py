@@ -14,7 +14,7 @@ from pathlib import Path
 
 from planet_tools import program
 from planet_tools.scenario.faults import Fault
-from planet_tools.scenario.intent import Injection, Plain, Routes, Settle
+from planet_tools.scenario.intent import Injection, Intent, Plain, Routes, Settle
 from planet_tools.scenario.rounds import Made
 
 LOGS_MAX = 16
@@ -73,10 +73,7 @@ class Fleet:
 
 def plan(made: Made, trace: bytes, folder: Path) -> tuple[Fleet, list[socket.socket]]:
     """Lays a scenario out in time, over free ports, whose sockets are held until the fleet is started."""
-    for statement in made.intent.statements:
-        if isinstance(statement, Plain):
-            raise Fault(statement.line, f"'{statement.text.split()[0]}' is an event of a schedule alone: nodes that "
-                        "serve tick by their clock, and move their frames themselves")
+    refuse_what_cant_serve(made.intent)
     network, held = made.intent.network, free_ports(2 * len(made.intent.network.without))
     ports = [each.getsockname()[1] for each in held]
     nodes = {host: Node(host, ports[2 * place], ports[2 * place + 1]) for place, host in enumerate(network.without)}
@@ -96,6 +93,20 @@ def plan(made: Made, trace: bytes, folder: Path) -> tuple[Fleet, list[socket.soc
             add_injection(fleet, at + step.rounds * ROUND, step.what)
     fleet.end = at + at // 10 + APART
     return fleet, held
+
+
+def refuse_what_cant_serve(intent: Intent) -> None:
+    """Refuses what nodes that serve can't do: events of single frames, and two links between the same hosts."""
+    for statement in intent.statements:
+        if isinstance(statement, Plain):
+            raise Fault(statement.line, f"'{statement.text.split()[0]}' is an event of a schedule alone: nodes that "
+                        "serve tick by their clock, and move their frames themselves")
+    joined = set()
+    for (one, _), (other, _), line in intent.network.links:
+        pair = frozenset((one, other))
+        if pair in joined:
+            raise Fault(line, f"hosts {one} and {other} have another link: nodes tell neighbours apart by their ports")
+        joined.add(pair)
 
 
 def add_injection(fleet: Fleet, at: int, injection: Injection) -> None:

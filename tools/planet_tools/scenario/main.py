@@ -72,8 +72,7 @@ def make_live(asked: argparse.Namespace, planet: str, made: Made, trace: bytes) 
         for request in fleet.requests:
             print(f"{request.name}: send it after {request.at / 1000:.1f} seconds with 'planet inject {request.name}'")
         return 0
-    has_ended_well = live.run(fleet, planet, held)
-    return 0 if live.judge(fleet, planet, trace) and has_ended_well else 1
+    return 0 if live.run(fleet, planet, held) and live.judge(fleet, planet, trace) else 1
 
 
 def values_of_words(words: list[str]) -> dict[str, str]:

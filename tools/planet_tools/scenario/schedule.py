@@ -88,6 +88,6 @@ class Replays:
             if refused is None:
                 raise Fault(0, f"planet ended with status {ended.status}: {ended.note}")
             line = schedule.line_of(refused[0], shows_frames, self.events_line)
-            raise Fault(line, f"{refused[1]} (of planet, line {refused[0]} of the schedule)")
+            raise Fault(line, f"{refused[1]} (refused by planet)")
         self.last_text, self.last_trace = text, ended.output
         return ended.output

@@ -1,0 +1,1 @@
+"""The launcher's own words: help on the commands, and the version."""
