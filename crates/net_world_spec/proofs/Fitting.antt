@@ -27,7 +27,7 @@ use Rattle.node_core_spec.proofs.Fitting.{FrameTaken, inject_event_fits, stamped
 use Rattle.node_core_spec.proofs.Staying.{Stays, inject_stays, stamped_stays, arrive_stays, tick_stays, take_stays}
 use Rattle.node_core_spec.proofs.Windows.{SeenLater, same_later, inject_seen, arrive_later, stamped_later, stamped_taken}
 use Rattle.net_world_spec.proofs.Places.{SetAt, there, elsewhere, set_at, set_of_host}
-use Rattle.net_world_spec.proofs.Numbers.{numbers_differ}
+use Rattle.net_world_spec.proofs.NumberLaws.{numbers_differ}
 use Rattle.net_world_spec.specs.declared.lines.Line.{Line}
 use Rattle.net_world_spec.specs.declared.lines.LinkEnd.{LinkEnd}
 use Rattle.net_world_spec.specs.declared.lines.FrameOnWire.{FrameOnWire}

@@ -17,7 +17,7 @@ pub mod CountLaws
 pub mod Fitting
 pub mod Giving
 pub mod Handings
-pub mod Numbers
+pub mod NumberLaws
 pub mod Opening
 pub mod Orders
 pub mod Places
