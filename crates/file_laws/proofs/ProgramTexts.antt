@@ -19,7 +19,7 @@ use Rattle.plan_parser_laws.proofs.ProgramsWork.{program_refused}
 use Rattle.plan_parser_laws.proofs.Own.{agenda_own}
 use Rattle.plan_parser_laws.proofs.TokenOwn.{refused_own}
 use Rattle.plan_types_spec.proofs.Programs.{annotated_sound, annotated_complete, depths_kept}
-use Rattle.plan_parser_laws.proofs.Programs.{first_is}
+use Rattle.plan_parser_laws.proofs.ProgramReadings.{first_is}
 use Rattle.plan_parser_laws.proofs.TypingOwn.{program_own}
 use Rattle.program_text.specs.declared.fault.TextFault.{TextFault}
 use Rattle.program_text.specs.declared.fault.TextFault.TheVariants as faults

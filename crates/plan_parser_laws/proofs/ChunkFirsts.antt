@@ -26,7 +26,7 @@ use Rattle.plan_types_chunks.specs.declared.fault.ChunkFault.TheVariants as faul
 use Rattle.checked_chunks.specs.Kept.{is_small_chunk}
 use Rattle.plan_types_chunks.specs.Chunks.{fits, sound, right, ill_from, ill_with, ill_call, ill_code, illness, as_fault, or_large, refusal_of}
 use Rattle.plan_types_chunks.proofs.Values.{value_law}
-use Rattle.plan_parser_laws.proofs.Programs.{first_is as first_of_code, one_refusal}
+use Rattle.plan_parser_laws.proofs.ProgramReadings.{first_is as first_of_code, one_refusal}
 use Rattle.plan_parser_laws.specs.ChunkConditions.{Condition, of_code, of_entry, of_count, of_argument, of_size, Keeps, Blames, for_code, for_entry, for_count, for_argument, for_size, arguments_from, of_call, conditions, call_conditions, FirstFailing, here, later}
 
 -- ---- answers of a list of conditions

@@ -42,7 +42,7 @@ pub mod TypingForms
 pub mod Exprs
 pub mod Named
 pub mod Names
-pub mod Programs
+pub mod ProgramReadings
 pub mod TypingOwn
 pub mod ChunkFirsts
 pub mod ChunkOwn

@@ -20,7 +20,7 @@ use Rattle.top_laws.specs.Later.{later_ask}
 use Rattle.top_laws.specs.Skipping.{SkipsLines}
 use Rattle.top_laws.proofs.MovedCounts.{Moves, moved_not, moves_count, skips_lines}
 use Rattle.line_reader.proofs.CountLaws.{changed_read, then_changed}
-use Rattle.top_laws.proofs.Lines.{identity_changes_nothing, at_moved, either_moved, header_moved, usual_moved, usual_skips}
+use Rattle.top_laws.proofs.LinesMoved.{identity_changes_nothing, at_moved, either_moved, header_moved, usual_moved, usual_skips}
 
 to_moved : (first : ℕ) (ws : List (List ℕ)) (s : AskReading) → to_line ws (later_ask first s) ≡ changed_read (later_ask first) (to_line ws s)
 unfolding to_line

@@ -28,7 +28,7 @@ use Rattle.top_laws.specs.Later.{later_config}
 use Rattle.top_laws.specs.Skipping.{SkipsLines}
 use Rattle.top_laws.proofs.MovedCounts.{Moves, moved_not, moves_count, skips_lines}
 use Rattle.line_reader.proofs.CountLaws.{changed_read, then_changed}
-use Rattle.top_laws.proofs.Lines.{at_moved, either_moved, version_moved, usual_moved, usual_skips}
+use Rattle.top_laws.proofs.LinesMoved.{at_moved, either_moved, version_moved, usual_moved, usual_skips}
 
 -- ---- the lines in front of the devices
 

@@ -13,7 +13,7 @@ use Rattle.top_laws.specs.Outside.{IsCutOutside, CutOutside}
 use Rattle.top_laws.specs.Later.{unmoved_reading}
 use Rattle.top_laws.specs.Skipping.{SkipsLines}
 use Rattle.top_laws.proofs.MovedCounts.{Moves, moves_count, skips_lines}
-use Rattle.top_laws.proofs.Lines.{identity_changes_nothing, header_moved, usual_moved, usual_skips}
+use Rattle.top_laws.proofs.LinesMoved.{identity_changes_nothing, header_moved, usual_moved, usual_skips}
 
 step_moved : (first number : ℕ) (line : List ℕ) (stage : CutStage) (s : CutReading) → cut_step_at stage (moved_line first number) line s ≡ moved_by first (λ x. x) (cut_step_at stage number line s)
 unfolding cut_step_at

@@ -22,7 +22,7 @@ pub mod ExactLaws
 pub mod ProgramsAgain
 pub mod ValuesAgain
 mod MovedCounts
-mod Lines
+mod LinesMoved
 pub mod ConfigCounts
 pub mod AskCounts
 pub mod LogCounts

@@ -11,7 +11,7 @@ use Rattle.top_laws.specs.Outside.{FleetOutside, AuditOutside}
 use Rattle.top_laws.specs.Later.{unmoved_reading}
 use Rattle.top_laws.specs.Skipping.{SkipsLines}
 use Rattle.top_laws.proofs.MovedCounts.{Moves, moves_count, skips_lines}
-use Rattle.top_laws.proofs.Lines.{identity_changes_nothing, header_moved, usual_moved, usual_skips}
+use Rattle.top_laws.proofs.LinesMoved.{identity_changes_nothing, header_moved, usual_moved, usual_skips}
 
 -- ---- fleets
 

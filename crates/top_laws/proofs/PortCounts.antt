@@ -11,7 +11,7 @@ use Rattle.top_laws.specs.Outside.{IsPortOutside, PortOutside}
 use Rattle.top_laws.specs.Later.{unmoved_reading}
 use Rattle.top_laws.specs.Skipping.{SkipsLines}
 use Rattle.top_laws.proofs.MovedCounts.{Moves, moves_count, skips_lines}
-use Rattle.top_laws.proofs.Lines.{identity_changes_nothing, header_moved, usual_moved, usual_skips}
+use Rattle.top_laws.proofs.LinesMoved.{identity_changes_nothing, header_moved, usual_moved, usual_skips}
 
 step_moved : (first number : ℕ) (line : List ℕ) (stage : PortStage) (s : PortReading) → port_step_at stage (moved_line first number) line s ≡ moved_by first (λ x. x) (port_step_at stage number line s)
 unfolding port_step_at

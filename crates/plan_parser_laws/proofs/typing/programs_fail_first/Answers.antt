@@ -1,4 +1,4 @@
-use Rattle.plan_parser_laws.proofs.Programs.{first_is, some_answer, not_both, one_refusal}
+use Rattle.plan_parser_laws.proofs.ProgramReadings.{first_is, some_answer, not_both, one_refusal}
 use Rattle.plan_parser_laws.proofs.typing.programs_fail_first.Goals as goal
 
 pub returns-clause-first : goal.returns-clause-first
