@@ -1,4 +1,5 @@
 mod First
+mod Greater
 mod Idle
 mod Leaving
 mod Visits

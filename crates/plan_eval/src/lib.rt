@@ -1,9 +1,11 @@
 //! Visits: the evaluation of a packet's chunk, by recursion to a depth and on a stack.
 #![tactic(auto)]
 
+mod allowances;
 mod machine;
 mod task;
 mod top_code;
 mod visiting;
 
+pub use allowances::greater_allowances;
 pub use visiting::visit;

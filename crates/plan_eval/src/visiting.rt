@@ -1,5 +1,5 @@
 //! The visit of a packet.
-ghost use Rattle.std.specs.Prelude.{◌≡◌, ◌↔◌, ◌+◌, ◌≤◌, ◌∷◌, [], length, All, IfOk, OnOk, IsSome, Some, min};
+ghost use Rattle.std.specs.Prelude.{◌≡◌, ◌≢◌, ◌↔◌, ◌+◌, ◌≤◌, ◌∷◌, [], ℕ, length, All, IfOk, OnOk, IsSome, Some, min};
 ghost use Rattle.plan_base.specs.declared.tree.Fun.{Fun as AFun};
 ghost use Rattle.plan_types_spec.specs.TypingOrder.{fun_of};
 ghost use Rattle.service_api.specs.Services.{AreGoodRows, IsGoodChunk};
@@ -11,6 +11,7 @@ ghost use Rattle.plan_meaning.specs.Meaning.{meaning, visited_chunk};
 ghost use Rattle.plan_meaning.specs.Safe.{IsSafe, AreGoodNotes, AreGoodPackets};
 ghost use Rattle.plan_meaning.specs.Laws.{VisitEnds, VisitsAlike, NoneSuffices};
 ghost use Rattle.visit_state.specs.Meets.{Meets};
+ghost use Rattle.plan_eval.specs.Given.{GivesAlone};
 
 use crate::machine::run_from;
 use checked_chunks::CheckedPacket;
@@ -143,6 +144,8 @@ fn visit_by_laws<S: Services>(
     ensures kept { OnOk result (AreGoodRows (S.stands svc.new).rows) }
     ensures ends { VisitEnds chunk.now ctx.entry.now family (S.stands svc.old) }
     ensures alike { VisitsAlike chunk.now ctx.entry.now family (S.stands svc.old) }
+    ensures greater { IfOk result (λ r. r.outcome ≢ outcome.WorkSpent → (w : ℕ) → allowance ≤ w
+        → GivesAlone w chunk.now ctx.entry.now family (S.stands svc.old) r (S.stands svc.new)) }
     ensures spent { IfOk result (λ r. (r.outcome ≡ outcome.WorkSpent) ↔ NoneSuffices allowance
         chunk.now ctx.entry.now family (S.stands svc.old)) }
     ensures offer { (S.stands svc.new).offer ≡ (S.stands svc.old).offer }
@@ -151,14 +154,16 @@ fn visit_by_laws<S: Services>(
     visit_chunk(alloc, chunk, size, family, bound, svc, ctx)
 }
 
-/// What the visit of a packet ends with, on a stack of its own: nothing recurses over expressions, calls or evals.
+/// What the visit of a packet ends with. It recurses over expressions, calls and evals on the native stack, at most 256 levels
+/// deep, and what stands deeper waits on a stack of its own.
 ///
 /// Conditions: the purse of the surroundings is the packet's bound and their source the family's host, there are at most 8
 /// neighbours, a `begin` is open, and the rows are good, as `begin` says that they are. Whatever it answers, the `begin` is
 /// still open and the rows at it are as before. After `WorkSpent` and `NoMemory` the caller abandons.
 ///
 /// Every visit would end by itself: some allowance of work suffices (`ends`), any two that suffice give the same (`alike`), and
-/// `WorkSpent` comes exactly where none up to 4,000,000 does (`spent`).
+/// `WorkSpent` comes exactly where none up to 4,000,000 does (`spent`). Where it doesn't come, every greater allowance gives the
+/// same, and nothing else (`greater`).
 #[tactic(auto, using(crate::proofs::Visits::good_chunk))]
 pub fn visit<S: Services>(
     alloc: Global,
@@ -182,6 +187,9 @@ pub fn visit<S: Services>(
     ensures kept { OnOk result (AreGoodRows (S.stands svc.new).rows) }
     ensures ends { VisitEnds p.now.chunk ctx.entry.now p.now.family (S.stands svc.old) }
     ensures alike { VisitsAlike p.now.chunk ctx.entry.now p.now.family (S.stands svc.old) }
+    ensures greater { IfOk result (λ r. r.outcome ≢ outcome.WorkSpent → (w : ℕ) → allowance ≤ w
+        → GivesAlone w p.now.chunk ctx.entry.now p.now.family (S.stands svc.old) r
+        (S.stands svc.new)) }
     ensures spent { IfOk result (λ r. (r.outcome ≡ outcome.WorkSpent) ↔ NoneSuffices allowance
         p.now.chunk ctx.entry.now p.now.family (S.stands svc.old)) }
     ensures offer { (S.stands svc.new).offer ≡ (S.stands svc.old).offer }

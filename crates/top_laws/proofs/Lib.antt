@@ -35,4 +35,3 @@ pub mod AskRead
 pub mod ConfigHead
 pub mod ConfigRead
 pub mod Ends
-pub mod Greater

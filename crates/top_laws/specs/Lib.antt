@@ -13,4 +13,3 @@ pub mod Configs
 pub mod Asks
 pub mod Fleets
 pub mod Ends
-pub mod Given

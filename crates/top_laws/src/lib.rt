@@ -1,8 +1,7 @@
-//! Laws that nothing stands on: of what files say, of texts that are printed and read again, and of greater allowances of work.
+//! Laws that nothing stands on: of what files say, and of texts that are printed and read again.
 #![tactic(auto)]
 
 mod again;
-mod allowances;
 mod counts;
 mod expressions;
 mod lines;
@@ -16,7 +15,6 @@ pub use again::{
     printed_expr_reads, printed_program_again, printed_program_reads, printed_type_reads,
     printed_value_again, printed_value_reads,
 };
-pub use allowances::{greater_allowances, visits_by_greater_allowances};
 pub use counts::{files_only_count, skipped_lines_only_move};
 pub use lines::ends_are_visits;
 pub use printed::{printed_program_lexes, printed_type_lexes, printed_value_lexes};

@@ -1,6 +1,7 @@
 use Rattle.std.proofs.Common.{◌∙◌}
 use Rattle.plan_meaning.specs.Visit.{allowance}
 use Rattle.plan_meaning.proofs.Allowances.{visit_can_end, visits_alike, spent_exactly}
+use Rattle.plan_eval.proofs.Greater.{gives_alone}
 use Rattle.plan_eval.proofs.Visits.{good_start, ok_map, ok_always, visit_keeps, visit_fits, visit_leaves}
 use Rattle.plan_eval.proofs.visiting.visit_by_laws.Goals as goal
 
@@ -30,3 +31,6 @@ returns-clause-alike g c = visits_alike c.args.chunk.now c.args.ctx.now c.args.f
 
 pub returns-clause-spent : goal.returns-clause-spent
 returns-clause-spent g c = ok_map (λ v i. spent_exactly c.args.chunk.now c.args.ctx.now c.args.family (g.S.Services.stands c.args.svc.now) allowance v _ i) c.visit_chunk.result c.visit_chunk.ensures.visits
+
+pub returns-clause-greater : goal.returns-clause-greater
+returns-clause-greater g c = ok_map (λ r i h w l. gives_alone c.args.chunk.now c.args.ctx.now c.args.family (g.S.Services.stands c.args.svc.now) allowance w r _ l i h) c.visit_chunk.result c.visit_chunk.ensures.visits

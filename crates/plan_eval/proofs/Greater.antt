@@ -1,8 +1,6 @@
 -- A greater allowance gives the same visit.
-use Rattle.std.proofs.Common.{◌≡◌, ◌≢◌, ℕ, ◌+◌, ◌-◌, ◌≤◌, Result, Ok, Err, sym, ap, ◌∙◌, subst, arith}
-use Rattle.std.specs.Prelude.{IfOk}
+use Rattle.std.proofs.Common.{◌≡◌, ◌≢◌, ℕ, ◌+◌, ◌-◌, ◌≤◌, sym, ap, ◌∙◌, subst, arith}
 use Rattle.plan_base.specs.declared.ids.Family.{Family}
-use Rattle.plan_base.specs.declared.memory.NoMemory.{NoMemory as WantsMemory}
 use Rattle.plan_base.specs.declared.tree.Chunk.{Chunk}
 use Rattle.plan_base.specs.declared.tree.Value.{Value}
 use Rattle.service_api.specs.declared.ctx.Ctx.{Ctx}
@@ -13,11 +11,11 @@ use Rattle.plan_meaning.specs.declared.outcome.Outcome.TheVariants as outcome
 use Rattle.plan_meaning.specs.declared.outcome.Visit.{Visit}
 use Rattle.plan_meaning.specs.State.{VisitState}
 use Rattle.plan_meaning.specs.Run.{After, gave, stopped, RunStep}
-use Rattle.plan_meaning.specs.Visit.{IsVisit, Ends, allowance, begun_state, ended_visit}
+use Rattle.plan_meaning.specs.Visit.{IsVisit, Ends, begun_state, ended_visit}
 use Rattle.plan_meaning.specs.Laws.{IsSpent, more, after_more, with_allowance}
 use Rattle.plan_meaning.proofs.Longer.{visit_allowance}
 use Rattle.plan_meaning.proofs.Allowances.{visits_alike, spent_exactly}
-use Rattle.top_laws.specs.Given.{GivesAlone}
+use Rattle.plan_eval.specs.Given.{GivesAlone}
 
 -- the work that is spent is the same
 ended_alike : (v k : ℕ) (how : Outcome) (s : VisitState) → ended_visit v how s ≡ ended_visit (v + k) how (more k s)
@@ -53,15 +51,11 @@ module _ (k : Chunk) (ctx : Ctx) (family : Family) (n : ServiceState) where
       let same : v + (w - v) ≡ w = omega arith in
       subst (λ u. IsVisit u k ctx family n r new) same (with_more v (w - v) r new e h)
 
-  gives_alone : (w : ℕ) (r : Visit) (new : ServiceState) → IsVisit w k ctx family n r new → r.outcome ≢ outcome.WorkSpent → GivesAlone w k ctx family n r new
-  gives_alone w r new e h = record {
-    gives = e;
-    alone = λ q other i. visits_alike k ctx family n w w q r other new i e (λ s. h ((spent_exactly k ctx family n w r new e).1 ((spent_exactly k ctx family n w q other i).0 s))) h;
-  }
-
--- what is answered with the allowance of visits, every greater one gives alone
-pub answers_again : (k : Chunk) (ctx : Ctx) (family : Family) (old new : ServiceState) (result : Result Visit WantsMemory)
-    → IfOk result (λ r. IsVisit allowance k ctx family old r new)
-    → IfOk result (λ r. r.outcome ≢ outcome.WorkSpent → (w : ℕ) → allowance ≤ w → GivesAlone w k ctx family old r new)
-answers_again k ctx family old new (Ok r) e = λ h w l. gives_alone k ctx family old w r new (visit_again k ctx family old allowance w r new l e h) h
-answers_again k ctx family old new (Err m) e = tt
+  -- and nothing else does
+  pub gives_alone : (v w : ℕ) (r : Visit) (new : ServiceState) → v ≤ w → IsVisit v k ctx family n r new → r.outcome ≢ outcome.WorkSpent → GivesAlone w k ctx family n r new
+  gives_alone v w r new l e h =
+      let again = visit_again v w r new l e h in
+      record {
+        gives = again;
+        alone = λ q other i. visits_alike k ctx family n w w q r other new i again (λ s. h ((spent_exactly k ctx family n w r new again).1 ((spent_exactly k ctx family n w q other i).0 s))) h;
+      }
