@@ -58,11 +58,32 @@ def test_numbers_of_runs() -> None:
 
 def test_what_a_trace_counts() -> None:
     """A packet comes and is visited, one is dropped, one is lost; adverts and visits of injections count for neither."""
-    trace = ("planet trace 1\n1 inject @1 1.1 bound 9\n1 print @1 \"a lost b\"\n"
-             "1 value @1 1.1 () evals 1 left 2\n1 queue @1 %1 1.1 bound 3\n2 send @1 %1 1.1\n2 wire 1\n3 off 1\n3 arrive @2 %1\n3 port @2 7 (1, 2)\n"
-             "3 raised @2 1.1 NoBound evals 0 left 3\n4 off 2\n4 lost 1.1 bound 0\n5 off 3\n5 lost advert\n6 off 4\n"
-             "6 arrive @2 %1\n6 drop @2 NoRoute 1.1 bound 0\n7 tick @1 now 1\n7 drop @1 QueueFull advert\n"
-             "8 nothing\nledger\n1.1 granted 9 hops 3 evals 1 live 0 left 5\n2.1 granted 1 hops 0 evals 0 live 1 left 0\nend\n")
+    trace = """planet trace 1
+1 inject @1 1.1 bound 9
+1 print @1 "a lost b"
+1 value @1 1.1 () evals 1 left 2
+1 queue @1 %1 1.1 bound 3
+2 send @1 %1 1.1
+2 wire 1
+3 off 1
+3 arrive @2 %1
+3 port @2 7 (1, 2)
+3 raised @2 1.1 NoBound evals 0 left 3
+4 off 2
+4 lost 1.1 bound 0
+5 off 3
+5 lost advert
+6 off 4
+6 arrive @2 %1
+6 drop @2 NoRoute 1.1 bound 0
+7 tick @1 now 1
+7 drop @1 QueueFull advert
+8 nothing
+ledger
+1.1 granted 9 hops 3 evals 1 live 0 left 5
+2.1 granted 1 hops 0 evals 0 live 1 left 0
+end
+"""
     wanted = dict.fromkeys(run.COUNTS, 0)
     wanted.update(injected=1, arrived=1, printed=2, NoRoute=1, lost=1, granted=10, hops=3, evals=1, live=1, left=5)
     assert run.count(trace.encode()) == wanted
