@@ -78,6 +78,12 @@ export class Accounts {
     return Object.fromEntries(COUNTS.map((count) => [count, at < 0 ? 0 : this.columns[count].at(rows[at])]));
   }
 
+  /** The first event that changed a family's counts, or Infinity. */
+  beginning(place) {
+    const [row] = this.list[place].rows;
+    return row === undefined ? Infinity : this.events.at(row);
+  }
+
   /** All changes of a family's counts, each with its event. */
   history(place) {
     return this.list[place].rows.map((row) => ({

@@ -331,7 +331,10 @@ function listen(page) {
 
 function explain() {
   refill(byId("key-list"), ...KEYS.map(([key, does]) => html("div", {}, html("dt", {}, key), html("dd", {}, does))));
-  const marks = LEGEND.map(([name, path]) => [svg("svg", { class: `mark ${name === "advert" ? "of-advert" : "colour-0"}`, viewBox: "-6 -6 12 12", width: 14, height: 14 }, svg("path", { d: path })), name]);
+  const marks = LEGEND.map(([name, path]) => {
+    const place = { class: `mark ${name === "advert" ? "of-advert" : "colour-0"}`, viewBox: "-6 -6 12 12", width: 14, height: 14 };
+    return [svg("svg", place, svg("path", { d: path })), name];
+  });
   const signs = WORDS.filter((word) => word !== "port").map((word) => [signOf(word, 13), word]);
   refill(byId("legend"), ...[...marks, ...signs].map(([sign, name]) => html("div", {}, html("dt", {}, sign), html("dd", {}, name))));
   refill(byId("ledger-head"), ...["family", "granted", "hops", "evals", "live", "left"].map((name) => html("span", {}, name)));

@@ -64,7 +64,7 @@ export class Balance {
       return;
     }
     const counts = this.run.accounts.after(this.family, this.event);
-    const row = (name, value, sign) => html("div", { class: `count-${name}` }, html("dt", {}, ...(sign ? [sign, " "] : []), NAMES[name] ?? name), html("dd", {}, String(value)));
+    const row = (name, value, ...sign) => html("div", {}, html("dt", {}, ...sign, NAMES[name] ?? name), html("dd", {}, String(value)));
     const shown = PARTS.filter((part) => part !== "gone" || this.run.isOpen);
     const came = this.run.isOpen ? [row("entered", counts.entered)] : [];
     refill(this.numbers, row("granted", counts.granted), ...came, ...shown.map((part) => row(part, counts[part], key(part))));
@@ -79,7 +79,7 @@ export class Balance {
     const whole = this.run.accounts.history(this.family);
     const first = whole[0]?.event ?? 0;
     const last = Math.min(this.run.eventCount, (whole.at(-1)?.event ?? 0) + 1);
-    const most = Math.max(1, ...[whole.reduce((top, it) => Math.max(top, it.granted + it.entered), 0)]);
+    const most = whole.reduce((top, it) => Math.max(top, it.granted + it.entered), 1);
     this.x = (event) => LEFT + ((width - LEFT - 8) * Math.max(0, Math.min(1, (event - first) / Math.max(1, last - first))));
     this.range = { first, last, width };
     const y = (value) => height - BOTTOM - ((height - TOP - BOTTOM) * value) / most;
@@ -87,7 +87,7 @@ export class Balance {
     const label = (text, at) => svg("text", { class: "axis", ...at }, text);
     this.cursor = svg("line", { class: "cursor", y1: TOP - 4, y2: height - BOTTOM + 4 });
     this.picture = svg("svg", { class: "areas", viewBox: `0 0 ${width} ${height}`, role: "img", "aria-label": "The balance over time" }, patterns(),
-      ...areas.map(({ part, corners }) => svg("polygon", { points: corners, fill: `url(#area-${part})`, class: `edge-${part}` }, svg("title", {}, NAMES[part] ?? part))),
+      ...areas.map(({ part, corners }) => svg("polygon", { points: corners, fill: `url(#area-${part})` }, svg("title", {}, NAMES[part] ?? part))),
       label(String(most), { x: LEFT - 5, y: TOP + 6, "text-anchor": "end" }), label("0", { x: LEFT - 5, y: height - BOTTOM, "text-anchor": "end" }),
       label(`event ${this.run.number(first)}`, { x: LEFT, y: height - 5 }),
       label(String(this.run.number(Math.min(last, this.run.eventCount - 1))), { x: width - 8, y: height - 5, "text-anchor": "end" }), this.cursor);

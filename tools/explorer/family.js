@@ -5,7 +5,7 @@ import { signOf } from "./signs.js";
 import { beginning, whereabouts } from "./words.js";
 
 const PACKET_HEIGHT = 24;
-const DEEPEST = 14;
+const DEEPEST = 8;
 const SIGNS = { injected: "inject", forged: "forged", entered: "arrive", sent: "send", handler: "handler", unknown: "nothing" };
 
 /** The packets of a family, each behind its parent and in front of its own children, with its depth. */
@@ -60,7 +60,7 @@ export class Ledger {
 
   draw(place, row) {
     const counts = this.run.accounts.after(place, this.event);
-    const isNotYet = counts.granted + counts.entered === 0 && this.run.accounts.history(place)[0]?.event > this.event;
+    const isNotYet = this.run.accounts.beginning(place) > this.event;
     row.classList.toggle("chosen", place === this.family);
     row.classList.toggle("later", isNotYet);
     const came = this.run.isOpen ? counts.granted + counts.entered : counts.granted;

@@ -8,6 +8,8 @@ import { markPath, signOf } from "./signs.js";
 const STEP = 9;
 const LANE = 7;
 const MOST_IN_STACK = 6;
+const MOST_NAMED = 3;
+const MOST_ABOVE = 3;
 
 /** The links of a run, each once, with the devices of its ends; a device whose other end no line shows leads outside. */
 function linksOf(run) {
@@ -101,9 +103,9 @@ export class Network {
   }
 
   /** A point on a way's own lane, which lies to the right of who goes it. */
-  onLane(way, along) {
+  onLane(way, along, aside = LANE) {
     const at = way.rim + along;
-    return { x: way.from.x + way.ux * at - way.uy * LANE, y: way.from.y + way.uy * at + way.ux * LANE, side: way.ux };
+    return { x: way.from.x + way.ux * at - way.uy * aside, y: way.from.y + way.uy * at + way.ux * aside, side: way.ux };
   }
 
   drawStill() {
@@ -163,7 +165,8 @@ export class Network {
     const lanes = new Map();
     for (const frame of this.run.onWire(event).filter(isShown)) {
       const key = `${frame.host} ${frame.device}`;
-      lanes.set(key, [...(lanes.get(key) ?? []), frame]);
+      if (!lanes.has(key)) lanes.set(key, []);
+      lanes.get(key).push(frame);
     }
     for (const frames of lanes.values()) this.lane(frames, event, wanted, counts);
     this.moveMarks(wanted);
@@ -175,30 +178,33 @@ export class Network {
   stack(queue, frames, wanted, counts) {
     if (frames.length === 0) return;
     if (queue.device === 0) {
-      this.ownStack(queue, frames, wanted, counts);
+      this.above(queue.host, frames, "queued", 0, wanted, counts);
       return;
     }
     const way = this.way(queue.host, queue.device);
     const places = Math.max(1, Math.min(MOST_IN_STACK, Math.floor((way.length / 2 - 14) / STEP)));
     const shown = Math.min(frames.length, places);
-    frames.slice(0, shown).forEach((frame, place) => wanted.set(frame.index, { frame, state: "queued", ...this.onLane(way, (shown - place - 0.5) * STEP) }));
+    frames.slice(0, shown).forEach((frame, place) => {
+      wanted.set(frame.index, { frame, state: "queued", ...this.onLane(way, (shown - place - 0.5) * STEP) });
+    });
     if (frames.length > shown) counts.push({ ...this.onLane(way, (shown + 1.3) * STEP), text: `+${frames.length - shown}` });
   }
 
-  ownStack(queue, frames, wanted, counts) {
-    const { x, y } = this.spotOf(queue.host);
-    const shown = Math.min(frames.length, 3);
-    frames.slice(0, shown).forEach((frame, place) => wanted.set(frame.index, { frame, state: "queued", x: x - this.half.x + 5 + place * STEP, y: y - this.half.y - 8 }));
-    if (frames.length > shown) counts.push({ x: x - this.half.x - 10, y: y - this.half.y - 8, text: `+${frames.length - shown}` });
+  /** Device 0 leads to its own host: its frames stand above it, those on the wire in a row of their own. */
+  above(host, frames, state, row, wanted, counts) {
+    const spot = this.spotOf(host);
+    const [x, y] = [spot.x - this.half.x, spot.y - this.half.y - 8 - row * 12];
+    frames.slice(0, MOST_ABOVE).forEach((frame, place) => wanted.set(frame.index, { frame, state, x: x + 5 + place * STEP, y }));
+    if (frames.length > MOST_ABOVE) counts.push({ x: x - 10, y, text: `+${frames.length - MOST_ABOVE}` });
   }
 
   /** The frames of one direction of a link, each as far as it has gone. */
   lane(frames, event, wanted, counts) {
     const { host, device } = frames[0];
     if (device === 0) {
-      const { x, y } = this.spotOf(host);
-      frames.slice(0, 3).forEach((frame, place) => wanted.set(frame.index, { frame, state: "wired", x: x - this.half.x + 5 + place * STEP, y: y - this.half.y - 20 }));
-      if (frames.length > 3) counts.push({ x: x - this.half.x - 10, y: y - this.half.y - 20, text: `+${frames.length - 3}` });
+      const copies = frames.filter((frame) => this.run.isCopy(frame, event));
+      this.above(host, frames.filter((frame) => !copies.includes(frame)), "wired", 1, wanted, counts);
+      this.above(host, copies, "copy", 2, wanted, counts);
       return;
     }
     const way = this.way(host, device);
@@ -209,9 +215,10 @@ export class Network {
     order.slice(0, places).forEach(([part, frame], place) => {
       const least = from + (Math.min(places, order.length) - 1 - place) * STEP;
       before = Math.max(least, Math.min(before - STEP, from + (to - from) * part));
-      wanted.set(frame.index, { frame, state: this.run.isCopy(frame, event) ? "copy" : "wired", ...this.onLane(way, before) });
+      const state = this.run.isCopy(frame, event) ? "copy" : "wired";
+      wanted.set(frame.index, { frame, state, isNamed: order.length <= MOST_NAMED, ...this.onLane(way, before) });
     });
-    if (order.length > places) counts.push({ ...this.onLane(way, Math.max(0, from - 12)), text: `+${order.length - places}` });
+    if (order.length > places) counts.push({ ...this.onLane(way, (from + to) / 2, LANE + 13), text: `+${order.length - places}` });
   }
 
   moveMarks(wanted) {
@@ -220,12 +227,13 @@ export class Network {
       mark.remove();
       this.marks.delete(index);
     }
-    for (const [index, { frame, state, x, y, side }] of wanted) {
+    for (const [index, { frame, state, isNamed, x, y, side }] of wanted) {
       const known = this.marks.get(index) ?? this.newMark(frame, x, y);
       known.mark.style.transform = `translate(${x}px, ${y}px)`;
       if (known.state !== state) known.mark.dataset.state = state;
       known.state = state;
       known.mark.lastChild.setAttribute("y", side < 0 ? -8 : 15);
+      known.mark.classList.toggle("named", isNamed === true);
       known.mark.classList.toggle("chosen", frame.packet >= 0 && frame.packet === this.choice.packet);
     }
   }

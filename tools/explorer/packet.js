@@ -70,7 +70,8 @@ export class PacketView {
   visit(packet) {
     const { visit } = packet;
     if (!visit) return [];
-    const facts = [["at", `@${visit.host}`], ["evals", String(visit.evals)], ["left", String(visit.left)], [visit.how, visit.words]].filter(([, text]) => text !== "");
+    const counts = [["at", `@${visit.host}`], ["evals", String(visit.evals)], ["left", String(visit.left)]];
+    const facts = visit.words === "" ? counts : [...counts, [visit.how, visit.words]];
     const notes = visit.notes.map((line) => {
       const said = this.run.said(line);
       return html("li", {}, html("span", { class: "tag" }, said.kind === "port" ? `port ${said.port}` : "print"), html("span", { class: "value" }, said.value));

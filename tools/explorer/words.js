@@ -2,7 +2,8 @@
 import { NEVER } from "./columns.js";
 
 const BEGINNINGS = {
-  injected: "injected", forged: "forged", entered: "came from outside", sent: "sent by a visit", handler: "sent to the handler", unknown: "of lines that are missing",
+  injected: "injected", forged: "forged", entered: "came from outside", sent: "sent by a visit", handler: "sent to the handler",
+  unknown: "of lines that are missing",
 };
 
 export function beginning(packet) {

@@ -2,11 +2,11 @@
 from __future__ import annotations
 
 import os
-import subprocess
 import tempfile
 from dataclasses import dataclass, field
 from typing import Dict, List, Tuple
 
+from planet_tools.program import run
 from planet_tools.trace.capture import entries_of
 from planet_tools.trace.files import run_of, text_of
 from planet_tools.trace.flow import number
@@ -55,13 +55,13 @@ class Log:
 def run_program(program: str, words: List[str]) -> str:
     """What the program writes; a run that it refuses is refused with its note."""
     try:
-        done = subprocess.run([program, *words], capture_output=True, check=False)
+        done = run(program, words)
     except OSError as fault:
         raise Refused(f"the program can't be started ({fault.strerror or fault}), {program}") from fault
-    if done.returncode != 0:
-        note = done.stderr.decode("utf-8", "replace").strip().split("\n")[-1]
-        raise Refused(f"{note or f'status {done.returncode}'}, planet {' '.join(words)}")
-    return done.stdout.decode("utf-8")
+    if done.status != 0:
+        note = done.note.split("\n")[-1]
+        raise Refused(f"{note or f'status {done.status}'}, planet {' '.join(words)}")
+    return done.output.decode("utf-8")
 
 
 class Program:
@@ -177,18 +177,18 @@ def network_of(lines: List[Line], host: int) -> List[str]:
 
 def read_log(program: Program, name: str) -> Log:
     """A log with what its steps did and sent."""
-    run = run_of(text_of(name), name)
-    if run.file != "log":
+    read = run_of(text_of(name), name)
+    if read.file != "log":
         raise Refused(f"no log of a node, {name} line 1")
-    head = {str(line["kind"]): line for line in run.lines if line["kind"] in ("log", "host", "boot")}
+    head = {str(line["kind"]): line for line in read.lines if line["kind"] in ("log", "host", "boot")}
     boot = number(head["boot"], "boot") if "boot" in head else 0
     version = number(head["log"], "version")
-    log = Log(name, number(head["host"], "host"), version, boot, [Step(entry) for entry in entries_of(run.lines)])
+    log = Log(name, number(head["host"], "host"), version, boot, [Step(entry) for entry in entries_of(read.lines)])
     for line in run_program(program.path, ["replay", name]).split("\n"):
         said = TRACE.read(line)
         if said and "event" in said:
             log.steps[number(said, "event") - 1].lines.append(line.split(" ", 1)[1])
-    remade = Remade(program, log, network_of(run.lines, log.host))
+    remade = Remade(program, log, network_of(read.lines, log.host))
     for place, step in enumerate(log.steps):
         remade.add(place, step)
     remade.show()

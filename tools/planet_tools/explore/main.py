@@ -5,9 +5,9 @@ import argparse
 import os
 import sys
 import tempfile
-from pathlib import Path
 from typing import NoReturn, Sequence, Tuple
 
+from planet_tools import program
 from planet_tools.explore import page
 from planet_tools.explore.fleet import read_fleet
 from planet_tools.trace.files import text_of
@@ -19,7 +19,6 @@ ABOUT = (
 )
 LONGEST = 64 * 1024 * 1024
 HEAD = "planet trace 1"
-ROOT = Path(__file__).resolve().parents[3]
 
 
 class Parser(argparse.ArgumentParser):
@@ -35,10 +34,7 @@ def words_of(given: Sequence[str]) -> argparse.Namespace:
     add = parser.add_argument
     add("file", metavar="FILE", nargs="?", help="a trace, or the file of an audit")
     add("out", metavar="OUT.html", nargs="?", help="the page (else FILE's name with the ending .html)")
-    add(
-        "--program", metavar="PROGRAM", default=str(ROOT / "planet"),
-        help="planet, which audits a fleet and makes the steps of its logs again (./planet of this repository)",
-    )
+    add("--planet", metavar="PATH", help="the program planet, for a fleet; without it the built one of this repository")
     add("--trace", metavar="OUT.trace", help="writes the trace of the fleet too, as other tools read it")
     add("--make", action="store_true", help="makes explorer.html, the page without a trace, and forms.js")
     add("--check", action="store_true", help="with --make: says whether these two are what would be made")
@@ -66,7 +62,7 @@ def trace_of(words: argparse.Namespace) -> Tuple[str, str]:
     text = text_of(words.file)
     first = text.split("\n", 1)[0]
     if first == "planet audit 1":
-        fleet = read_fleet(words.program, words.file)
+        fleet = read_fleet(program.find("explore", words.planet), words.file)
         said = f"{fleet.events} events, {fleet.arrows} frames from node to node, the audit says {fleet.answer}"
         return fleet.trace, said
     if words.trace:

@@ -26,6 +26,13 @@ boxes.forEach((one, place) => boxes.slice(0, place).forEach((other) => { found +
 return [found, boxes.filter((it) => !within(it)).length];
 """
 
+DROP = """
+const drag = new DataTransfer();
+for (const [name, text] of arguments[0]) drag.items.add(new File([text], name));
+document.dispatchEvent(new DragEvent("drop", {dataTransfer: drag, bubbles: true, cancelable: true}));
+return new Promise((done) => setTimeout(done, 300));
+"""
+
 
 class Wrong(Exception):
     """What isn't as wanted."""
@@ -167,6 +174,16 @@ def check_bad_inputs(browser: Browser, trace: Path, room: Path) -> int:
         same(f"{name}: the last event", browser.shown()["now"].split(" ")[-1], str(last or 14))
         file.unlink()
     return len(cases)
+
+
+def check_drop(browser: Browser, trace: Path) -> None:
+    """A trace that is dropped on the page is shown; two at once are refused in words."""
+    browser.open()
+    browser.run(DROP, [["dropped.trace", trace.read_text("utf-8")]])
+    same("a dropped trace", browser.shown()["now"], "event 1 of 14")
+    browser.run(DROP, [["one.trace", "planet trace 1\nend\n"], ["two.trace", "planet trace 1\nend\n"]])
+    same("two dropped files", "one trace at a time" in browser.shown()["fault"], True)
+    same("what was open", browser.shown()["now"], "event 1 of 14")
 
 
 def check_harmless(browser: Browser, room: Path) -> None:

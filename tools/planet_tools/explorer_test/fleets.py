@@ -75,7 +75,7 @@ def check_fleets(browser: Browser, program: str, root: Path, room: Path) -> int:
     arrows = 0
     for folder in run_fleets(program, root, room):
         words = [sys.executable, str(root / "tools/explore"), "logs.audit", "fleet.html"]
-        words += ["--program", program, "--trace", "fleet.trace"]
+        words += ["--planet", program, "--trace", "fleet.trace"]
         done = subprocess.run(words, cwd=folder, capture_output=True, text=True, check=False)
         if done.returncode != 0 or "the audit says yes" not in done.stdout:
             raise Wrong(f"{folder.name}: {done.stdout}{done.stderr}")

@@ -3,7 +3,6 @@ from __future__ import annotations
 
 import argparse
 import os
-import subprocess
 import sys
 import tempfile
 from concurrent.futures import ThreadPoolExecutor
@@ -80,9 +79,12 @@ class Trial:
                 text = schedules.drawn(Program(self.program, room), seed, 1 + seed % 2, seed % 3 == 0)
                 return f"drawn {seed}", text
 
+        def settled(shape: str) -> Tuple[str, str]:
+            with tempfile.TemporaryDirectory() as room:
+                return f"scenario {shape}", schedules.settled(self.program, shape, Path(room))
+
         with ThreadPoolExecutor(2) as workers:
-            made = [*workers.map(grown, GROWN), *workers.map(drawn, SEEDS)]
-            made += [(f"scenario {file.stem}", text) for file, text in scenario_texts(self.program)]
+            made = [*workers.map(grown, GROWN), *workers.map(drawn, SEEDS), *workers.map(settled, schedules.SHAPES)]
             made += [(file.parent.name, file.read_text("utf-8")) for file in schedules.rows_by_hand(ROOT)]
             names = [f"{place}-{name}" for place, (name, _) in enumerate(made)]
             return list(zip(names, workers.map(self.trace_of, names, (text for _, text in made))))
@@ -91,6 +93,7 @@ class Trial:
         """Bad inputs and hostile texts."""
         count = checks.check_bad_inputs(self.browser, self.ping, self.room)
         checks.check_harmless(self.browser, self.room)
+        checks.check_drop(self.browser, self.ping)
         return f"{count} bad inputs refused"
 
     def choices(self) -> str:
@@ -123,17 +126,6 @@ class Trial:
         fleet = self.room / fleets.SAMPLES[0]
         if (fleet / "fleet.html").exists():
             pictures.take_fleet(self.browser, fleet / "fleet.html", fleet / "fleet.trace", folder)
-
-
-def scenario_texts(program: str) -> List[Tuple[Path, str]]:
-    """The schedules that tools/scenario makes of the samples' scenarios."""
-    found = []
-    for file in sorted((ROOT / "samples").rglob("*.scenario")):
-        words = [sys.executable, str(ROOT / "tools/scenario"), str(file), "--program", program]
-        done = subprocess.run(words, capture_output=True, text=True, check=False)
-        if done.returncode == 0 and done.stdout.startswith("planet schedule "):
-            found.append((file, done.stdout))
-    return found
 
 
 def tried(trial: Trial, only: Sequence[str]) -> int:

@@ -2,6 +2,8 @@
 from __future__ import annotations
 
 import random
+import subprocess
+import sys
 from pathlib import Path
 from typing import Callable, Iterator, List, Optional, Set
 
@@ -49,6 +51,8 @@ CHUNK = "0c64656661756c74526f7574650000010166000020016600"
 HOSTS, GROW_HOSTS = 5, 8
 DRAWN_PARTS, DRAWN_EVENTS = 5, 40
 EVENTS_MOST, ROUNDS = 50_000, 4
+SCENARIO = Path(__file__).resolve().parents[2] / "scenario"
+SHAPES = ("ring 6", "grid 2 3", "star 5", "tree 7", "line 4", "random 8 3 seed 5")
 
 
 class Pcg:
@@ -177,6 +181,20 @@ def drawn(program: Program, seed: int, version: int, frames: bool) -> str:
         drawing.know(program.on_text("replay", "\n".join([*head, *events, ""])))
         events += [drawing.event() for _ in range(DRAWN_EVENTS)]
     return "\n".join([*head, *events, ""])
+
+
+def settled(program: str, shape: str, room: Path) -> str:
+    """The schedule that tools/scenario makes of a shape of network: pings while frames are lost and reordered."""
+    version = 1 + SHAPES.index(shape) % 2
+    again = " repeat 10%" if version == 2 else ""
+    file = room / "it.scenario"
+    file.write_text("\n".join([
+        f"planet scenario {version}", shape, f"program all\n{DRAWN}end program", "events", "routes 3",
+        "inject 1 all ping 20 (@1, @4)", "every 1 for 6 at 2 inject all ping 12 (@2, @4)", "inject 3 all flood 40 ()",
+        f"settle lose 20%{again} reorder seed 7", "",
+    ]))
+    words = [sys.executable, str(SCENARIO), str(file), "--planet", program]
+    return subprocess.run(words, capture_output=True, text=True, check=True).stdout
 
 
 def replayed(row: Path) -> Optional[Path]:

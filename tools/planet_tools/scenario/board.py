@@ -10,19 +10,26 @@ WIRE_MAX = 4_096
 
 
 class Frame:
-    """A frame, and what of its bytes stays the same on each link, once they were seen."""
+    """A frame, and what of its bytes stays the same on each link: seen on a link, or taken from one like it."""
 
-    __slots__ = ("is_advert", "body", "destination")
+    __slots__ = ("is_advert", "is_seen", "body", "destination")
 
     def __init__(self, is_advert: bool) -> None:
         self.is_advert = is_advert
+        self.is_seen = is_advert
         self.body = b""
         self.destination = -1
 
+    def take_after(self, other: Frame) -> None:
+        """Takes its bytes to be those of another frame, until they are seen."""
+        if not self.is_seen:
+            self.body, self.destination = other.body, other.destination
+
     def see(self, spelled: bytes) -> None:
         """Takes a packet's hex but for its stamp, its serial number and its bound."""
-        if self.is_advert or self.body:
+        if self.is_seen:
             return
+        self.is_seen = True
         source = 12 if spelled[8:10] == b"01" else 44
         self.destination = int(spelled[source + 24:source + 32], 16)
         self.body = spelled[source:source + 8] + spelled[source + 24:source + 32] + spelled[source + 40:]

@@ -84,16 +84,28 @@ class Network:
         """The devices of a host that have a link, in order, each with the end behind it."""
         return sorted((end[1], other) for end, other in self.other_end.items() if end[0] == host)
 
+    def distances(self, start: int) -> dict[int, int]:
+        """How many links each host that can be reached is away."""
+        reached, edge = {start: 0}, [start]
+        while edge:
+            here = edge.pop(0)
+            for _, (there, _device) in self.neighbours(here):
+                if there not in reached:
+                    reached[there] = reached[here] + 1
+                    edge.append(there)
+        return reached
+
     def longest_way(self) -> int:
         """The links of the longest of the shortest ways between two hosts that can reach each other."""
-        longest = 0
-        for start in self.without:
-            reached, edge = {start: 0}, [start]
-            while edge:
-                here = edge.pop(0)
-                for _, (there, _device) in self.neighbours(here):
-                    if there not in reached:
-                        reached[there] = reached[here] + 1
-                        edge.append(there)
-            longest = max(longest, *reached.values())
-        return longest
+        return max((max(self.distances(start).values()) for start in self.without), default=0)
+
+    def ways(self) -> dict[tuple[int, int], int]:
+        """The device by which a host reaches another, once all routes are known: of the shortest ways the lowest."""
+        ways = {}
+        for there in self.without:
+            away = self.distances(there)
+            for here in away:
+                nearer = [device for device, (other, _) in self.neighbours(here) if away[other] < away[here]]
+                if nearer:
+                    ways[(here, there)] = nearer[0]
+        return ways

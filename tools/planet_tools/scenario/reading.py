@@ -59,7 +59,7 @@ class Reading:
     def event_ends(self, number: int) -> None:
         """Learns from an event that was read whole."""
         if self.is_usual and self.injects:
-            self.guess.injections[self.events[number - 1]] = self.sent
+            self.guess.injections.learn(self.events[number - 1], self.sent)
         elif self.is_usual and self.arrived is not None:
             self.guess.learn(self.end, self.arrived, self.sent)
         self.began()

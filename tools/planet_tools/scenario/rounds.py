@@ -51,7 +51,7 @@ class Made:
         self.schedule: Schedule = begun(intent)
         self.replays = Replays(planet, intent.events_line)
         self.board = Board(intent.network.other_end)
-        self.guess = Guess()
+        self.guess = Guess(intent.network.ways())
         self.steps: list[Step] = []
         self.sources: list[Source] = []
         self.read_events = 0
@@ -152,7 +152,7 @@ class Made:
             if next_turn(source, planned.number) == planned.number:
                 event = source.injection.event()
                 planned.events.append((event, source.line))
-                for device, sent in self.guess.injections.get(event, []):
+                for device, sent in self.guess.injections.guess(event):
                     board.push((source.injection.host, device), sent)
         planned.counts = board.counts()
 

@@ -72,16 +72,17 @@ class Replays:
     made: int = 0
     last_text: str = ""
     last_trace: bytes = b""
+    room: tempfile.TemporaryDirectory[str] = field(
+        default_factory=lambda: tempfile.TemporaryDirectory(prefix="planet-scenario-"))
 
     def trace(self, schedule: Schedule, shows_frames: bool) -> bytes:
         """The trace and ledger of a schedule. What planet refuses is a fault of the scenario's line."""
         text = schedule.text(shows_frames)
         if text == self.last_text:
             return self.last_trace
-        with tempfile.TemporaryDirectory(prefix="planet-scenario-") as folder:
-            file = Path(folder) / "made.schedule"
-            file.write_bytes(text.encode())
-            ended = program.run(self.planet, ["replay", str(file)])
+        file = Path(self.room.name) / "made.schedule"
+        file.write_bytes(text.encode())
+        ended = program.run(self.planet, ["replay", str(file)])
         self.made += 1
         if ended.status:
             refused = ended.refused_line()

@@ -1,0 +1,1 @@
+"""Plots of the table of a sweep."""
