@@ -1,0 +1,132 @@
+"""What is left of nodes and fleets that were killed, each at a moment of its own."""
+from __future__ import annotations
+
+import os
+import random
+import re
+import signal
+import subprocess
+import time
+from pathlib import Path
+from typing import List
+
+from edges.room import ROOT, Node, Room
+
+PINGS = """svc print : (int) -> unit
+fun g(n : int) : unit = print(n)
+fun f(n : int) : unit = OnNeighbor(|g|(n), @2, 1, %1)
+"""
+
+
+def killed_node(room: Room, number: int, draw: random.Random) -> None:
+    """Kills a node while it injects, logs and sends: its log replays, and each frame that came is of a taking in it."""
+    more = "program\n" + PINGS + "end program\n" + "".join(f"at {turn} inject f 9 ({turn})\n" for turn in range(1, 400))
+    node = Node(room, 1_000_000, period=5, more=more)
+    if not room.wants("a node serves", node.serves()):
+        return
+    until = time.monotonic() + draw.uniform(0.0, 0.15)
+    while time.monotonic() < until:
+        # not so much that a replay wouldn't take the log
+        for _ in range(3):
+            node.asks()
+            node.hears(b"PLAN" + draw.randbytes(draw.choice((3, 40, 40, 40, 8_000))))
+        time.sleep(0.002)
+    os.kill(node.process.pid, draw.choice((signal.SIGKILL, signal.SIGTERM, signal.SIGINT, signal.SIGHUP)))
+    node.process.wait()
+    time.sleep(0.01)
+    received = node.received()
+    node.replays(f"node {number} that was killed", is_whole=False)
+    taken = node.entries().count("take 1")
+    room.wants("what a killed node sent is in its log", len(received) <= taken, (len(received), taken))
+    room.wants("no line of a log that had memory is 'lost'", "lost" not in node.entries())
+    node.kill()
+
+
+def random_kills(room: Room, count: int = 0) -> None:
+    """Kills nodes at random moments."""
+    draw = random.Random(count)
+    for number in range(count or int(os.environ.get("EDGE_KILLS", "12"))):
+        killed_node(room, number, draw)
+
+
+def fleet_files(room: Room) -> List[str]:
+    """Copies the fleet of the samples to free ports, and answers the names of its logs."""
+    logs = []
+    ports = {str(7101 + it): str(room.port()) for it in range(3)}
+    ports.update({str(7201 + it): str(room.port()) for it in range(3)})
+    room.let_go()
+    for path in sorted((ROOT / "samples/live-fleet").glob("*.cfg")):
+        text = path.read_text()
+        for was, port in ports.items():
+            text = re.sub(rf"\b{was}\b", port, text)
+        room.put(path.name, text)
+        logs += re.findall(r"^log (\S+)", text, re.M)
+    room.put("fleet.txt", "planet fleet 1\nnode 1 one.cfg 1000000\nnode 2 two.cfg 1000000\nnode 3 three.cfg 1000000\n")
+    return logs
+
+
+def children_of(process: int) -> List[int]:
+    """The children of a process."""
+    path = Path(f"/proc/{process}/task/{process}/children")
+    return [int(it) for it in path.read_text().split()]
+
+
+def begun_fleet(room: Room, logs: List[str]) -> "subprocess.Popen[bytes]":
+    """Starts a fleet, and waits until each of its nodes has begun its log anew."""
+    for it in logs:
+        (room.folder / it).unlink(missing_ok=True)
+    with open(room.folder / "fleet.out", "wb") as output, open(room.folder / "fleet.notes", "wb") as notes:
+        fleet = subprocess.Popen([room.program, "fleet", "fleet.txt"], cwd=room.folder, stdin=subprocess.DEVNULL,
+                                 stdout=output, stderr=notes)
+    last = time.monotonic() + 20
+    while time.monotonic() < last and not all((room.folder / it).exists() and (room.folder / it).stat().st_size for it in logs):
+        time.sleep(0.02)
+    return fleet
+
+
+def logs_replay(room: Room, logs: List[str], saying: str) -> None:
+    """Wants each log to replay, and all to fit together but for what was under way."""
+    for it in logs:
+        done = room.call("replay", it)
+        room.wants(f"log {it} of {saying} replays", done.status == 0 and done.output.endswith(b"end\n"), done)
+
+
+def killed_child(room: Room) -> None:
+    """A child that is killed has no status: the fleet tells a fault, and no line says 0 of it."""
+    logs = fleet_files(room)
+    for place in range(3):
+        fleet = begun_fleet(room, logs)
+        children = children_of(fleet.pid)
+        room.wants("a fleet starts its children", len(children) == 3, children)
+        time.sleep(0.1 * place)
+        os.kill(children[place], signal.SIGKILL)
+        # those in front of it are waited for first
+        for it in children[:place]:
+            os.kill(it, signal.SIGKILL)
+        status = fleet.wait(20)
+        said = [(room.folder / it).read_bytes() for it in ("fleet.out", "fleet.notes")]
+        seen = (status, said) == (6, [b"", b"planet: spawn fault\n"])
+        room.wants("a child that was killed is a fault, and has no line", seen, (status, said))
+        for it in children[place + 1:]:
+            os.kill(it, signal.SIGKILL)
+        time.sleep(0.05)
+        logs_replay(room, logs, "a fleet of which a child was killed")
+
+
+def killed_fleet(room: Room) -> None:
+    """A fleet that is killed leaves its children, whose ports stay held; each log replays once they are ended."""
+    logs = fleet_files(room)
+    fleet = begun_fleet(room, logs)
+    children = children_of(fleet.pid)
+    time.sleep(0.1)
+    fleet.kill()
+    fleet.wait(20)
+    left = [it for it in children if Path(f"/proc/{it}").exists()]
+    room.wants("children of a fleet that was killed run on", left == children, left)
+    for it in left:
+        os.kill(it, signal.SIGTERM)
+    time.sleep(0.1)
+    logs_replay(room, logs, "a fleet that was killed")
+
+
+TESTS = [random_kills, killed_child, killed_fleet]
