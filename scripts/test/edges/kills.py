@@ -71,17 +71,21 @@ def children_of(process: int) -> List[int]:
     return [int(it) for it in path.read_text().split()]
 
 
-def begun_fleet(room: Room, logs: List[str]) -> "subprocess.Popen[bytes]":
-    """Starts a fleet, and waits until each of its nodes has begun its log anew."""
+def supervised(room: Room, logs: List[str], words: List[str]) -> "subprocess.Popen[bytes]":
+    """Starts a fleet by these words, and waits until each of its nodes has begun its log anew."""
     for it in logs:
         (room.folder / it).unlink(missing_ok=True)
     with open(room.folder / "fleet.out", "wb") as output, open(room.folder / "fleet.notes", "wb") as notes:
-        fleet = subprocess.Popen([room.program, "fleet", "fleet.txt"], cwd=room.folder, stdin=subprocess.DEVNULL,
-                                 stdout=output, stderr=notes)
+        fleet = subprocess.Popen(words, cwd=room.folder, stdin=subprocess.DEVNULL, stdout=output, stderr=notes)
     last = time.monotonic() + 20
     while time.monotonic() < last and not all((room.folder / it).exists() and (room.folder / it).stat().st_size for it in logs):
         time.sleep(0.02)
     return fleet
+
+
+def begun_fleet(room: Room, logs: List[str], *wrapper: str) -> "subprocess.Popen[bytes]":
+    """Starts a fleet by the program itself."""
+    return supervised(room, logs, [*wrapper, room.program, "fleet", "fleet.txt"])
 
 
 def logs_replay(room: Room, logs: List[str], saying: str) -> None:
@@ -129,4 +133,41 @@ def killed_fleet(room: Room) -> None:
     logs_replay(room, logs, "a fleet that was killed")
 
 
-TESTS = [random_kills, killed_child, killed_fleet]
+def ended_together(room: Room) -> None:
+    """What the launcher and the supervisor start ends with them, by each signal that ends them; each log replays."""
+    logs = fleet_files(room)
+    for wrapper in ("scripts/build/together", "tools/fleet"):
+        for what in (signal.SIGINT, signal.SIGTERM, signal.SIGHUP):
+            if wrapper == "tools/fleet":
+                fleet = supervised(room, logs, [str(ROOT / wrapper), "--planet", room.program, "fleet.txt"])
+            else:
+                fleet = begun_fleet(room, logs, str(ROOT / wrapper))
+            below = [fleet.pid]
+            for it in below:
+                below += children_of(it)
+            room.wants(f"{wrapper} starts three nodes", len(below) in (4, 5), below)
+            fleet.send_signal(what)
+            room.wants(f"{wrapper} is ended by {what.name}", fleet.wait(20) == -what, fleet.returncode)
+            until = time.monotonic() + 5
+            while time.monotonic() < until and any(Path(f"/proc/{it}").exists() for it in below):
+                time.sleep(0.02)
+            left = [it for it in below if Path(f"/proc/{it}").exists()]
+            room.wants(f"{wrapper} leaves no process", not left, left)
+            logs_replay(room, logs, f"a fleet under {wrapper}")
+
+
+def signals(room: Room) -> None:
+    """INT, TERM and HUP end a node at once, PIPE nothing, and its log replays."""
+    for what in (signal.SIGINT, signal.SIGTERM, signal.SIGHUP, signal.SIGQUIT):
+        node = Node(room, 1_000_000, period=50)
+        room.wants("a node serves", node.serves())
+        node.process.send_signal(signal.SIGPIPE)
+        time.sleep(0.05)
+        room.wants("PIPE doesn't end a node", node.process.poll() is None, node.process.returncode)
+        node.process.send_signal(what)
+        room.wants(f"{what.name} ends a node", node.process.wait(10) == -what, node.process.returncode)
+        node.replays(f"a node that {what.name} ended", is_whole=False)
+        node.kill()
+
+
+TESTS = [random_kills, killed_child, killed_fleet, signals, ended_together]
