@@ -1,7 +1,7 @@
 // Growing columns of numbers, and searches in ascending ones.
 
 /** What has not happened: later than every event. */
-export const NEVER = 0x7fffffff;
+export const NEVER = 0x3fffffff;
 
 /** A column of numbers that grows at its end. */
 export class Column {

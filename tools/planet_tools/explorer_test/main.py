@@ -7,7 +7,7 @@ import sys
 import tempfile
 from concurrent.futures import ThreadPoolExecutor
 from pathlib import Path
-from typing import Callable, Dict, List, Sequence, Tuple
+from typing import Callable, List, Sequence, Tuple
 
 from planet_tools.explore import page
 from planet_tools.explore.logs import Program, run_program
@@ -19,6 +19,8 @@ ROOT = Path(__file__).resolve().parents[3]
 SEEDS = range(1, 13)
 GROWN = (1, 2)
 GROWN_EVENTS = 60
+CHECKS = ("steps", "inputs", "choices", "labels", "ledgers", "fleets")
+FIGURES = "figures"
 STEPPED = (
     "ticks-and-ping", "first-run", "loss-and-order", "frames-repeat", "handler-called", "bytes-from-outside",
     "every-service", "route-traced",
@@ -31,7 +33,12 @@ def words_of(given: Sequence[str]) -> argparse.Namespace:
     parser = argparse.ArgumentParser(prog="explorer", description=about)
     parser.add_argument("program", metavar="PROGRAM", help="the built planet")
     parser.add_argument("--pictures", metavar="FOLDER", type=Path, help="writes the pictures of the pages there")
-    parser.add_argument("--only", metavar="CHECK", action="append", default=[], help="one of the checks, by its name")
+    which = parser.add_mutually_exclusive_group()
+    which.add_argument("--only", metavar="CHECK", action="append", choices=CHECKS, help=", ".join(CHECKS))
+    which.add_argument(
+        "--figures", action="store_const", const=[FIGURES], dest="only",
+        help="measures how fast it is, on a machine that has nothing else to do, and tries nothing else",
+    )
     return parser.parse_args(given)
 
 
@@ -131,12 +138,8 @@ class Trial:
 def tried(trial: Trial, only: Sequence[str]) -> int:
     """Tries each check, and answers how many failed."""
     failed = 0
-    checks_by_name: Dict[str, Callable[[], str]] = {
-        name: getattr(trial, name) for name in ("steps", "inputs", "choices", "labels", "ledgers", "fleets", "figures")
-    }
-    for name, check in checks_by_name.items():
-        if only and name not in only:
-            continue
+    for name in only:
+        check: Callable[[], str] = getattr(trial, name)
         try:
             print(f"explorer: {name}: {check()}", flush=True)
         except checks.Wrong as wrong:
@@ -157,7 +160,7 @@ def main(given: Sequence[str]) -> int:
     try:
         with tempfile.TemporaryDirectory() as room:
             trial = Trial(browser, os.path.abspath(words.program), Path(room))
-            failed = tried(trial, words.only)
+            failed = tried(trial, words.only or CHECKS)
             if words.pictures:
                 trial.pictures(words.pictures)
     finally:
