@@ -45,6 +45,7 @@ use Rattle.net_world_spec.specs.Sound.{event_fits, EventsFit}
 use Rattle.net_world_spec.proofs.CountLaws.{line_sum-nil, line_sum-cons, line_sum-one, line_sum-append, line_sum-at, tally-nil, tally-append, tally-entries, nodes_sum-set, wire_sum-push, wire_sum-remove, wire_sum-set}
 use Rattle.net_world_spec.proofs.Balance.{opening_frames}
 use Rattle.net_world_spec.proofs.Handings.{opening_balances}
+use Rattle.net_world_spec.proofs.Alone.{injected_alone}
 
 module _ (f : Family) where
   unfoldable may_give_all : List NodeState → ℕ
@@ -344,7 +345,13 @@ module _ (f : Family) where
       let g = run_gives t.version es (opening t) b in
       let o = opening_nodes_give t k.hosts in
       let law = (opening_balances f t es k b).law in
-      record { once = omega (arith, g.once, o); limit = g.limit; within = omega arith }
+      let once : injections f (history_of es (opening t)) ≤ 1 = omega (arith, g.once, o) in
+      record {
+        once = once;
+        limit = g.limit;
+        alone = λ none before after e h bound is line. injected_alone f (history_of es (opening t)) before after e h bound once none is line;
+        within = omega arith;
+      }
 
   later_one : (h fh s fs : ℕ) → ◌≡◌ {A = ℕ} (cond ((h == fh) && nat_le s fs) 1 0) 0 → h ≡ fh → fs < s
   later_one h fh s fs e q = grind (arith, nat_tests)

@@ -1,3 +1,4 @@
+pub mod Alone
 pub mod Lookups
 pub mod Truth
 pub mod Keep

@@ -1,10 +1,12 @@
 -- What a family has paid and what it still has, counted anew from the history and the network.
 use Rattle.std.specs.Prelude.{◌≡◌, ℕ, ◌+◌, ◌*◌, ◌≤◌, ◌<◌, Bool, false, ◌==◌, if◌then◌else◌, List, [], ◌∷◌, ◌++◌, sum_by, slice_get, Option, None, Some, All}
 use Rattle.std.specs.List.{list_any}
+use Rattle.plan_base.specs.declared.ids.Host.{Host}
 use Rattle.plan_base.specs.declared.ids.Family.{Family}
 use Rattle.packet_frame.specs.declared.frame.PlainFrame.{PlainFrame}
 use Rattle.node_core_spec.specs.State.{NodeState}
 use Rattle.node_core_spec.specs.Counts.{only, act_granted, act_injections, act_hops, act_evals, act_left, act_stale, what_left, queues_sum, frame_live, frame_one}
+use Rattle.node_core_spec.specs.declared.acts.Act.TheVariants.{Injected}
 use Rattle.net_world_spec.specs.declared.lines.Line.{Line}
 use Rattle.net_world_spec.specs.declared.lines.Line.TheVariants.{At, Forged, Off, Again, Lost}
 use Rattle.net_world_spec.specs.declared.lines.Entry.{Entry}
@@ -144,11 +146,13 @@ packets f w = frames_sum (frame_one f) w
 pub record Balanced (f : Family) (history : List Entry) (w : WorldState) : Type 0 where
   pub law : granted_sum f history ≡ hops f history + evals f history + live f w + left_sum f history
 
--- a family never pays and has more than it was granted; it is injected at most once, and with nothing from outside it is granted
--- at most 65,535
+-- a family never pays and has more than it was granted; it is injected at most once, and with nothing from outside it was granted
+-- the bound of that injection, at most 65,535
 pub record IsBounded (f : Family) (history : List Entry) (w : WorldState) : Type 0 where
   pub once : injections f history ≤ 1
   pub limit : granted_sum f history ≤ 65535 * (injections f history + forgeries f history)
+  pub alone : forgeries f history ≡ 0 → (before after : List Entry) (e : Entry) (h : Host) (bound : ℕ)
+      → history ≡ before ++ e ∷ after → e.line ≡ At h (Injected f bound) → granted_sum f history ≡ bound
   pub within : hops f history + evals f history + live f w ≤ granted_sum f history
 
 -- only a granted family has packets, and the nodes of its host go on with later serial numbers once it was injected
