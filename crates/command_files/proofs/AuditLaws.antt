@@ -25,7 +25,7 @@ use Rattle.line_reader.proofs.FileLaws.{is_keeping}
 use Rattle.line_reader.proofs.Keeping.{IfRead, then_keeps, done_keeps, allowed_below, allowed_not, either_false, number_is, file_name_is, IfStep, step_done, read_keeps}
 use Rattle.line_reader.proofs.Placing.{fault_done, fault_here, Places, refuses_read}
 use Rattle.line_reader.specs.Inside.{OnFault, RefusesRead}
-use Rattle.schedule_text.proofs.NetworkRules.{apart_push}
+use Rattle.line_reader.proofs.NetworkRules.{apart_push}
 use Rattle.node_files.specs.Answers.{Accepted, Refused}
 use Rattle.node_files.proofs.PartLaws.{header_keeps, usual_keeps, header_placed, usual_placed, value_or_refusal}
 use Rattle.command_files.specs.declared.audit.AuditFile.{AuditFile}

@@ -6,6 +6,7 @@ pub mod PackageLists
 pub mod HostRows
 pub mod FileLaws
 pub mod Keeping
+pub mod NetworkRules
 pub mod KeptPrograms
 pub mod KeptInjections
 pub mod LineLaws

@@ -4,7 +4,7 @@ ghost use Rattle.file_laws.specs.Refusals.{FaultHolds};
 ghost use Rattle.planet_commands.specs.Said.{all_of, said_by, said_in, lines_said};
 ghost use Rattle.planet_commands.specs.Takes.{Reads, Takes};
 
-use command_files::{AuditFile, CutFile, read_audit, read_cut};
+use command_files::{AuditFile, CutFile, PortFile, read_audit, read_cut, read_port};
 use exit_status::{Cause, Refusal};
 use line_reader::LineFault;
 use network_config::{AskFile, Fleet, Log, ServeConfig};
@@ -146,6 +146,22 @@ impl LineValue for AuditFile {
 
     fn read(alloc: Global, bytes: &[u8]) -> Result<AuditFile, LineFault> {
         read_audit(alloc, bytes)
+    }
+}
+
+impl LineValue for PortFile {
+    ghost use Rattle.file_laws.proofs.PortHolds.{port_holds};
+    ghost use Rattle.command_files.specs.PortFiles.{port_of};
+    ghost use Rattle.command_files.specs.PortRules.{KeepsPort};
+
+    ghost said = { port_of };
+
+    ghost keeps = { KeepsPort };
+
+    ghost own = { port_holds };
+
+    fn read(alloc: Global, bytes: &[u8]) -> Result<PortFile, LineFault> {
+        read_port(alloc, bytes)
     }
 }
 

@@ -1,6 +1,6 @@
 ghost use Rattle.std.specs.Prelude.{◌≡◌, map, IfOk};
 ghost use Rattle.service_registry.specs.RegistryState.{standing};
-ghost use Rattle.net_world_spec.specs.World.{opening_services};
+ghost use Rattle.service_registry_spec.specs.Beginning.{opening_standing, present_without};
 ghost use Rattle.command_files.specs.PortRules.{KeepsPort};
 ghost use Rattle.reliable_ports_world.specs.Networks.{two_hosts};
 ghost use Rattle.reliable_ports_world.specs.Texts.{port_output};
@@ -8,67 +8,21 @@ ghost use Rattle.planet_commands.specs.Takes.{TakesAndActs};
 ghost use Rattle.planet_commands.specs.Renders.{Prints, PrintsBy};
 ghost use Rattle.planet_commands_port.specs.Ports.{port_said};
 
-use command_files::{PortFile, read_port};
+use command_files::PortFile;
 use containers::Items;
 use exit_status::Cause;
-use line_reader::LineFault;
 use network_config::HostSpec;
 use node_io::{Files, Sink};
 use plan_base::NoMemory;
-use planet_commands::{LineValue, print, value_of};
+use planet_commands::{print, value_of};
 use reliable_ports_world::{port_text, two_hosts};
 use service_registry::Registry;
 use std::alloc::Global;
-use std::marker::Model;
-
-/// What a file says of two ends, which contracts see as just that.
-#[derive(Drop)]
-pub struct PortScript {
-    file: PortFile,
-}
-
-impl Model for PortScript {
-    ghost use Rattle.command_files.specs.declared.port.PortFile.{PortFile};
-    ghost use Rattle.command_files.specs.contracts.port.PortFile as whole;
-
-    ghost Value = { PortFile };
-
-    ghost coded = { whole.the_row.coded };
-
-    ghost view = { λ s. s.file };
-}
-
-impl PortScript {
-    // What the file says.
-    fn file(&self) -> &PortFile
-        ensures { result.now ≡ self.now }
-    {
-        &self.file
-    }
-}
-
-impl LineValue for PortScript {
-    ghost use Rattle.file_laws.proofs.PortHolds.{port_holds};
-    ghost use Rattle.command_files.specs.PortFiles.{port_of};
-    ghost use Rattle.command_files.specs.PortRules.{KeepsPort};
-
-    ghost said = { port_of };
-
-    ghost keeps = { KeepsPort };
-
-    ghost own = { port_holds };
-
-    fn read(alloc: Global, bytes: &[u8]) -> Result<PortScript, LineFault> {
-        match read_port(alloc, bytes) {
-            Ok(file) => Ok(PortScript { file }),
-            Err(fault) => Err(fault),
-        }
-    }
-}
 
 // The services of each host: the packages but for those that it lacks, and no rows.
 fn services_of(alloc: Global, hosts: &[HostSpec]) -> Result<Items<Registry>, NoMemory>
-    ensures { IfOk result (λ services. map standing services ≡ map opening_services hosts.now) }
+    ensures { IfOk result (λ services. map standing services
+        ≡ map (λ spec. opening_standing (present_without spec.missing)) hosts.now) }
 {
     let mut services = Items::new(alloc);
     for spec in hosts {
@@ -80,7 +34,8 @@ fn services_of(alloc: Global, hosts: &[HostSpec]) -> Result<Items<Registry>, NoM
 // The services of both ends' hosts.
 fn both_services(alloc: Global) -> Result<Items<Registry>, NoMemory>
     ensures { IfOk result
-        (λ services. map standing services ≡ map opening_services two_hosts.hosts) }
+        (λ services. map standing services
+        ≡ map (λ spec. opening_standing (present_without spec.missing)) two_hosts.hosts) }
 {
     let topology = two_hosts(alloc)?;
     services_of(alloc, topology.hosts.as_slice())
@@ -108,8 +63,8 @@ pub fn on_port<F: Files, K: Sink>(alloc: Global, files: &mut F, name: &str, out:
     ensures { TakesAndActs (port_said name.now) (PrintsBy port_output) name.now
         (F.state files.old) (F.state files.new) result (K.state out.old) (K.state out.new) }
 {
-    match value_of::<PortScript, F>(alloc, files, name) {
-        Ok(script) => run_port(alloc, script.file(), out),
+    match value_of::<PortFile, F>(alloc, files, name) {
+        Ok(file) => run_port(alloc, &file, out),
         Err(cause) => cause,
     }
 }

@@ -6,7 +6,6 @@ pub mod ProgramsRead
 pub mod HandlerWords
 pub mod EventsRead
 pub mod WholeRead
-pub mod NetworkRules
 pub mod FormatLaws
 pub mod RuleLaws
 pub mod AnswerLaws

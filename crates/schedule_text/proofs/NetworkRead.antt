@@ -25,7 +25,7 @@ use Rattle.schedule_text.specs.declared.reading.Stage.TheVariants as stages
 use Rattle.schedule_text.specs.declared.reading.ScheduleFile.{ScheduleFile}
 use Rattle.schedule_text.specs.Schedules.{host_line, link_line, network_rest, network_line, step, file_after, schedule_format}
 use Rattle.line_reader.proofs.Keeping.{either_false}
-use Rattle.schedule_text.proofs.NetworkRules.{equality_swaps, ends_apart}
+use Rattle.line_reader.proofs.NetworkRules.{equality_swaps, ends_apart}
 use Rattle.schedule_text.specs.Written.{package_word, lacking_words, host_words, link_words}
 use Rattle.schedule_text.proofs.WordLaws.{Free, words_are, number_free}
 use Rattle.schedule_text.proofs.ReadSteps.{then_ok, not_ok, below_ok, number_ok, host_ok, free_device_ok, Leads, leads-nil, leads-cons}

@@ -53,7 +53,7 @@ use Rattle.schedule_text.specs.declared.reading.ScheduleFile.{ScheduleFile}
 use Rattle.schedule_text.specs.Parts.{host_at, device_at, free_device_at, is_called, program_at}
 use Rattle.schedule_text.specs.Schedules.{network_word, event_word, is_first, frames_line, host_spec, host_line, link_line, program_line, named_program, close_program, network_rest, network_line, with_event, injected_at, inject_line, send_line, frame_at, deliver_line, repeat_line, lose_line, tick_line, raw_line, event_rest, event_line, staying, begun_by, step, schedule_of_reading, finish, file_after, schedule_format, nothing_read, schedule_of}
 use Rattle.schedule_text.proofs.FormatLaws.{same}
-use Rattle.schedule_text.proofs.NetworkRules.{differ_push, link_stays, event_stays, apart_push}
+use Rattle.line_reader.proofs.NetworkRules.{differ_push, link_stays, event_stays, apart_push}
 
 -- ---- what a line names
 
