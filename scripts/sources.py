@@ -7,8 +7,8 @@ import sys
 import typing
 
 ROOT = pathlib.Path(__file__).resolve().parent.parent
-# the program, and the crate at the end of the longest chain that a build goes through
-PROGRAM = "planet"
+# the programs that a build makes, and the crate at the end of the longest chain that it goes through
+PROGRAM, CHART = "planet", "trace_chart"
 LONGEST_CHAIN_TO = "plan_eval"
 BUILT = ROOT / "crates" / PROGRAM / "out" / PROGRAM
 
