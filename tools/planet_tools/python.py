@@ -4,7 +4,7 @@ from __future__ import annotations
 import importlib.util
 import os
 import sys
-from typing import NoReturn
+from typing import NoReturn, Optional
 
 SYSTEM = "/usr/bin/python3"
 # the process that went on already, so that it doesn't go on with itself for ever; its children may
@@ -16,15 +16,22 @@ def is_there(package: str) -> bool:
     return importlib.util.find_spec(package) is not None
 
 
-def need(tool: str, package: str, debian: str) -> None:
-    """Sees that the package can be imported: else goes on with the system's python3, or names it and ends."""
+def missing(package: str, debian: str) -> Optional[str]:
+    """Why the package can't be imported, once the system's python3, with which the tool goes on, hasn't it either."""
     if is_there(package):
-        return
+        return None
     if os.environ.get(GONE_ON) != str(os.getpid()) and os.access(SYSTEM, os.X_OK):
         os.environ[GONE_ON] = str(os.getpid())
         sys.stdout.flush()
         os.execv(SYSTEM, [SYSTEM, *sys.argv])
-    fail(tool, f"{package} is missing, install it with: apt-get install {debian}", sys.executable)
+    return f"{package} is missing, install it with: apt-get install {debian}"
+
+
+def need(tool: str, package: str, debian: str) -> None:
+    """Sees that the package can be imported: else names it and ends."""
+    lacks = missing(package, debian)
+    if lacks is not None:
+        fail(tool, lacks, sys.executable)
 
 
 def fail(tool: str, what: str, where: str) -> NoReturn:

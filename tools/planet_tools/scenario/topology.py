@@ -5,7 +5,7 @@ import random
 from pathlib import Path
 from typing import Callable
 
-from planet_tools.python import need
+from planet_tools.python import missing
 from planet_tools.scenario.faults import Fault
 from planet_tools.scenario.network import DEVICES_MAX, HOSTS_MAX, NAME_OF_HOST, Network
 
@@ -93,7 +93,7 @@ def drawn(at: int, hosts: int, degree: int, seed: str) -> Pairs:
     if degree >= hosts or hosts * degree % 2 or (degree < 2 and hosts > 2):
         raise Fault(at, f"BadArgument: no connected network of {hosts} hosts has {degree} links at each: the degree is "
                         "from 2 to one below the hosts, and hosts times degree is even")
-    need("scenario", "networkx", "python3-networkx")
+    see_package(at, "networkx", "python3-networkx")
     import networkx
     source = random.Random(seed)
     for _ in range(DRAWS):
@@ -103,9 +103,16 @@ def drawn(at: int, hosts: int, degree: int, seed: str) -> Pairs:
     raise Fault(at, f"BadArgument: of {DRAWS} networks that were drawn none is connected")
 
 
+def see_package(at: int, package: str, debian: str) -> None:
+    """Refuses a line that needs a package which isn't there."""
+    lacks = missing(package, debian)
+    if lacks is not None:
+        raise Fault(at, lacks)
+
+
 def add_file(network: Network, at: int, path: Path) -> None:
     """Adds the graph of a file of Graphviz: a node that is a number is that host, another names the next one."""
-    need("scenario", "pydot", "python3-pydot")
+    see_package(at, "pydot", "python3-pydot")
     import pydot
     if not path.is_file():
         raise Fault(at, f"read fault: no file {path}")

@@ -5,6 +5,7 @@ from pathlib import Path
 
 import pytest
 
+from planet_tools import python
 from planet_tools.python import is_there
 from planet_tools.scenario import topology
 from planet_tools.scenario.faults import Fault
@@ -82,3 +83,13 @@ def test_what_is_no_graph_is_refused(tmp_path: Path) -> None:
     (tmp_path / "b.dot").write_text('graph { "a b" -- c }')
     with pytest.raises(Fault, match="BadWord: the node a b"):
         made("topology b.dot", folder=tmp_path)
+
+
+def test_a_missing_package_is_a_fault_of_the_line(monkeypatch: pytest.MonkeyPatch) -> None:
+    """So a run of a sweep that needs it has a row that says so."""
+    monkeypatch.setattr(python, "is_there", lambda package: False)
+    monkeypatch.setattr(python, "SYSTEM", "none")
+    for line, package in (("random 4 2 seed 1", "python3-networkx"), ("topology a.dot", "python3-pydot")):
+        with pytest.raises(Fault, match=f"is missing, install it with: apt-get install {package}") as fault:
+            made("line 2", line)
+        assert fault.value.line == 2

@@ -57,7 +57,7 @@ def test_numbers_of_runs() -> None:
 
 
 def test_what_a_trace_counts() -> None:
-    """A packet comes and is visited, one is dropped, one is lost; adverts and visits of injections count for neither."""
+    """A packet comes and is visited, one is dropped, one is lost; adverts and visits of injections count for none."""
     trace = """planet trace 1
 1 inject @1 1.1 bound 9
 1 print @1 "a lost b"
