@@ -34,7 +34,9 @@ use Rattle.net_world_spec.specs.declared.lines.Entry.{Entry}
 use Rattle.net_world_spec.specs.declared.lines.FrameOnWire.{FrameOnWire}
 use Rattle.net_world_spec.specs.declared.lines.Delivery.{Delivery}
 use Rattle.net_world_spec.specs.declared.lines.Delivery.TheVariants.{Taking, Leaving}
-use Rattle.net_world_spec.specs.World.{WorldState, EventResult, nothing, lines_at, step_at, step_place, steps, none_before, forged_frame, forged_lines, forged_at, send_taken, send_at, send_over, send_place, sends, place_of, far_end, wire_place, hand_line, hand_at, hand_to, hand_frame, hand_place, hands, lose_frame, lose_place, loses, acted_event, happens, entries, history_of}
+use Rattle.net_world_spec.specs.World.{WorldState, EventResult, nothing, lines_at, step_at, step_place, steps, none_before, forged_frame, forged_lines, forged_at, send_taken, send_at, send_over}
+use Rattle.net_world_spec.specs.World.{send_place, sends, place_of, far_end, wire_place, hand_line, hand_at, hand_to, hand_frame, hand_place, hands, lose_frame, lose_place, loses, acted_event}
+use Rattle.net_world_spec.specs.World.{happens, entries, history_of}
 use Rattle.net_world_spec.specs.Counts.{line_sum, line_forged, tally}
 use Rattle.net_world_spec.specs.Sound.{event_fits, EventsFit}
 use Rattle.net_world_spec.proofs.CountLaws.{line_sum-nil, line_sum-cons, line_sum-one, line_sum-append, line_sum-at, tally-nil, tally-cons, tally-append, tally-entries}
@@ -140,7 +142,9 @@ gives_one f node step s =
     as_much _ _ _ _ law (here ∙ serial)
 
 inject_cases : (t : Bool) (h : Host) (node : NodeState) (chunk : Chunk) (bound : ℕ) (handler : Option Name)
-    → ((f : Family) → StepGives f node (cond t (stepped_node ([] ++ SerialsSpent ∷ []) None node) (visit_step ([] ++ Injected (record { source = node.here; serial = node.serial }) bound ∷ []) (next_serial node) (injected_packet node chunk bound handler))))
+    → ((f : Family) → StepGives f node
+    (cond t (stepped_node ([] ++ SerialsSpent ∷ []) None node)
+    (visit_step ([] ++ Injected (record { source = node.here; serial = node.serial }) bound ∷ []) (next_serial node) (injected_packet node chunk bound handler))))
     → step_grants h (cond t (stepped_node ([] ++ SerialsSpent ∷ []) None node) (visit_step ([] ++ Injected (record { source = node.here; serial = node.serial }) bound ∷ []) (next_serial node) (injected_packet node chunk bound handler))) ≤ 1
 inject_cases true h node chunk bound handler g = omega (arith, act_sum-cons (act_grants h) SerialsSpent [], act_sum-nil (act_grants h))
 inject_cases false h node chunk bound handler g =
@@ -170,7 +174,8 @@ StepOnce h before step = line_sum line_grants before + step_grants h step ≤ 1
 lines_once : (h : Host) (before : List Line) (step : NodeStep) → StepOnce h before step → line_sum line_grants (before ++ lines_at h step.acts) ≤ 1
 lines_once h before step o = omega (arith, line_sum-append line_grants before (lines_at h step.acts), line_sum-at line_grants h step.acts)
 
-step_at_once : (w : WorldState) (h : Host) (before : NodeState → List Line) (step : NodeState → NodeStep) (at : ℕ) (o : Option NodeState) → ((node : NodeState) → StepOnce h (before node) (step node)) → GrantsOnce (step_at w h before step at o)
+step_at_once : (w : WorldState) (h : Host) (before : NodeState → List Line) (step : NodeState → NodeStep) (at : ℕ) (o : Option NodeState) → ((node : NodeState) → StepOnce h (before node) (step node))
+    → GrantsOnce (step_at w h before step at o)
 unfolding step_at
 step_at_once w h before step at None k = nothing_once w
 step_at_once w h before step at (Some node) k = lines_once h (before node) (step node) (k node)

@@ -227,7 +227,8 @@ unstale : (late : Bool) (n : ℕ) → n + (if late then 0 else 0) ≡ n
 unstale true n = omega arith
 unstale false n = omega arith
 
-still_act : (late : Bool) (rows : List FamilyRow) (h : Host) (a : Act) → act_moving late rows a ≡ rows → ((f : Family) → act_hops f a ≡ 0) → ((f : Family) → act_evals f a ≡ 0) → ((f : Family) → line_left f late (At h a) ≡ 0 + (if late then 0 else 0))
+still_act : (late : Bool) (rows : List FamilyRow) (h : Host) (a : Act) → act_moving late rows a ≡ rows → ((f : Family) → act_hops f a ≡ 0) → ((f : Family) → act_evals f a ≡ 0)
+    → ((f : Family) → line_left f late (At h a) ≡ 0 + (if late then 0 else 0))
     → Moves late rows (At h a)
 still_act late rows h a same hops evals left = still late rows (At h a) same hops evals (λ f. left f ∙ unstale late 0)
 
@@ -244,7 +245,8 @@ zero_plus n = omega arith
 zero_more : (n : ℕ) → n ≡ 0 + n
 zero_more n = omega arith
 
-ended_as : (f g : Family) (evals rest : ℕ) (rows : List FamilyRow) → evals + rest ≤ (counts_of g rows).live → counts_of f (changed_rows (quit rest) g (changed_rows (paid evals) g rows)) ≡ moved_row 0 (only f g evals) (only f g rest) (counts_of f rows)
+ended_as : (f g : Family) (evals rest : ℕ) (rows : List FamilyRow) → evals + rest ≤ (counts_of g rows).live
+    → counts_of f (changed_rows (quit rest) g (changed_rows (paid evals) g rows)) ≡ moved_row 0 (only f g evals) (only f g rest) (counts_of f rows)
 ended_as f g evals rest rows h =
     leaves f g rest (changed_rows (paid evals) g rows) (live_left g evals rest rows h)
     ∙ ap (moved_row 0 0 (only f g rest)) (eval_as f g evals rows (omega arith) ∙ (λ i. moved_row (only_zero f g i) (only f g evals) (only_zero f g i) (counts_of f rows)))

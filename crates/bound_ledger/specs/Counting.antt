@@ -86,7 +86,9 @@ pub record Granted (lines : List Line) (old new : List FamilyRow) : Type 0 where
 -- the rows have what lines pay and leave
 pub record Moved (late : Bool) (lines : List Line) (old new : List FamilyRow) : Type 0 where
   pub families : families_in new ≡ families_in old
-  pub counts : (f : Family) → counts_of f new ≡ moved_row (line_sum (line_hops f) lines) (line_sum (line_evals f) lines) (line_sum (line_left f late) lines) (counts_of f old)
+  pub counts : (f : Family)
+      → counts_of f new
+      ≡ moved_row (line_sum (line_hops f) lines) (line_sum (line_evals f) lines) (line_sum (line_left f late) lines) (counts_of f old)
 
 -- what lines grant keeps the limits
 pub record GrantsFit (rows : List FamilyRow) (lines : List Line) : Type 0 where
@@ -100,7 +102,9 @@ pub record MovesFit (late : Bool) (rows : List FamilyRow) (lines : List Line) : 
 -- lines can be counted: no family pays and leaves more than it has with what they grant, and the limits are kept
 pub record LinesFit (late : Bool) (rows : List FamilyRow) (lines : List Line) : Type 0 where
   pub grants : GrantsFit rows lines
-  pub moves : (f : Family) → line_sum (line_hops f) lines + line_sum (line_evals f) lines + line_sum (line_left f late) lines ≤ (counts_of f rows).live + line_sum (line_granted f) lines
+  pub moves : (f : Family)
+      → line_sum (line_hops f) lines + line_sum (line_evals f) lines + line_sum (line_left f late) lines ≤ (counts_of f rows).live +
+      line_sum (line_granted f) lines
 
 -- what these lines leave behind this history, where their event's frame was handed before or wasn't
 abbrev pub Leaves : Bool → List Entry → ℕ → List Line → Type 0

@@ -1,3 +1,4 @@
+//! Counts the lines of an event in a ledger, by the families that they name.
 ghost use Rattle.std.specs.Prelude.{◌≡◌, ◌++◌, ℕ, List, map, OnOk};
 ghost use Rattle.net_world_spec.specs.declared.lines.Entry.{Entry};
 ghost use Rattle.net_world_spec.specs.World.{entry_at};

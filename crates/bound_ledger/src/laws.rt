@@ -1,3 +1,4 @@
+//! Laws: the rows of a ledger are the counts of its history.
 ghost use Rattle.std.specs.Prelude.{◌≡◌, ◌<◌, List, [], length, map};
 ghost use Rattle.bound_ledger.specs.Rows.{FamilyRow, OneEach, counts_of};
 ghost use Rattle.network_config.specs.Rules.{KeepsNetwork};

@@ -1,3 +1,4 @@
+//! The ledger: a row for each family, in the order of first grants.
 ghost use Rattle.std.specs.Prelude.{◌≡◌, ◌+◌, ◌-◌, ◌≤◌, ◌<◌, ◌^◌, [], length, slice_get, Some, IfOk, IfSome, OnOk, OnErr};
 ghost use Rattle.std.specs.Option.{option_map};
 ghost use Rattle.bound_ledger.specs.Counts.{InBalance, hop_paid, paid, quit};

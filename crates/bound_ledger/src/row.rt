@@ -1,3 +1,4 @@
+//! A row of a ledger, in balance at each moment.
 ghost use Rattle.std.specs.Prelude.{◌≡◌, ◌+◌, ◌≤◌, ◌<◌, ◌^◌};
 ghost use Rattle.bound_ledger.specs.Counts as spec;
 

@@ -19,7 +19,8 @@ use Rattle.plan_base.specs.declared.tree.Program.{Program}
 use Rattle.plan_base.specs.declared.tree.Value.{Value, Value-F, out-Value}
 use Rattle.plan_base.specs.declared.tree.Chunk.{Chunk}
 use Rattle.plan_base.specs.Sizes.{largest_by, type_depth, type_depth_level, expr_depth, expr_depth_level, clause_depth, program_nodes, nesting, nesting_level, chunk_nesting, value_depth, value_depth_level}
-use Rattle.plan_base.specs.WellFormed.{formed_type, formed_type_level, well_formed_type, well_formed_text, has_from_to, names_all_but_last, formed_expr, formed_expr_level, well_formed_expr, well_formed_svc, well_formed_fun, well_formed_program, formed_value, formed_value_level, formed_chunk, well_formed_chunk}
+use Rattle.plan_base.specs.WellFormed.{formed_type, formed_type_level, well_formed_type, well_formed_text, has_from_to, names_all_but_last, formed_expr, formed_expr_level, well_formed_expr}
+use Rattle.plan_base.specs.WellFormed.{well_formed_svc, well_formed_fun, well_formed_program, formed_value, formed_value_level, formed_chunk, well_formed_chunk}
 use Rattle.plan_types_spec.specs.Typing.{literal_type, HasTy, HaveTys, ClausesHaveTy, Typed, HasType, HaveTypes, AllHaveType, IsTypedChunk}
 use Rattle.plan_types_spec.specs.Typing as y
 use Rattle.plan_base.proofs.SizeLaws.{type_depth_out, expr_depth_out, nesting_out, chunk_nesting_is, value_depth_out}
@@ -270,7 +271,10 @@ module _ (code : Program) where
         let m = max_parts (expr_depth a) (largest_by clause_depth ks) r (parts_depth _ r l.within) in
         let n = between 1 8 (length ks) (left _ _ (left _ _ (right _ _ l.formed))) in (
           above r,
-          (expr_fits i r (record { formed = left _ _ l.formed; within = m.0; ranged = left _ _ l.ranged }), ((n.0, n.1, clauses_fit j r 0 (right _ _ (left _ _ (right _ _ l.formed))) (right _ _ (right _ _ l.formed)) m.1 (right _ _ l.ranged)), tt)),
+          (
+            expr_fits i r (record { formed = left _ _ l.formed; within = m.0; ranged = left _ _ l.ranged }),
+            ((n.0, n.1, clauses_fit j r 0 (right _ _ (left _ _ (right _ _ l.formed))) (right _ _ (right _ _ l.formed)) m.1 (right _ _ l.ranged)), tt),
+          ),
         ))
     expr_fits {e = e} (y.fold_left f a b at d u o p n k q i j) room g =
         fits_by_level room e (Expr-F.Foldl f a b) o g (λ r l. let z = two r a b l.formed l.within (right _ _ l.ranged) in (above r, (left _ _ l.ranged, (expr_fits i r z.0, (expr_fits j r z.1, tt)))))

@@ -19,7 +19,8 @@ use Rattle.plan_base.specs.declared.tree.Value.TheVariants as value
 use Rattle.plan_base.specs.declared.tree.Chunk.{Chunk}
 use Rattle.chunk_codec_spec.specs.declared.tags.ExprTag.{ExprTag}
 use Rattle.chunk_codec_spec.specs.declared.tags.ValueTag.{ValueTag}
-use Rattle.chunk_codec_spec.specs.Scan.{Scan, Reader, number_field, int_field, flag_field, char_field, text_field, blob_field, name_field, operator_field, count_field}
+use Rattle.chunk_codec_spec.specs.Scan.{Scan, Reader, number_field, int_field, flag_field, char_field, text_field, blob_field, name_field}
+use Rattle.chunk_codec_spec.specs.Scan.{operator_field, count_field}
 use Rattle.chunk_codec_spec.specs.Parts.{counted_at, listed_at}
 use Rattle.chunk_codec_spec.specs.Types.{type_part}
 use Rattle.chunk_codec_spec.specs.Exprs.{expr_core, clause_tag_at}

@@ -1,3 +1,4 @@
+//! Reads expressions from bytes.
 ghost use Rattle.std.specs.Prelude.{◌≡◌, ◌-◌, ◌<◌, List};
 ghost use Rattle.containers.specs.Reading.{many};
 ghost use Rattle.plan_base.specs.declared.tree.Expr.{Expr};

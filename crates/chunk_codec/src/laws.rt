@@ -1,3 +1,4 @@
+//! Laws of spellings: each tree has one, and none begins another's.
 ghost use Rattle.std.specs.Prelude.{◌≡◌, ◌+◌, ◌++◌, ◌⊎◌, List, ℕ, length};
 ghost use Rattle.wire_bytes.specs.Fields.{Front, IsBytes};
 ghost use Rattle.plan_base.specs.declared.tree.Ty.{Ty};

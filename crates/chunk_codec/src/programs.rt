@@ -1,3 +1,4 @@
+//! Reads declarations and whole programs from bytes.
 ghost use Rattle.std.specs.Prelude.{◌≡◌};
 ghost use Rattle.containers.specs.Reading.{many};
 ghost use Rattle.chunk_codec_spec.specs.Scan.{name_field};

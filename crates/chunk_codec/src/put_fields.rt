@@ -1,3 +1,4 @@
+//! Puts the fields of trees: flags, numbers, names and sized bytes.
 ghost use Rattle.std.specs.Prelude.{◌≡◌, ◌++◌, ◌+◌, ◌≤◌, ◌<◌, ◌^◌, [], ◌∷◌, length};
 ghost use Rattle.chunk_codec_spec.specs.Fields.{flag_byte, op_byte, name_bytes, sized_bytes};
 

@@ -1,3 +1,4 @@
+//! Shows that the numbers and names of expressions are within their ranges.
 ghost use Rattle.std.specs.Prelude.{IsTrue};
 ghost use Rattle.std.specs.List.{list_all};
 ghost use Rattle.plan_base.specs.Words.{is_name, IsName};

@@ -1,3 +1,4 @@
+//! Shows that the numbers and names of programs, values and chunks are within their ranges.
 ghost use Rattle.std.specs.Prelude.{IsTrue};
 ghost use Rattle.std.specs.List.{list_all};
 ghost use Rattle.plan_types_spec.specs.Typing.{IsTypedChunk};

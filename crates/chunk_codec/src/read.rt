@@ -1,3 +1,4 @@
+//! The public readings: a name, a type, a value or a chunk from a cursor on.
 ghost use Rattle.std.specs.Prelude.{◌≡◌, ◌⊎◌, List, ℕ, IfOk, IfErr, OnErr, MatchResult};
 ghost use Rattle.wire_bytes.specs.Fields.{Front};
 ghost use Rattle.plan_base.specs.declared.tree.Ty.{Ty};

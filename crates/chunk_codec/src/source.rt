@@ -1,3 +1,4 @@
+//! Where a reading stands, and the fields that are read there.
 ghost use Rattle.std.specs.Prelude.{◌≡◌, ◌<◌, OnOk, IfOk, IsTrue};
 ghost use Rattle.std.specs.Int.{w8, w16, w32};
 ghost use Rattle.chunk_codec_spec.specs.Scan.{number_field, int_field, bytes_field, flag_field, char_field, text_field, blob_field, name_field, operator_field, count_field};

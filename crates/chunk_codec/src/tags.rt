@@ -1,3 +1,4 @@
+//! What the tags of bytes stand for, and which may stand where.
 ghost use Rattle.std.specs.Prelude.{◌≡◌};
 ghost use Rattle.std.specs.Str.{is_utf8};
 ghost use Rattle.chunk_codec_spec.specs.Scan.{tag_of, is_scalar};

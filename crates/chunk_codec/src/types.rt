@@ -1,3 +1,4 @@
+//! Reads types from bytes.
 ghost use Rattle.std.specs.Prelude.{◌≡◌, ◌-◌, ◌<◌};
 ghost use Rattle.containers.specs.Reading.{many};
 ghost use Rattle.chunk_codec.specs.Reading.{Gives, type_at, type_behind};

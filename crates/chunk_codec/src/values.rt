@@ -1,3 +1,4 @@
+//! Reads values and the chunks inside them from bytes.
 ghost use Rattle.std.specs.Prelude.{◌≡◌, ◌-◌, ◌<◌, IsTrue};
 ghost use Rattle.containers.specs.Reading.{many};
 ghost use Rattle.plan_base.specs.declared.tree.Value.{Value};

@@ -1,3 +1,4 @@
+//! The public writings: types, values, programs and chunks as bytes.
 ghost use Rattle.std.specs.Prelude.{◌≡◌, ◌++◌, ◌+◌, ◌≤◌, ◌<◌, ◌^◌, [], ◌∷◌, length, IsTrue};
 ghost use Rattle.std.specs.List.{flat_map, list_all};
 ghost use Rattle.chunk_codec_spec.specs.Fields.{name_bytes};

@@ -1,3 +1,4 @@
+//! Laws of writing.
 ghost use Rattle.std.specs.Prelude.{IsTrue};
 ghost use Rattle.plan_base.specs.declared.tree.Ty.{Ty};
 ghost use Rattle.plan_base.specs.declared.tree.Program.{Program};

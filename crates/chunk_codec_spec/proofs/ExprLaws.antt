@@ -30,7 +30,9 @@ use Rattle.chunk_codec_spec.specs.Scan.{Scan, flags, table_field, count_field, t
 use Rattle.chunk_codec_spec.specs.Parts.{Part, Core, Parts, PartValues, items_of_parts}
 use Rattle.chunk_codec_spec.specs.Fields.{flag_byte, sized_bytes, name_bytes, op_byte}
 use Rattle.chunk_codec_spec.specs.Types.{type_bytes}
-use Rattle.chunk_codec_spec.specs.Exprs.{expr_bytes, expr_bytes_level, clause_bytes, clause_bytes_level, catch_bytes, one_more, expr_tag_at, clause_tag_at, clause_forms, clause_of_parts, clause_parts_by, clause_part, is_none_left, clauses_from, clauses_at, ClausesFit, clauses_part, expr_forms, expr_of_parts, expr_parts, expr_from, expr_within, no_expr, expr_core, expr_part}
+use Rattle.chunk_codec_spec.specs.Exprs.{expr_bytes, expr_bytes_level, clause_bytes, clause_bytes_level, catch_bytes, one_more, expr_tag_at, clause_tag_at, clause_forms, clause_of_parts}
+use Rattle.chunk_codec_spec.specs.Exprs.{clause_parts_by, clause_part, is_none_left, clauses_from, clauses_at, ClausesFit, clauses_part, expr_forms, expr_of_parts, expr_parts, expr_from, expr_within}
+use Rattle.chunk_codec_spec.specs.Exprs.{no_expr, expr_core, expr_part}
 
 -- ---- the bytes of an expression are those of its outermost level
 
@@ -112,7 +114,25 @@ expr_table_all ExprTag.OnRemote = refl
 expr_table_all ExprTag.OnNeighbor = refl
 
 expr_table : Table 0x20 EXPR_TAGS expr_byte
-expr_table = record { numbered = (refl, (refl, (refl, (refl, (refl, (refl, (refl, (refl, (refl, (refl, (refl, (refl, (refl, (refl, (refl, (refl, (refl, (refl, (refl, (refl, (refl, (refl, (refl, (refl, (refl, (refl, (refl, (refl, tt)))))))))))))))))))))))))))); all = expr_table_all }
+expr_table = record {
+  numbered = (
+    refl,
+    (
+      refl,
+      (
+        refl,
+        (
+          refl,
+          (
+            refl,
+            (refl, (refl, (refl, (refl, (refl, (refl, (refl, (refl, (refl, (refl, (refl, (refl, (refl, (refl, (refl, (refl, (refl, (refl, (refl, (refl, (refl, (refl, (refl, tt))))))))))))))))))))))),
+          ),
+        ),
+      ),
+    ),
+  );
+  all = expr_table_all;
+}
 
 expr_tag : (room : ℕ) → Tag (expr_tag_at room) (λ _. 0 < room) expr_byte 1
 unfolding expr_tag_at
@@ -264,7 +284,9 @@ module _ (room below : ℕ) (core : Core Expr) where
   abbrev caught : Part (List Clause)
   caught = clauses_part below deeper
 
-  level_is : (x : Expr-F Expr Clause) → FormIs expr_byte 1 (expr_forms deeper caught) (expr_of_parts deeper caught) (expr_parts deeper caught x) (roll-Expr x) (expr_bytes_level expr_bytes clause_bytes x) (expr_nodes_level expr_nodes clause_nodes x)
+  level_is : (x : Expr-F Expr Clause)
+      → FormIs expr_byte 1 (expr_forms deeper caught) (expr_of_parts deeper caught) (expr_parts deeper caught x) (roll-Expr x) (expr_bytes_level expr_bytes clause_bytes x)
+      (expr_nodes_level expr_nodes clause_nodes x)
   unfolding roll-Expr roll
   level_is (Expr-F.Bool b) = (sym (expr.rolls-Bool b), (λ j. 33 ∷ (sym (append-nil (flag_byte b ∷ [])) j)), omega arith)
   level_is (Expr-F.Int z) = (sym (expr.rolls-Int z), (λ j. 34 ∷ (sym (append-nil (to_be_bytes w64 (cast_unsigned w64 z))) j)), omega arith)
@@ -299,7 +321,9 @@ module _ (room below : ℕ) (core : Core Expr) where
 
   is_form : (e : Expr) → FormIs expr_byte 1 (expr_forms deeper caught) (expr_of_parts deeper caught) (expr_parts deeper caught (out-Expr e)) e (expr_bytes e) (expr_nodes e)
   is_form e =
-      let P : Expr → Type 0 = λ y. FormIs expr_byte 1 (expr_forms deeper caught) (expr_of_parts deeper caught) (expr_parts deeper caught (out-Expr e)) y (expr_bytes_level expr_bytes clause_bytes (out-Expr e)) (expr_nodes_level expr_nodes clause_nodes (out-Expr e)) in
+      let P : Expr
+      → Type 0 = λ y. FormIs expr_byte 1 (expr_forms deeper caught) (expr_of_parts deeper caught) (expr_parts deeper caught (out-Expr e)) y (expr_bytes_level expr_bytes clause_bytes (out-Expr e))
+      (expr_nodes_level expr_nodes clause_nodes (out-Expr e)) in
       let Q : List ℕ → Type 0 = λ bs. FormIs expr_byte 1 (expr_forms deeper caught) (expr_of_parts deeper caught) (expr_parts deeper caught (out-Expr e)) e bs (expr_nodes_level expr_nodes clause_nodes (out-Expr e)) in
       let R : ℕ → Type 0 = λ n. FormIs expr_byte 1 (expr_forms deeper caught) (expr_of_parts deeper caught) (expr_parts deeper caught (out-Expr e)) e (expr_bytes e) n in
       subst R (sym (expr_nodes_out e)) (subst Q (sym (expr_bytes_out e)) (subst P (roll-out-Expr e) (level_is (out-Expr e))))

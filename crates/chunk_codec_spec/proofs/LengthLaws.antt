@@ -65,23 +65,66 @@ expr_level v h w k (Expr-F.Nil None) = omega arith
 expr_level v h w k (Expr-F.Var x) = omega arith
 expr_level v h w k (Expr-F.Tuple es) = let f0 = flat_length v h es in omega (arith, f0)
 expr_level v h w k (Expr-F.Call x es) = let f0 = flat_length v h es in let f1 = length-append (name_bytes x) (length (map v es) ∷ flat_map expr_bytes (map v es)) in omega (arith, f0, f1)
-expr_level v h w k (Expr-F.If a b c) = let f0 = h a in let f1 = h b in let f2 = h c in let f3 = length-append (expr_bytes (v a)) ((expr_bytes (v b)) ++ (expr_bytes (v c))) in let f4 = length-append (expr_bytes (v b)) (expr_bytes (v c)) in omega (arith, f0, f1, f2, f3, f4)
-expr_level v h w k (Expr-F.Let x t a b) = let f0 = type_length t in let f1 = h a in let f2 = h b in let f3 = length-append (name_bytes x) ((type_bytes t) ++ ((expr_bytes (v a)) ++ (expr_bytes (v b)))) in let f4 = length-append (type_bytes t) ((expr_bytes (v a)) ++ (expr_bytes (v b))) in let f5 = length-append (expr_bytes (v a)) (expr_bytes (v b)) in omega (arith, f0, f1, f2, f3, f4, f5)
+expr_level v h w k (Expr-F.If a b c) =
+    let f0 = h a in
+    let f1 = h b in
+    let f2 = h c in
+    let f3 = length-append (expr_bytes (v a)) ((expr_bytes (v b)) ++ (expr_bytes (v c))) in
+    let f4 = length-append (expr_bytes (v b)) (expr_bytes (v c)) in
+    omega (arith, f0, f1, f2, f3, f4)
+expr_level v h w k (Expr-F.Let x t a b) =
+    let f0 = type_length t in
+    let f1 = h a in
+    let f2 = h b in
+    let f3 = length-append (name_bytes x) ((type_bytes t) ++ ((expr_bytes (v a)) ++ (expr_bytes (v b)))) in
+    let f4 = length-append (type_bytes t) ((expr_bytes (v a)) ++ (expr_bytes (v b))) in
+    let f5 = length-append (expr_bytes (v a)) (expr_bytes (v b)) in
+    omega (arith, f0, f1, f2, f3, f4, f5)
 expr_level v h w k (Expr-F.Then a b) = let f0 = h a in let f1 = h b in let f2 = length-append (expr_bytes (v a)) (expr_bytes (v b)) in omega (arith, f0, f1, f2)
 expr_level v h w k (Expr-F.And a b) = let f0 = h a in let f1 = h b in let f2 = length-append (expr_bytes (v a)) (expr_bytes (v b)) in omega (arith, f0, f1, f2)
 expr_level v h w k (Expr-F.Or a b) = let f0 = h a in let f1 = h b in let f2 = length-append (expr_bytes (v a)) (expr_bytes (v b)) in omega (arith, f0, f1, f2)
 expr_level v h w k (Expr-F.Not a) = let f0 = h a in omega (arith, f0)
-expr_level v h w k (Expr-F.Binary o a b) = let f0 = h a in let f1 = h b in let f2 = length-append (op_byte o ∷ []) ((expr_bytes (v a)) ++ (expr_bytes (v b))) in let f3 = length-append (expr_bytes (v a)) (expr_bytes (v b)) in omega (arith, f0, f1, f2, f3)
+expr_level v h w k (Expr-F.Binary o a b) =
+    let f0 = h a in
+    let f1 = h b in
+    let f2 = length-append (op_byte o ∷ []) ((expr_bytes (v a)) ++ (expr_bytes (v b))) in
+    let f3 = length-append (expr_bytes (v a)) (expr_bytes (v b)) in
+    omega (arith, f0, f1, f2, f3)
 expr_level v h w k (Expr-F.Part i a) = let f0 = h a in let f1 = length-append (i ∷ []) (expr_bytes (v a)) in omega (arith, f0, f1)
 expr_level v h w k (Expr-F.Raise x (Some t)) = let f0 = type_length t in let f1 = length-append (name_bytes x) (type_bytes t) in omega (arith, f0, f1)
 expr_level v h w k (Expr-F.Raise x None) = omega arith
 expr_level v h w k (Expr-F.Try a cs) = let f0 = h a in let f1 = clauses_length w k cs in let f2 = length-append (expr_bytes (v a)) (length (map w cs) ∷ flat_map clause_bytes (map w cs)) in omega (arith, f0, f1, f2)
-expr_level v h w k (Expr-F.Foldl x a b) = let f0 = h a in let f1 = h b in let f2 = length-append (name_bytes x) ((expr_bytes (v a)) ++ (expr_bytes (v b))) in let f3 = length-append (expr_bytes (v a)) (expr_bytes (v b)) in omega (arith, f0, f1, f2, f3)
-expr_level v h w k (Expr-F.Foldr x a b) = let f0 = h a in let f1 = h b in let f2 = length-append (name_bytes x) ((expr_bytes (v a)) ++ (expr_bytes (v b))) in let f3 = length-append (expr_bytes (v a)) (expr_bytes (v b)) in omega (arith, f0, f1, f2, f3)
+expr_level v h w k (Expr-F.Foldl x a b) =
+    let f0 = h a in
+    let f1 = h b in
+    let f2 = length-append (name_bytes x) ((expr_bytes (v a)) ++ (expr_bytes (v b))) in
+    let f3 = length-append (expr_bytes (v a)) (expr_bytes (v b)) in
+    omega (arith, f0, f1, f2, f3)
+expr_level v h w k (Expr-F.Foldr x a b) =
+    let f0 = h a in
+    let f1 = h b in
+    let f2 = length-append (name_bytes x) ((expr_bytes (v a)) ++ (expr_bytes (v b))) in
+    let f3 = length-append (expr_bytes (v a)) (expr_bytes (v b)) in
+    omega (arith, f0, f1, f2, f3)
 expr_level v h w k (Expr-F.ChunkOf x es) = let f0 = flat_length v h es in let f1 = length-append (name_bytes x) (length (map v es) ∷ flat_map expr_bytes (map v es)) in omega (arith, f0, f1)
 expr_level v h w k (Expr-F.Eval a) = let f0 = h a in omega (arith, f0)
-expr_level v h w k (Expr-F.OnRemote a b c x) = let f0 = h a in let f1 = h b in let f2 = h c in let f3 = length-append (expr_bytes (v a)) ((expr_bytes (v b)) ++ ((expr_bytes (v c)) ++ (name_bytes x))) in let f4 = length-append (expr_bytes (v b)) ((expr_bytes (v c)) ++ (name_bytes x)) in let f5 = length-append (expr_bytes (v c)) (name_bytes x) in omega (arith, f0, f1, f2, f3, f4, f5)
-expr_level v h w k (Expr-F.OnNeighbor a b c d) = let f0 = h a in let f1 = h b in let f2 = h c in let f3 = h d in let f4 = length-append (expr_bytes (v a)) ((expr_bytes (v b)) ++ ((expr_bytes (v c)) ++ (expr_bytes (v d)))) in let f5 = length-append (expr_bytes (v b)) ((expr_bytes (v c)) ++ (expr_bytes (v d))) in let f6 = length-append (expr_bytes (v c)) (expr_bytes (v d)) in omega (arith, f0, f1, f2, f3, f4, f5, f6)
+expr_level v h w k (Expr-F.OnRemote a b c x) =
+    let f0 = h a in
+    let f1 = h b in
+    let f2 = h c in
+    let f3 = length-append (expr_bytes (v a)) ((expr_bytes (v b)) ++ ((expr_bytes (v c)) ++ (name_bytes x))) in
+    let f4 = length-append (expr_bytes (v b)) ((expr_bytes (v c)) ++ (name_bytes x)) in
+    let f5 = length-append (expr_bytes (v c)) (name_bytes x) in
+    omega (arith, f0, f1, f2, f3, f4, f5)
+expr_level v h w k (Expr-F.OnNeighbor a b c d) =
+    let f0 = h a in
+    let f1 = h b in
+    let f2 = h c in
+    let f3 = h d in
+    let f4 = length-append (expr_bytes (v a)) ((expr_bytes (v b)) ++ ((expr_bytes (v c)) ++ (expr_bytes (v d)))) in
+    let f5 = length-append (expr_bytes (v b)) ((expr_bytes (v c)) ++ (expr_bytes (v d))) in
+    let f6 = length-append (expr_bytes (v c)) (expr_bytes (v d)) in
+    omega (arith, f0, f1, f2, f3, f4, f5, f6)
 expr_level v h w k _ = refl
 
 expr_rolled : (x : Expr-F Expr Clause) → length (expr_bytes_level expr_bytes clause_bytes x) ≡ expr_size_level expr_size clause_size x → length (expr_bytes (roll-Expr x)) ≡ expr_size (roll-Expr x)
@@ -142,7 +185,12 @@ value_level : {X Y : Type 0} (v : X → Value) → ((x : X) → length (value_by
 value_level v h w k (Value-F.Str s) = let f0 = length-append (to_be_bytes w16 (length s)) s in omega (arith, f0)
 value_level v h w k (Value-F.Blob s) = let f0 = length-append (to_be_bytes w16 (length s)) s in omega (arith, f0)
 value_level v h w k (Value-F.Chunk c) = let f0 = k c in omega (arith, f0)
-value_level v h w k (Value-F.List t vs) = let f0 = type_length t in let f1 = values_length v h vs in let f2 = length-append (to_be_bytes w16 (length (map v vs))) (flat_map value_bytes (map v vs)) in let f3 = length-append (type_bytes t) (to_be_bytes w16 (length (map v vs)) ++ flat_map value_bytes (map v vs)) in omega (arith, f0, f1, f2, f3)
+value_level v h w k (Value-F.List t vs) =
+    let f0 = type_length t in
+    let f1 = values_length v h vs in
+    let f2 = length-append (to_be_bytes w16 (length (map v vs))) (flat_map value_bytes (map v vs)) in
+    let f3 = length-append (type_bytes t) (to_be_bytes w16 (length (map v vs)) ++ flat_map value_bytes (map v vs)) in
+    omega (arith, f0, f1, f2, f3)
 value_level v h w k (Value-F.Tuple es) = let f0 = values_length v h es in omega (arith, f0)
 value_level v h w k _ = refl
 

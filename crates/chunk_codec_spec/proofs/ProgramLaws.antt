@@ -20,7 +20,8 @@ use Rattle.chunk_codec_spec.specs.Parts.{PartValues, AllFit, reads, items_of_par
 use Rattle.chunk_codec_spec.specs.Fields.{name_bytes, name_part}
 use Rattle.chunk_codec_spec.specs.Types.{type_bytes, type_part}
 use Rattle.chunk_codec_spec.specs.Exprs.{expr_bytes}
-use Rattle.chunk_codec_spec.specs.Programs.{param_forms, param_bytes, param_part, service_forms, service_bytes, service_part, function_forms, function_bytes, function_part, program_forms, program_of_parts, program_parts, program_bytes, counting, counting_on, judged_code, program_at, ProgramFits, program_part}
+use Rattle.chunk_codec_spec.specs.Programs.{param_forms, param_bytes, param_part, service_forms, service_bytes, service_part, function_forms, function_bytes, function_part, program_forms}
+use Rattle.chunk_codec_spec.specs.Programs.{program_of_parts, program_parts, program_bytes, counting, counting_on, judged_code, program_at, ProgramFits, program_part}
 use Rattle.chunk_codec_spec.proofs.ExprLaws.{expr_lawful}
 
 -- ---- parameters, services, functions

@@ -16,7 +16,9 @@ use Rattle.plan_base.specs.declared.tree.Program.{Program}
 use Rattle.plan_base.specs.declared.tree.Value.{Value, Value-F, out-Value}
 use Rattle.plan_base.specs.declared.tree.Chunk.{Chunk}
 use Rattle.plan_base.specs.Sizes.{largest_by, type_depth, type_depth_level, expr_depth, expr_depth_level, clause_depth, program_nodes, nesting, nesting_level, chunk_nesting, value_depth, value_depth_level}
-use Rattle.plan_base.specs.WellFormed.{formed_type, formed_type_level, well_formed_type, well_formed_text, names_all_but_last, formed_expr, formed_expr_level, well_formed_expr, well_formed_svc, well_formed_fun, well_formed_program, formed_value, formed_value_level, well_formed_value, formed_chunk, well_formed_chunk, typed_expr_level, has_types, program_has_types, typed_value_level, value_has_types, chunk_has_types}
+use Rattle.plan_base.specs.WellFormed.{formed_type, formed_type_level, well_formed_type, well_formed_text, names_all_but_last, formed_expr, formed_expr_level, well_formed_expr, well_formed_svc}
+use Rattle.plan_base.specs.WellFormed.{well_formed_fun, well_formed_program, formed_value, formed_value_level, well_formed_value, formed_chunk, well_formed_chunk, typed_expr_level, has_types}
+use Rattle.plan_base.specs.WellFormed.{program_has_types, typed_value_level, value_has_types, chunk_has_types}
 use Rattle.plan_base.proofs.SizeLaws.{type_depth_out, expr_depth_out, nesting_out, chunk_nesting_is, value_depth_out}
 use Rattle.plan_base.proofs.FormLaws.{formed_type_out, formed_expr_out, formed_value_out, formed_chunk_is, has_types_out, value_has_types_out, chunk_has_types_is}
 use Rattle.chunk_codec_spec.specs.Parts.{Part, Core, FormFits, EachFits}

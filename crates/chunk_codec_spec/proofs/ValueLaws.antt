@@ -26,7 +26,9 @@ use Rattle.chunk_codec_spec.specs.Parts.{Part, Core, Parts, PartValues, AllFit, 
 use Rattle.chunk_codec_spec.specs.Fields.{flag_byte, sized_bytes, name_bytes}
 use Rattle.chunk_codec_spec.specs.Types.{type_bytes}
 use Rattle.chunk_codec_spec.specs.Programs.{program_bytes}
-use Rattle.chunk_codec_spec.specs.Values.{value_bytes, value_bytes_level, chunk_bytes, chunk_bytes_level, may_open, value_tag_at, value_forms, value_of_parts, value_parts, value_from, chunk_from, value_within, no_value, no_chunk, values_within, chunk_forms, chunk_of_parts, chunk_parts, light, judged_weight, chunk_at, ChunkFits, chunk_with, value_core, value_part, chunk_part}
+use Rattle.chunk_codec_spec.specs.Values.{value_bytes, value_bytes_level, chunk_bytes, chunk_bytes_level, may_open, value_tag_at, value_forms, value_of_parts, value_parts, value_from, chunk_from}
+use Rattle.chunk_codec_spec.specs.Values.{value_within, no_value, no_chunk, values_within, chunk_forms, chunk_of_parts, chunk_parts, light, judged_weight, chunk_at, ChunkFits, chunk_with, value_core}
+use Rattle.chunk_codec_spec.specs.Values.{value_part, chunk_part}
 use Rattle.chunk_codec_spec.proofs.ProgramLaws.{program_lawful, judged_apart}
 
 -- ---- the bytes of a value are those of its outermost level

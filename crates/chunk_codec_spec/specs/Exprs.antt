@@ -1,5 +1,6 @@
 -- How an expression is spelled: its tag, and its fields and parts in order.
-use Rattle.std.specs.Prelude.{ℕ, zero, suc, ◌+◌, ◌<◌, ◌≤◌, List, [], ◌∷◌, ◌++◌, length, Bool, true, false, Option, Some, None, Ok, Err, nat_lt, sum_by, ◌||◌, IsTrue}
+use Rattle.std.specs.Prelude.{ℕ, zero, suc, ◌+◌, ◌<◌, ◌≤◌, List, [], ◌∷◌, ◌++◌, length, Bool, true, false, Option, Some, None, Ok, Err}
+use Rattle.std.specs.Prelude.{nat_lt, sum_by, ◌||◌, IsTrue}
 use Rattle.std.specs.List.{flat_map}
 use Rattle.std.specs.Int.{w32, w64, to_be_bytes, cast_unsigned}
 use Rattle.containers.specs.Reading.{◌>>=◌}
@@ -14,7 +15,8 @@ use Rattle.chunk_codec_spec.specs.declared.tags.TheConstants.{EXPR_TAGS}
 use Rattle.chunk_codec_spec.specs.Items.{an_expr, a_clause, several_clauses}
 use Rattle.chunk_codec_spec.specs.Scan.{Scan, Reader, flags, table_field, count_field, allowed_or_fault}
 use Rattle.chunk_codec_spec.specs.Parts.{Part, Core, Parts, done, ◌&◌, PartValues, FormFits, several, tagged_at, tagged_part}
-use Rattle.chunk_codec_spec.specs.Fields.{flag_byte, flag_part, int_part, word_part, char_part, text_part, blob_part, sized_bytes, name_bytes, name_part, op_byte, op_part, part_number_part}
+use Rattle.chunk_codec_spec.specs.Fields.{flag_byte, flag_part, int_part, word_part, char_part, text_part, blob_part, sized_bytes}
+use Rattle.chunk_codec_spec.specs.Fields.{name_bytes, name_part, op_byte, op_part, part_number_part}
 use Rattle.chunk_codec_spec.specs.Types.{type_bytes, type_part}
 
 -- an expression's bytes, by those of its parts and clauses; one whose type is missing has none behind its tag for it
@@ -99,7 +101,8 @@ clause_parts_by inner (Some n) e = Some (true, (n, (e, tt)))
 -- a clause, which may be the last
 abbrev pub clause_part : Bool → ℕ → Part Expr → Part Clause
 clause_part last room inner =
-    tagged_part (a_clause last room) (clause_tag_at last) (λ named. IsTrue (named || last)) (clause_forms inner) (clause_of_parts inner) (λ c. clause_parts_by inner c.name c.body) clause_bytes clause_nodes
+    tagged_part (a_clause last room) (clause_tag_at last) (λ named. IsTrue (named || last)) (clause_forms inner) (clause_of_parts inner)
+    (λ c. clause_parts_by inner c.name c.body) clause_bytes clause_nodes
 
 abbrev pub is_none_left : ℕ → Bool
 is_none_left zero = true
@@ -193,7 +196,8 @@ expr_of_parts inner clauses ExprTag.Eval xs = expr.Eval xs.0
 expr_of_parts inner clauses ExprTag.OnRemote xs = expr.OnRemote xs.0 xs.1.0 xs.1.1.0 xs.1.1.1.0
 expr_of_parts inner clauses ExprTag.OnNeighbor xs = expr.OnNeighbor xs.0 xs.1.0 xs.1.1.0 xs.1.1.1.0
 
-abbrev pub expr_parts : (inner : Part Expr) (clauses : Part (List Clause)) → Expr-F Expr Clause → Option ((tag : ExprTag) × PartValues (expr_forms inner clauses tag))
+abbrev pub expr_parts : (inner : Part Expr) (clauses : Part (List Clause)) → Expr-F Expr Clause
+    → Option ((tag : ExprTag) × PartValues (expr_forms inner clauses tag))
 expr_parts inner clauses Expr-F.Unit = Some (ExprTag.Unit, tt)
 expr_parts inner clauses (Expr-F.Bool b) = Some (ExprTag.Bool, (b, tt))
 expr_parts inner clauses (Expr-F.Int z) = Some (ExprTag.Int, (z, tt))
@@ -232,8 +236,10 @@ expr_from room core = record { item = an_expr room; read = core.read; bytes = ex
 -- an expression at its tag, with room levels to open, by the parts one level deeper, which may open below
 abbrev pub expr_within : ℕ → ℕ → Core Expr → Core Expr
 expr_within room below inner = record {
-  read = tagged_at (expr_tag_at room) (expr_forms (expr_from below inner) (clauses_part below (expr_from below inner))) (expr_of_parts (expr_from below inner) (clauses_part below (expr_from below inner)));
-  Fits = λ e. FormFits (λ _. 0 < room) (expr_forms (expr_from below inner) (clauses_part below (expr_from below inner))) (expr_parts (expr_from below inner) (clauses_part below (expr_from below inner)) (out-Expr e));
+  read = tagged_at (expr_tag_at room) (expr_forms (expr_from below inner) (clauses_part below (expr_from below inner)))
+      (expr_of_parts (expr_from below inner) (clauses_part below (expr_from below inner)));
+  Fits = λ e. FormFits (λ _. 0 < room) (expr_forms (expr_from below inner) (clauses_part below (expr_from below inner)))
+      (expr_parts (expr_from below inner) (clauses_part below (expr_from below inner)) (out-Expr e));
 }
 
 -- no expression may stand there

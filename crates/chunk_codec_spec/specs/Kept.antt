@@ -65,7 +65,8 @@ function_kept f = nat_lt (length f.params) 256 && (list_all param_kept f.params 
 
 unfoldable pub program_kept : Program → Bool
 program_kept p =
-    nat_lt (length p.svcs) 256 && (list_all service_kept p.svcs && (nat_lt (length p.exns) 256 && (nat_lt (length p.funs) 256 && list_all function_kept p.funs)))
+    nat_lt (length p.svcs) 256
+    && (list_all service_kept p.svcs && (nat_lt (length p.exns) 256 && (nat_lt (length p.funs) 256 && list_all function_kept p.funs)))
 
 abbrev pub value_kept_level : {X Y : Type 0} → (X → Bool) → (Y → Bool) → Value-F X Y → Bool
 value_kept_level kept chunk (Value-F.Str s) = nat_lt (length s) 65536

@@ -35,7 +35,8 @@ service_bytes s = name_bytes s.name ++ ((length s.params ∷ flat_map type_bytes
 
 -- a service: its name, the types of its arguments and of its answer
 abbrev pub service_part : Part Svc
-service_part = untagged_part a_service service_forms (λ xs. record { name = xs.0; params = xs.1.0; result = xs.1.1.0 }) (λ s. (s.name, (s.params, (s.result, tt)))) service_bytes (λ _. 0)
+service_part = untagged_part a_service service_forms (λ xs.
+    record { name = xs.0; params = xs.1.0; result = xs.1.1.0 }) (λ s. (s.name, (s.params, (s.result, tt)))) service_bytes (λ _. 0)
 
 abbrev pub function_forms : Parts
 function_forms = name_part & several Limit.Parameters 0 8 param_part & type_part 8 & expr_part 64 & done

@@ -5,7 +5,9 @@ use Rattle.containers.specs.Reading.{◌>>=◌}
 use Rattle.containers.specs.Agenda.{times}
 use Rattle.plan_base.specs.declared.limit.Limit.{Limit}
 use Rattle.chunk_codec_spec.specs.declared.fault.SpellFault.{SpellFault}
-use Rattle.chunk_codec_spec.specs.Items.{ChunkItem, a_flag, an_int, a_word, a_char, a_text, a_blob, a_name, an_operator, a_part_number, a_type, an_expr, several_clauses, a_clause, a_parameter, a_service, a_function, a_program, code_end, a_value, a_chunk, weight_end, counted, listed}
+use Rattle.chunk_codec_spec.specs.Items.{ChunkItem, a_flag, an_int, a_word, a_char, a_text, a_blob, a_name, an_operator, a_part_number}
+use Rattle.chunk_codec_spec.specs.Items.{a_type, an_expr, several_clauses, a_clause, a_parameter, a_service, a_function, a_program}
+use Rattle.chunk_codec_spec.specs.Items.{code_end, a_value, a_chunk, weight_end, counted, listed}
 use Rattle.chunk_codec_spec.specs.Scan.{Scan, number_field, int_field, flag_field, char_field, text_field, blob_field, name_field, operator_field, count_field}
 use Rattle.chunk_codec_spec.specs.Parts.{items_of_parts}
 use Rattle.chunk_codec_spec.specs.Types.{type_inner, type_tag_at, type_forms}

@@ -1,3 +1,4 @@
+//! Why bytes spell no name, type, value or chunk.
 ghost use Rattle.std.specs.Prelude.{◌≡◌};
 ghost use Rattle.chunk_codec_spec.specs.declared.fault.SpellFault.TheVariants.{Truncated, NoMemory};
 

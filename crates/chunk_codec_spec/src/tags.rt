@@ -1,3 +1,4 @@
+//! The tags of types, values and expressions, with their numbers.
 use plan_base::Op;
 
 /// The form of a type.

@@ -29,7 +29,8 @@ use Rattle.command_files.specs.declared.port.PortStage.{PortStage}
 use Rattle.command_files.specs.declared.port.PortStage.TheVariants as stages
 use Rattle.command_files.specs.declared.port.PortReading.{PortReading}
 use Rattle.command_files.specs.PortRules.{IsEnd, KeepsEvent, KeepsPort}
-use Rattle.command_files.specs.PortFiles.{event_word, is_end, end_host, frame_at, with_event, offer_line, transmit_line, send_line, deliver_line, lose_line, repeat_line, event_rest, event_line, purses_line, begin_line, port_step_at, port_end, port_format, nothing_read, port_of}
+use Rattle.command_files.specs.PortFiles.{event_word, is_end, end_host, frame_at, with_event, offer_line, transmit_line, send_line, deliver_line, lose_line, repeat_line, event_rest, event_line}
+use Rattle.command_files.specs.PortFiles.{purses_line, begin_line, port_step_at, port_end, port_format, nothing_read, port_of}
 
 -- ---- the rules
 

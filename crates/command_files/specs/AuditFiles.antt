@@ -83,7 +83,10 @@ audit_end true false number s = Err (faults.Line number BadWord)
 audit_end true true number s = Ok (record { logs = s.logs; links = s.links })
 
 abbrev pub audit_format : Format AuditReading AuditFile
-audit_format = record { step = λ number line s. audit_step_at s.begun number line s; finish = λ number s. audit_end s.begun (nat_lt 0 (length s.logs)) number s }
+audit_format = record {
+  step = λ number line s. audit_step_at s.begun number line s;
+  finish = λ number s. audit_end s.begun (nat_lt 0 (length s.logs)) number s;
+}
 
 -- nothing read yet
 abbrev pub nothing_read : AuditReading

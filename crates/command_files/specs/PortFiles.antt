@@ -25,7 +25,13 @@ use Rattle.command_files.specs.declared.port.PortReading.{PortReading}
 
 -- the first word of an event
 abbrev pub event_word : List ℕ → Option PortWord
-event_word w = if bytes_eq w (codes "offer") then Some word.Offer else (if bytes_eq w (codes "transmit") then Some word.Transmit else (if bytes_eq w (codes "send") then Some word.Send else (if bytes_eq w (codes "deliver") then Some word.Deliver else (if bytes_eq w (codes "lose") then Some word.Lose else (if bytes_eq w (codes "repeat") then Some word.Repeat else None)))))
+event_word w =
+    if bytes_eq w (codes "offer") then Some word.Offer else
+    (if bytes_eq w (codes "transmit") then Some word.Transmit else
+    (if bytes_eq w (codes "send") then Some word.Send else
+    (if bytes_eq w (codes "deliver") then Some word.Deliver else
+    (if bytes_eq w (codes "lose") then Some word.Lose else
+    (if bytes_eq w (codes "repeat") then Some word.Repeat else None)))))
 
 -- whether a number is that of an end's host
 abbrev pub is_end : ℕ → Bool

@@ -1,3 +1,4 @@
+//! Reads the file of an audit: the logs of a fleet and the links between its nodes.
 ghost use Rattle.std.specs.Prelude.{◌≡◌, ◌≤◌, ◌⊎◌, true, false, length, Ok, Err, IfOk, IfErr, MatchResult};
 ghost use Rattle.line_reader.specs.Reads.{Reads, Leaves, FileLeaves};
 ghost use Rattle.command_files.specs.declared.audit.AuditFile.{AuditFile as Said};

@@ -1,3 +1,4 @@
+//! Reads the file of a message to be cut.
 ghost use Rattle.std.specs.Prelude.{◌≡◌, ◌≤◌, ◌⊎◌, ℕ, List, length, Ok, Err, IfOk, IfErr, MatchResult};
 ghost use Rattle.line_reader.specs.Reads.{ReadsOn, Leaves, FileLeaves};
 ghost use Rattle.node_files.specs.Answers.{Accepted, Refused};

@@ -1,3 +1,4 @@
+//! Reads the keys of messages.
 ghost use Rattle.std.specs.Prelude.{◌≡◌};
 ghost use Rattle.line_reader.specs.Numbers.{within, number_in, number_at};
 ghost use Rattle.line_reader.specs.Reads.{Reads};

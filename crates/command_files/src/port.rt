@@ -1,3 +1,4 @@
+//! Reads the file of two ends of a reliable port.
 ghost use Rattle.std.specs.Prelude.{◌≡◌};
 ghost use Rattle.command_files.specs.PortFiles.{event_word, nothing_read};
 

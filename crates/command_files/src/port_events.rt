@@ -1,3 +1,4 @@
+//! Reads the events of two ends.
 ghost use Rattle.std.specs.Prelude.{◌≡◌};
 ghost use Rattle.line_reader.specs.Reads.{Reads, Leaves};
 ghost use Rattle.command_files.specs.PortFiles as spec;

@@ -1,3 +1,4 @@
+//! A law: a file of two ends has one answer.
 ghost use Rattle.std.specs.Prelude.{◌⊎◌, ℕ, List};
 ghost use Rattle.node_files.specs.Answers.{Accepted, Refused};
 ghost use Rattle.command_files.specs.PortFiles.{port_of};

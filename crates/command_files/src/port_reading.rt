@@ -1,3 +1,4 @@
+//! What the lines of two ends have said so far: their header, purses and first event.
 ghost use Rattle.std.specs.Prelude.{◌≡◌, ◌≤◌, ◌⊎◌, length, Ok, IfOk, IfErr, Err, MatchResult};
 ghost use Rattle.line_reader.specs.Reads.{ReadsOn, Leaves, FileLeaves};
 ghost use Rattle.node_files.specs.Parts.{behind_word};

@@ -1,3 +1,4 @@
+//! Writes the asks of a message's parts.
 ghost use Rattle.std.specs.Prelude.{◌≡◌, ◌++◌, All, IfOk, OnOk};
 ghost use Rattle.std.specs.List.{flat_map};
 ghost use Rattle.frag_chunks.specs.Parts.{HasBound};

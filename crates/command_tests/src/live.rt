@@ -1,3 +1,4 @@
+//! Tests of links, clocks and children of the machine itself.
 ghost use Rattle.std.specs.Prelude.{◌≡◌, ◌∷◌, [], IfSome};
 ghost use Rattle.node_io.specs.Links.{HasPeer};
 

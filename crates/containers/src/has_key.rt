@@ -1,3 +1,4 @@
+//! Items that are found by a name and a number.
 ghost use Rattle.std.specs.Prelude.{◌≡◌};
 ghost use Rattle.containers.specs.Keys.{Key};
 

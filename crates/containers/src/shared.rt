@@ -1,3 +1,4 @@
+//! One value on the heap with several owners.
 ghost use Rattle.std.specs.Prelude.{◌≡◌, IfOk};
 
 use std::alloc::{AllocError, Global};

@@ -1,3 +1,4 @@
+//! Laws of routes: each is a least one, and no advert raises a cost.
 ghost use Rattle.std.specs.Prelude.{◌≡◌, ◌≢◌, ℕ, ◌≤◌, ◌<◌, ◌^◌, true, Some, None, List, [], length};
 ghost use Rattle.std.specs.List.{All};
 ghost use Rattle.plan_base.specs.declared.ids.Host.{Host};

@@ -1,3 +1,4 @@
+//! The routes of a node by the adverts that it heard.
 ghost use Rattle.std.specs.Prelude.{◌≡◌, List, [], ◌∷◌, map, ◌++◌, IfOk, OnOk};
 ghost use Rattle.plan_base.specs.declared.ids.Host.{Host as HostOf};
 ghost use Rattle.plan_base.specs.declared.ids.Dev.{Dev as DevOf};

@@ -92,7 +92,8 @@ binds_some ps vs h = let b = binds_all ps vs h in some_is (bound ps vs) b.0 b.1
 no_names : (env : Env) (bs : List Binding) → bs ≡ [] → env ++ bound_here bs ≡ env
 no_names env bs bare = rw bare (append-nil env)
 
-module _ (code : Program) (fun : ℕ) (f : Fun) (args vs : List Value) (fs : List StackFrame) (bs : List Binding) (s : VisitState) (has : slice_get code.funs fun ≡ Some f) (many : length f.params ≡ length args) (same : vs ≡ args) (none : fs ≡ []) (bare : bs ≡ []) where
+module _ (code : Program) (fun : ℕ) (f : Fun) (args vs : List Value) (fs : List StackFrame) (bs : List Binding) (s : VisitState) (has : slice_get code.funs fun ≡ Some f)
+    (many : length f.params ≡ length args) (same : vs ≡ args) (none : fs ≡ []) (bare : bs ≡ []) where
   pub body_leads : Leads (entered_function meaning code fun args s) (meaning code fun (env_of f vs fs ++ bound_here bs) f.body s)
   body_leads = rw (no_names (env_of f vs fs) bs bare, same, none) (entered_on code fun args f (env_of f args []) s has (bound_env f args (binds_some f.params args many)))
 
@@ -106,7 +107,8 @@ module _ (code : Program) (fun : ℕ) (f : Fun) (args vs : List Value) (fs : Lis
   bodies codes number want (Err e) t is h = h
 
   pub bodies_from : (codes : List Program) (number : ℕ) (r : Result Flow EvalStop) (t : VisitState) → slice_get codes number ≡ Some code
-      → Flows codes code fun (record { expr = f.body; env = env_of f vs fs ++ bound_here bs }) (meaning code fun (env_of f vs fs ++ bound_here bs) f.body s) r t → Bodies codes code number fun f args (entered_function meaning code fun args s) r t
+      → Flows codes code fun (record { expr = f.body; env = env_of f vs fs ++ bound_here bs }) (meaning code fun (env_of f vs fs ++ bound_here bs) f.body s) r t
+      → Bodies codes code number fun f args (entered_function meaning code fun args s) r t
   bodies_from codes number r t is h =
       bodies codes number _ r t is (rw (no_names (env_of f vs fs) bs bare, same, none) at (flows_from codes code fun (record { expr = f.body; env = env_of f vs fs ++ bound_here bs }) _ _ r t body_leads h))
 
@@ -115,7 +117,8 @@ module _ (code : Program) (fun : ℕ) (f : Fun) (args vs : List Value) (fs : Lis
 same_some : {A : Type 0} (o : Option A) (x y : A) → o ≡ Some x → o ≡ Some y → x ≡ y
 same_some o x y h k = some-same (sym h ∙ k)
 
-module _ (codes : List Program) (a : Activation) (code : Program) (f : Fun) (e : Expr) (h : IsAt codes a code f e) (linked : IsSome (spot_in codes a)) (vs : List Value) (fs : List StackFrame) (bs : List Binding) (same : vs ≡ a.args) (those : fs ≡ a.frames) (bare : bs ≡ []) where
+module _ (codes : List Program) (a : Activation) (code : Program) (f : Fun) (e : Expr) (h : IsAt codes a code f e) (linked : IsSome (spot_in codes a)) (vs : List Value) (fs : List StackFrame)
+    (bs : List Binding) (same : vs ≡ a.args) (those : fs ≡ a.frames) (bare : bs ≡ []) where
   pub here_binds : IsSome (bound f.params vs)
   here_binds = let stands = stands_at codes a code f e h linked in rw same (some_is (bound f.params a.args) stands.0 stands.1)
 

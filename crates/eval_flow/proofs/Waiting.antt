@@ -109,7 +109,8 @@ innermost_append codes (x ∷ []) b more = refl
 innermost_append codes (x ∷ y ∷ xs) b more = innermost_append codes (y ∷ xs) b more
 
 -- what a stack with all that waits on top of it stands for
-module _ (codes : List Program) (outer : List Activation) (code : Program) (a : Activation) (at : Spot) (is : slice_get codes a.code ≡ Some code) (there : spot_in codes a ≡ Some at) (fs : List StackFrame) (h : IsSome (spot_from (Some at) fs)) where
+module _ (codes : List Program) (outer : List Activation) (code : Program) (a : Activation) (at : Spot) (is : slice_get codes a.code ≡ Some code) (there : spot_in codes a ≡ Some at)
+    (fs : List StackFrame) (h : IsSome (spot_from (Some at) fs)) where
   pub shows : (acts : List Activation) (s : VisitState)
       → stands_for codes (outer ++ (record a { frames = a.frames ++ fs }) ∷ acts) mode.Run s
       ≡ all_ended codes outer (ended_frame codes a (through code a.fun (Some at) fs (innermost_of codes code a.fun (spot_from (Some at) fs) acts s)))

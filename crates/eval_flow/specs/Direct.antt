@@ -1,5 +1,6 @@
 -- An evaluation on the native stack: how far it came, and what waits where it stopped.
-use Rattle.std.specs.Prelude.{◌≡◌, ◌≢◌, ◌+◌, ◌*◌, ◌≤◌, ◌<◌, if◌then◌else◌, length, map, min, reverse, ℕ, ℤ, Bool, true, false, List, [], ◌∷◌, ◌++◌, Option, Some, None, IsSome, Result, Ok, Err, slice_get}
+use Rattle.std.specs.Prelude.{◌≡◌, ◌≢◌, ◌+◌, ◌*◌, ◌≤◌, ◌<◌, if◌then◌else◌, length, map, min, reverse, ℕ, ℤ, Bool, true, false, List, []}
+use Rattle.std.specs.Prelude.{◌∷◌, ◌++◌, Option, Some, None, IsSome, Result, Ok, Err, slice_get}
 use Rattle.plan_base.specs.declared.tree.Expr.{Expr, Expr-F, out-Expr}
 use Rattle.plan_base.specs.declared.tree.Fun.{Fun}
 use Rattle.plan_base.specs.declared.tree.Program.{Program}
@@ -83,7 +84,9 @@ innermost_of codes code seen at (a ∷ more) = λ s. stands_for codes (a ∷ mor
 
 -- what is left at a spot, as it goes on
 unfoldable pub waits : List Program → Program → ℕ → Spot → Rest → VisitState → RunStep Value
-waits codes code seen at r s = through code seen (Some at) (reverse r.frames) (innermost_of codes code seen (spot_from (Some at) (reverse r.frames)) (reverse r.activations) s)
+waits codes code seen at r s =
+    through code seen (Some at) (reverse r.frames)
+    (innermost_of codes code seen (spot_from (Some at) (reverse r.frames)) (reverse r.activations) s)
 
 -- an evaluation leads to what is left at a spot
 pub record Waits (codes : List Program) (code : Program) (seen : ℕ) (at : Spot) (want : RunStep Value) (r : Rest) (s : VisitState) : Type 0 where
@@ -113,7 +116,8 @@ Enters codes want (Ok (flow.Wait r)) s = Above codes want r s
 Enters codes want (Err e) s = e ≢ NoMemory → want.after ≡ stopped e s
 
 -- how far the body of a function with these arguments came, which was entered so
-pub record BodyWaits (codes : List Program) (code : Program) (number fun : ℕ) (f : Fun) (args : List Value) (want : RunStep Value) (r : Rest) (s : VisitState) : Type 0 where
+pub record BodyWaits (codes : List Program) (code : Program) (number fun : ℕ) (f : Fun) (args : List Value) (want : RunStep Value)
+    (r : Rest) (s : VisitState) : Type 0 where
   pub program : slice_get codes number ≡ Some code
   pub function : slice_get code.funs fun ≡ Some f
   pub binds : IsSome (bound f.params args)

@@ -19,7 +19,9 @@ use Rattle.plan_types_spec.specs.Rules.{Given, gives, raises, binary}
 use Rattle.plan_meaning.specs.declared.stop.EvalStop.TheVariants.{Raised, Wrong}
 use Rattle.plan_meaning.specs.State.{VisitState}
 use Rattle.plan_meaning.specs.Run.{Run, gave, stopped, quiet, ◌>>=◌, ◌>>◌, pure, or_wrong, given_value, weighed_value}
-use Rattle.plan_meaning.specs.Meaning.{Env, meaning, as_bool, as_int, as_host, as_dev, as_chunk, as_items, values_behind, called_name, left_along, right_along, pay_eval, visited_chunk, send_remote, send_neighbour, opened_at, applied_function, entered_function, tuple, call, packed_chunk, choice, binding, sequence, conjunction, disjunction, negation, operation, selection, attempt, fold_left, fold_right, evaluation, remote, neighbour, values}
+use Rattle.plan_meaning.specs.Meaning.{Env, meaning, as_bool, as_int, as_host, as_dev, as_chunk, as_items, values_behind, called_name, left_along, right_along, pay_eval, visited_chunk, send_remote}
+use Rattle.plan_meaning.specs.Meaning.{send_neighbour, opened_at, applied_function, entered_function, tuple, call, packed_chunk, choice, binding, sequence, conjunction, disjunction, negation}
+use Rattle.plan_meaning.specs.Meaning.{operation, selection, attempt, fold_left, fold_right, evaluation, remote, neighbour, values}
 use Rattle.eval_steps.specs.declared.stack_frame.StackFrame.TheVariants as frame
 use Rattle.eval_steps.specs.declared.next.Next.TheVariants as next
 use Rattle.eval_steps.specs.Stack.{deeper, behind, along}
@@ -219,13 +221,17 @@ module _ (code : Program) (seen : ℕ) (e : Expr) (env : Env) (s : VisitState) w
       → all ≡ left ++ x ∷ [] → args ≡ acc ∷ x ∷ []
       → Leads ((along code seen (out-Expr e) acc all >>= weighed_value) s) (next_step code seen (record { expr = e; env = env }) (next.Step fun args left) s)
   unfolding applied_function
-  fold_left_step f a l acc x all left args fun form is more pair = rw (form, more, reverse-append left (x ∷ []), is, pair) (rests_are_regrouped (entered_function meaning code fun (acc ∷ x ∷ []) s) (λ v. left_along meaning code seen f v (reverse left)) weighed_value)
+  fold_left_step f a l acc x all left args fun form is more pair =
+      rw (form, more, reverse-append left (x ∷ []), is, pair)
+      (rests_are_regrouped (entered_function meaning code fun (acc ∷ x ∷ []) s) (λ v. left_along meaning code seen f v (reverse left)) weighed_value)
 
   pub fold_right_step : (f : Name) (a l : Expr) (acc x : Value) (all left args : List Value) (fun : ℕ) → out-Expr e ≡ Expr-F.Foldr f a l → place_of f (take seen code.funs) ≡ Some fun
       → all ≡ left ++ x ∷ [] → args ≡ x ∷ acc ∷ []
       → Leads ((along code seen (out-Expr e) acc all >>= weighed_value) s) (next_step code seen (record { expr = e; env = env }) (next.Step fun args left) s)
   unfolding applied_function
-  fold_right_step f a l acc x all left args fun form is more pair = rw (form, more, reverse-append left (x ∷ []), is, pair) (rests_are_regrouped (entered_function meaning code fun (x ∷ acc ∷ []) s) (λ v. right_along meaning code seen f v (reverse left)) weighed_value)
+  fold_right_step f a l acc x all left args fun form is more pair =
+      rw (form, more, reverse-append left (x ∷ []), is, pair)
+      (rests_are_regrouped (entered_function meaning code fun (x ∷ acc ∷ []) s) (λ v. right_along meaning code seen f v (reverse left)) weighed_value)
 
   -- the function of a call
   pub enters : (f : Name) (args : List Value) (fun : ℕ) → place_of f (take seen code.funs) ≡ Some fun

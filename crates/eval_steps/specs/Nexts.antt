@@ -14,7 +14,8 @@ use Rattle.service_api.specs.Services.{ServiceState}
 use Rattle.plan_meaning.specs.declared.stop.EvalStop.{EvalStop}
 use Rattle.plan_meaning.specs.State.{VisitState, Own, joined_state}
 use Rattle.plan_meaning.specs.Run.{Run, RunStep, pure, wrong, or_wrong, weighed_value, ◌>>=◌, ◌>>◌}
-use Rattle.plan_meaning.specs.Meaning.{Env, bound, entered_function, visited_chunk, meaning, opened_at, called_name, as_chunk, as_host, as_int, as_dev, send_remote, send_neighbour}
+use Rattle.plan_meaning.specs.Meaning.{Env, bound, entered_function, visited_chunk, meaning, opened_at, called_name, as_chunk, as_host}
+use Rattle.plan_meaning.specs.Meaning.{as_int, as_dev, send_remote, send_neighbour}
 use Rattle.plan_meaning.specs.Safe.{IsSafe}
 use Rattle.eval_steps.specs.declared.stack_frame.StackFrame.TheVariants as frame
 use Rattle.eval_steps.specs.declared.next.Next.{Next}
@@ -82,11 +83,14 @@ near_step k host u v s = (near_send k host u v >>= weighed_value) s
 -- a send by a routing name of which all parts gave values is safe at some standing of the services
 abbrev pub RemoteIsSafe : Name → Value → Value → Value → Own → Type 0
 RemoteIsSafe r c w v o =
-    (k : Chunk) (host : Host) (i : ℤ) → as_chunk c ≡ Some k → as_host w ≡ Some host → as_int v ≡ Some i → (s : ServiceState) × IsSafe (send_remote k host i r (joined_state o s)).asks
+    (k : Chunk) (host : Host) (i : ℤ) → as_chunk c ≡ Some k → as_host w ≡ Some host → as_int v ≡ Some i → (s : ServiceState)
+    × IsSafe (send_remote k host i r (joined_state o s)).asks
 
 -- the same of a send to a neighbour whose chunk and host are known
 abbrev pub NearIsSafe : Chunk → Host → Value → Value → Own → Type 0
-NearIsSafe k host u v o = (i : ℤ) (dev : Dev) → as_int u ≡ Some i → as_dev v ≡ Some dev → (s : ServiceState) × IsSafe (send_neighbour k host i dev (joined_state o s)).asks
+NearIsSafe k host u v o =
+    (i : ℤ) (dev : Dev) → as_int u ≡ Some i → as_dev v ≡ Some dev → (s : ServiceState)
+    × IsSafe (send_neighbour k host i dev (joined_state o s)).asks
 
 -- the same of a send to a neighbour
 abbrev pub NeighbourIsSafe : Value → Value → Value → Value → Own → Type 0

@@ -14,7 +14,9 @@ use Rattle.plan_types_spec.specs.Rules.{binary, part}
 use Rattle.plan_meaning.specs.declared.stop.EvalStop.TheVariants.{Raised}
 use Rattle.plan_meaning.specs.State.{VisitState}
 use Rattle.plan_meaning.specs.Run.{Run, RunStep, gave, stopped, ◌>>=◌, ◌>>◌, and_then, rescued_step, quiet, pure, wrong, or_wrong, given_value, weighed_value}
-use Rattle.plan_meaning.specs.Meaning.{Env, catches, binds, bound, as_bool, as_int, as_host, as_dev, as_chunk, as_items, values_behind, called_name, left_along, right_along, pay_eval, visited_chunk, send_remote, send_neighbour, handled_exception, meaning}
+use Rattle.plan_meaning.specs.Meaning.{Env, catches, binds, bound, as_bool, as_int, as_host, as_dev, as_chunk, as_items, values_behind}
+use Rattle.plan_meaning.specs.Meaning.{called_name, left_along, right_along, pay_eval, visited_chunk, send_remote, send_neighbour}
+use Rattle.plan_meaning.specs.Meaning.{handled_exception, meaning}
 use Rattle.eval_steps.specs.declared.stack_frame.StackFrame.{StackFrame}
 use Rattle.eval_steps.specs.declared.stack_frame.StackFrame.TheVariants as frame
 use Rattle.eval_steps.specs.declared.stack_frame.Activation.{Activation}
@@ -149,17 +151,61 @@ module _ (code : Program) (seen : ℕ) where
   behind (Expr-F.Foldr f a l) env n [] v = meaning code seen env l >>= (λ w. or_wrong (as_items w) >>= (λ xs. right_along meaning code seen f v (reverse xs)))
   behind (Expr-F.Foldr f a l) env n (acc ∷ held) v = or_wrong (as_items v) >>= (λ xs. right_along meaning code seen f acc (reverse xs))
   behind (Expr-F.Eval a) env n held v = or_wrong (as_chunk v) >>= (λ k. pay_eval >> (visited_chunk meaning k >> pure value.Unit))
-  behind (Expr-F.OnRemote a h n r) env i [] v = or_wrong (as_chunk v) >>= (λ k. meaning code seen env h >>= (λ w. or_wrong (as_host w) >>= (λ host. meaning code seen env n >>= (λ u. or_wrong (as_int u) >>= (λ b. send_remote k host b r >> pure value.Unit)))))
-  behind (Expr-F.OnRemote a h n r) env i (c ∷ []) v = or_wrong (as_chunk c) >>= (λ k. or_wrong (as_host v) >>= (λ host. meaning code seen env n >>= (λ u. or_wrong (as_int u) >>= (λ b. send_remote k host b r >> pure value.Unit))))
-  behind (Expr-F.OnRemote a h n r) env i (c ∷ w ∷ held) v = or_wrong (as_chunk c) >>= (λ k. or_wrong (as_host w) >>= (λ host. or_wrong (as_int v) >>= (λ b. send_remote k host b r >> pure value.Unit)))
+  behind (Expr-F.OnRemote a h n r) env i [] v =
+      or_wrong (as_chunk v)
+      >>= (λ k.
+      meaning code seen env h
+      >>= (λ w.
+      or_wrong (as_host w)
+      >>= (λ host.
+      meaning code seen env n >>= (λ u. or_wrong (as_int u) >>= (λ b. send_remote k host b r >> pure value.Unit)))))
+  behind (Expr-F.OnRemote a h n r) env i (c ∷ []) v =
+      or_wrong (as_chunk c)
+      >>= (λ k.
+      or_wrong (as_host v)
+      >>= (λ host. meaning code seen env n >>= (λ u. or_wrong (as_int u) >>= (λ b. send_remote k host b r >> pure value.Unit))))
+  behind (Expr-F.OnRemote a h n r) env i (c ∷ w ∷ held) v =
+      or_wrong (as_chunk c)
+      >>= (λ k. or_wrong (as_host w) >>= (λ host. or_wrong (as_int v) >>= (λ b. send_remote k host b r >> pure value.Unit)))
   behind (Expr-F.OnNeighbor a h n d) env i [] v =
-      or_wrong (as_chunk v) >>= (λ k. meaning code seen env h >>= (λ w. or_wrong (as_host w) >>= (λ host. meaning code seen env n >>= (λ u. or_wrong (as_int u) >>= (λ b. meaning code seen env d >>= (λ t. or_wrong (as_dev t) >>= (λ dev. send_neighbour k host b dev >> pure value.Unit)))))))
+      or_wrong (as_chunk v)
+      >>= (λ k.
+      meaning code seen env h
+      >>= (λ w.
+      or_wrong (as_host w)
+      >>= (λ host.
+      meaning code seen env n
+      >>= (λ u.
+      or_wrong (as_int u)
+      >>= (λ b.
+      meaning code seen env d
+      >>= (λ t. or_wrong (as_dev t) >>= (λ dev. send_neighbour k host b dev >> pure value.Unit)))))))
   behind (Expr-F.OnNeighbor a h n d) env i (c ∷ []) v =
-      or_wrong (as_chunk c) >>= (λ k. or_wrong (as_host v) >>= (λ host. meaning code seen env n >>= (λ u. or_wrong (as_int u) >>= (λ b. meaning code seen env d >>= (λ t. or_wrong (as_dev t) >>= (λ dev. send_neighbour k host b dev >> pure value.Unit))))))
+      or_wrong (as_chunk c)
+      >>= (λ k.
+      or_wrong (as_host v)
+      >>= (λ host.
+      meaning code seen env n
+      >>= (λ u.
+      or_wrong (as_int u)
+      >>= (λ b.
+      meaning code seen env d
+      >>= (λ t. or_wrong (as_dev t) >>= (λ dev. send_neighbour k host b dev >> pure value.Unit))))))
   behind (Expr-F.OnNeighbor a h n d) env i (c ∷ w ∷ []) v =
-      or_wrong (as_chunk c) >>= (λ k. or_wrong (as_host w) >>= (λ host. or_wrong (as_int v) >>= (λ b. meaning code seen env d >>= (λ t. or_wrong (as_dev t) >>= (λ dev. send_neighbour k host b dev >> pure value.Unit)))))
+      or_wrong (as_chunk c)
+      >>= (λ k.
+      or_wrong (as_host w)
+      >>= (λ host.
+      or_wrong (as_int v)
+      >>= (λ b.
+      meaning code seen env d
+      >>= (λ t. or_wrong (as_dev t) >>= (λ dev. send_neighbour k host b dev >> pure value.Unit)))))
   behind (Expr-F.OnNeighbor a h n d) env i (c ∷ w ∷ u ∷ held) v =
-      or_wrong (as_chunk c) >>= (λ k. or_wrong (as_host w) >>= (λ host. or_wrong (as_int u) >>= (λ b. or_wrong (as_dev v) >>= (λ dev. send_neighbour k host b dev >> pure value.Unit))))
+      or_wrong (as_chunk c)
+      >>= (λ k.
+      or_wrong (as_host w)
+      >>= (λ host.
+      or_wrong (as_int u) >>= (λ b. or_wrong (as_dev v) >>= (λ dev. send_neighbour k host b dev >> pure value.Unit))))
   behind _ env n held v = pure v
 
   -- behind the expression of a `try` an exception is handled; every other part passes it on

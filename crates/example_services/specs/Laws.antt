@@ -26,7 +26,9 @@ use Rattle.example_services.specs.Offered.{named_service, type_of, type_named, c
 use Rattle.example_services.specs.Serving.{hello, counted_answer, greeted_answer, serve_called, serve, offer}
 
 hello_ascii : IsAscii hello
-hello_ascii = IsAscii-cons 104 (101 ∷ 108 ∷ 108 ∷ 111 ∷ []) (lit≤ tt) (IsAscii-cons 101 (108 ∷ 108 ∷ 111 ∷ []) (lit≤ tt) (IsAscii-cons 108 (108 ∷ 111 ∷ []) (lit≤ tt) (IsAscii-cons 108 (111 ∷ []) (lit≤ tt) (IsAscii-cons 111 [] (lit≤ tt) IsAscii-nil))))
+hello_ascii = IsAscii-cons 104 (101 ∷ 108 ∷ 108 ∷ 111 ∷ []) (lit≤ tt)
+    (IsAscii-cons 101 (108 ∷ 108 ∷ 111 ∷ []) (lit≤ tt)
+    (IsAscii-cons 108 (108 ∷ 111 ∷ []) (lit≤ tt) (IsAscii-cons 108 (111 ∷ []) (lit≤ tt) (IsAscii-cons 111 [] (lit≤ tt) IsAscii-nil))))
 
 hello_formed : well_formed_text hello ≡ true
 unfolding well_formed_text
@@ -53,15 +55,24 @@ module _ (svc : Svc) (rows : Rows) (gr : AreGoodRows rows) where
   refused_good = record { answer = (0, zero-lt-suc _, refl); rows = gr }
 
   counted_good : svc.result ≡ ty.Int → (args : List Value) → IsGoodServed svc (counted_answer args rows)
-  counted_good e [] = record { answer = (subst (λ (t : Ty). IsGoodValue t (value.Int rows.«next»)) (sym e) (good_int rows.«next»), tt); rows = key_good rows gr }
+  counted_good e [] =
+      record {
+        answer = (subst (λ (t : Ty). IsGoodValue t (value.Int rows.«next»)) (sym e) (good_int rows.«next»), tt);
+        rows = key_good rows gr;
+      }
   counted_good e (_ ∷ _) = refused_good
 
   greeted_good : svc.result ≡ ty.Str → (args : List Value) → AreGoodValues svc.params args → IsGoodServed svc (greeted_answer args rows)
   greeted_good e [] g = refused_good
-  greeted_good e (v ∷ []) g = record { answer = (subst (λ (t : Ty). IsGoodValue t (value.Str hello)) (sym e) good_hello, argument_is_noted svc.params v g); rows = gr }
+  greeted_good e (v ∷ []) g =
+      record {
+        answer = (subst (λ (t : Ty). IsGoodValue t (value.Str hello)) (sym e) good_hello, argument_is_noted svc.params v g);
+        rows = gr;
+      }
   greeted_good e (v ∷ w ∷ vs) g = refused_good
 
-  fitting_good : (s : ExampleService) (t : Option Ty) (args : List Value) → instance (type_of s) svc ≡ t → AreGoodValues svc.params args → IsGoodServed svc (serve_called (if is_some t then Some s else None) args rows)
+  fitting_good : (s : ExampleService) (t : Option Ty) (args : List Value) → instance (type_of s) svc ≡ t → AreGoodValues svc.params args
+      → IsGoodServed svc (serve_called (if is_some t then Some s else None) args rows)
   fitting_good s None args f g = refused_good
   fitting_good Count (Some a) args f g = counted_good (found_is (type_of Count) svc a f).result args
   fitting_good Greet (Some a) args f g = greeted_good (found_is (type_of Greet) svc a f).result args g
@@ -73,7 +84,8 @@ module _ (svc : Svc) (rows : Rows) (gr : AreGoodRows rows) where
 pub serve_good : IsGoodServe serve
 serve_good svc args ctx rows gr ga near = named_good svc rows gr (named_service svc.name) args ga
 
-unfit : (o : Option ExampleService) (svc : Svc) (args : List Value) (rows : Rows) → is_instance_of (type_named o) svc ≡ false → serve_called (called_as o svc) args rows ≡ refused_call rows
+unfit : (o : Option ExampleService) (svc : Svc) (args : List Value) (rows : Rows) → is_instance_of (type_named o) svc ≡ false
+    → serve_called (called_as o svc) args rows ≡ refused_call rows
 unfit None svc args rows e = refl
 unfit (Some s) svc args rows e = ap (λ b. serve_called (if b then Some s else None) args rows) e
 

@@ -1,3 +1,4 @@
+//! What the example's services answer.
 ghost use Rattle.std.specs.Prelude.{IfOk, ◌≡◌};
 ghost use Rattle.plan_types_spec.specs.Rules as rules;
 ghost use Rattle.service_api.specs.declared.answer.Answer.TheVariants as answer;

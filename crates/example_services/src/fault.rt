@@ -1,3 +1,4 @@
+//! Why a text gives no packet.
 use plan_base::NoMemory;
 use plan_types_chunks::ChunkFault;
 use program_text::TextFault;

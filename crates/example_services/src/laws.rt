@@ -1,3 +1,4 @@
+//! Laws of the example's services, as the trait asks for them.
 ghost use Rattle.service_api.specs.Services.{IsGoodServe, RefusesOthers};
 ghost use Rattle.example_services.specs.Serving.{serve, offer};
 

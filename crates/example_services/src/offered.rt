@@ -1,3 +1,4 @@
+//! Which services the example offers.
 ghost use Rattle.std.specs.Prelude.{◌≡◌, IfOk};
 ghost use Rattle.example_services.specs.Offered as spec;
 

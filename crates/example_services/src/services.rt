@@ -1,3 +1,4 @@
+//! Services of one's own: a counter and a greeting.
 ghost use Rattle.std.specs.Prelude.{◌≡◌};
 ghost use Rattle.example_services.specs.Counts.{standing, opening};
 ghost use Rattle.example_services.specs.Laws.{example_good, example_refuses};

@@ -1,3 +1,4 @@
+//! What each call of the example does.
 ghost use Rattle.std.specs.Prelude.{◌≡◌};
 ghost use Rattle.service_registry.specs.Meets.{Meets, Tells};
 ghost use Rattle.example_services.specs.Offered as offered;

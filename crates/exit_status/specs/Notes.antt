@@ -11,7 +11,8 @@ use Rattle.exit_status.specs.declared.status.Cause.TheVariants.{Done, Usage, Ref
 use Rattle.exit_status.specs.declared.status.Refusal.{Refusal}
 use Rattle.exit_status.specs.declared.status.Refusal.TheVariants.{Line, At, Frame, BadHex, TooLong, Log, LogTooLong}
 use Rattle.line_reader.specs.declared.fault.LineReason.{LineReason}
-use Rattle.line_reader.specs.declared.fault.LineReason.TheVariants.{BadHeader, BadWord, BadNumber, UnknownHost, UnknownProgram, TwiceNamed, TooMany, ProgramRefused, BadArgument}
+use Rattle.line_reader.specs.declared.fault.LineReason.TheVariants.{BadHeader, BadWord, BadNumber, UnknownHost, UnknownProgram, TwiceNamed}
+use Rattle.line_reader.specs.declared.fault.LineReason.TheVariants.{TooMany, ProgramRefused, BadArgument}
 
 -- the name of a reason
 abbrev pub reason_name : LineReason → List ℕ
@@ -47,7 +48,8 @@ refusal_text (LogTooLong k) = codes "planet: log " ++ (decimal k ++ codes " TooL
 -- the note of a cause
 abbrev pub note_text : Cause → List ℕ
 note_text Done = []
-note_text Usage = codes "planet: usage: check FILE | show FILE | replay FILE | node FILE TURNS | inject FILE | fleet FILE | grow SEED N | cut FILE | gather PORT FILE | port FILE | audit FILE\n"
+note_text Usage =
+    codes "planet: usage: check FILE | show FILE | replay FILE | node FILE TURNS | inject FILE | fleet FILE | grow SEED N | cut FILE | gather PORT FILE | port FILE | audit FILE\n"
 note_text (Refused r) = refusal_text r
 note_text ReadFault = codes "planet: read fault\n"
 note_text WriteFault = codes "planet: write fault\n"

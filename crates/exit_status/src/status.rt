@@ -1,3 +1,4 @@
+//! How a call of the program ended, and the status that it gives.
 ghost use Rattle.std.specs.Prelude.{◌≡◌};
 
 use line_reader::{LineFault, LineReason};

@@ -13,7 +13,8 @@ use Rattle.line_reader.specs.Programs.{opened_program, program_in, weighed_sum}
 use Rattle.line_reader.specs.Reads.{word_at, end_at, allowed_or_reason}
 use Rattle.line_reader.specs.declared.fault.LineFault.{LineFault}
 use Rattle.line_reader.specs.declared.fault.LineReason.TheVariants.{BadHeader, BadWord, UnknownProgram, TwiceNamed}
-use Rattle.node_files.specs.Configs.{port_line, is_used, free_port, control_line, period_line, log_line, wanted_line, tail_word, may_come, with_device, device_line, missing_line, program_line, inject_line, tail_rest, tail_line, close_program, begun_by, config_step_at, config_said, config_end, config_format, nothing_read, config_of}
+use Rattle.node_files.specs.Configs.{port_line, is_used, free_port, control_line, period_line, log_line, wanted_line, tail_word, may_come, with_device, device_line, missing_line, program_line}
+use Rattle.node_files.specs.Configs.{inject_line, tail_rest, tail_line, close_program, begun_by, config_step_at, config_said, config_end, config_format, nothing_read, config_of}
 use Rattle.node_files.specs.Nodes.{host_line, hosts_line, neighbour_at}
 use Rattle.node_files.specs.Parts.{behind_word, last_number}
 use Rattle.node_files.specs.declared.config.ConfigReading.{ConfigReading}

@@ -39,11 +39,13 @@ then_refuses : {S T : Type 0} (r : Result S LineFault) (f : S → Result T LineF
 then_refuses (Ok x) f h k e q = k x e q
 then_refuses {S} {T} (Err d) f h k e q = h e (ap (λ z. Err z) (err_is {B = T} d e q))
 
-read_holds : {S T : Type 0} (f : Format S T) → ((number : ℕ) (line : List ℕ) (s : S) → OnRefusal (f.step number line s)) → ((number : ℕ) (s : S) → OnRefusal (f.finish number s)) → (ls : List (List ℕ)) (number : ℕ) (s : S) → OnRefusal (read_on f number ls s)
+read_holds : {S T : Type 0} (f : Format S T) → ((number : ℕ) (line : List ℕ) (s : S) → OnRefusal (f.step number line s)) → ((number : ℕ) (s : S) → OnRefusal (f.finish number s))
+    → (ls : List (List ℕ)) (number : ℕ) (s : S) → OnRefusal (read_on f number ls s)
 unfolding read_on
 read_holds f step finish [] number s = finish number s
 read_holds f step finish (line ∷ ls) number s = then_refuses (f.step number line s) _ (step number line s) (λ t. read_holds f step finish ls (number + 1) t)
 
 -- what holds of what each line and the end refuse holds of what the file is refused for
-pub file_holds : {S T : Type 0} (f : Format S T) (begin : S) → ((number : ℕ) (line : List ℕ) (s : S) → OnRefusal (f.step number line s)) → ((number : ℕ) (s : S) → OnRefusal (f.finish number s)) → (bytes : List ℕ) → OnRefusal (file_of f begin bytes)
+pub file_holds : {S T : Type 0} (f : Format S T) (begin : S) → ((number : ℕ) (line : List ℕ) (s : S) → OnRefusal (f.step number line s)) → ((number : ℕ) (s : S) → OnRefusal (f.finish number s))
+    → (bytes : List ℕ) → OnRefusal (file_of f begin bytes)
 file_holds f begin step finish bytes = read_holds f step finish (lines bytes) 1 begin

@@ -16,7 +16,8 @@ use Rattle.line_reader.specs.declared.fault.LineReason.TheVariants.{BadHeader, B
 use Rattle.plan_base.specs.declared.stamp.Version.{Version}
 use Rattle.network_config.specs.Hosts.{dev_of}
 use Rattle.node_files.specs.ChunkWords.{chunk_at}
-use Rattle.node_files.specs.Logs.{behind_host, own_line, boot_line, network_line, node_word, may_come, device_line, missing_line, events_line, node_rest, node_line, entry_word, inject_entry, frame_entry, control_entry, take_entry, entry_rest, entry_line, begun_by, log_step_at, log_said, log_end, log_format, nothing_logged, log_of}
+use Rattle.node_files.specs.Logs.{behind_host, own_line, boot_line, network_line, node_word, may_come, device_line, missing_line, events_line, node_rest, node_line, entry_word, inject_entry}
+use Rattle.node_files.specs.Logs.{frame_entry, control_entry, take_entry, entry_rest, entry_line, begun_by, log_step_at, log_said, log_end, log_format, nothing_logged, log_of}
 use Rattle.node_files.specs.Nodes.{host_line, hosts_line, neighbour_at, placed_items, device_of}
 use Rattle.node_files.specs.Parts.{behind_word, last_number}
 use Rattle.node_files.specs.declared.log.EntryWord.{EntryWord}

@@ -11,7 +11,8 @@ use Rattle.plan_base.specs.Words.{is_name}
 use Rattle.wire_bytes.specs.Fields.{Front, bytes_at, number_at, int_at}
 use Rattle.chunk_codec_spec.specs.declared.fault.SpellFault.{SpellFault}
 use Rattle.chunk_codec_spec.specs.declared.fault.SpellFault.TheVariants.{BadTag, BadName, BadUtf8, OverLimit, NoMemory}
-use Rattle.chunk_codec_spec.specs.Items.{ChunkItem, a_flag, an_int, a_word, a_char, a_text, a_blob, a_name, an_operator, a_part_number, a_type, an_expr, several_clauses, a_clause, a_parameter, a_service, a_function, a_program, code_end, a_value, a_chunk, weight_end, counted, listed}
+use Rattle.chunk_codec_spec.specs.Items.{ChunkItem, a_flag, an_int, a_word, a_char, a_text, a_blob, a_name, an_operator, a_part_number, a_type, an_expr, several_clauses, a_clause, a_parameter}
+use Rattle.chunk_codec_spec.specs.Items.{a_service, a_function, a_program, code_end, a_value, a_chunk, weight_end, counted, listed}
 use Rattle.chunk_codec_spec.specs.Scan.{Scan, whole, number_field, int_field, bytes_field, allowed_or_fault, tag_of, known_tag, table_field, flag_field, is_scalar, char_field, blob_field, text_field, count_field, name_field, operator_field}
 use Rattle.chunk_codec_spec.specs.Types.{type_tag_at}
 use Rattle.chunk_codec_spec.specs.Exprs.{expr_tag_at, clause_tag_at}

@@ -15,7 +15,8 @@ use Rattle.line_reader.specs.declared.fault.LineFault.TheVariants as faults
 use Rattle.line_reader.specs.declared.fault.LineReason.TheVariants.{BadHeader, BadWord, UnknownHost, TooMany}
 use Rattle.network_config.specs.Hosts.{host_of, dev_of}
 use Rattle.node_files.specs.Parts.{behind_word}
-use Rattle.command_files.specs.PortFiles.{event_word, is_end, end_host, frame_at, with_event, offer_line, transmit_line, send_line, deliver_line, lose_line, repeat_line, event_rest, event_line, purses_line, begin_line, port_step_at, port_end, port_format, nothing_read, port_of}
+use Rattle.command_files.specs.PortFiles.{event_word, is_end, end_host, frame_at, with_event, offer_line, transmit_line, send_line, deliver_line, lose_line, repeat_line, event_rest, event_line}
+use Rattle.command_files.specs.PortFiles.{purses_line, begin_line, port_step_at, port_end, port_format, nothing_read, port_of}
 use Rattle.command_files.specs.declared.port.PortEvent.TheVariants as event
 use Rattle.command_files.specs.declared.port.PortReading.{PortReading}
 use Rattle.command_files.specs.declared.port.PortStage.{PortStage}

@@ -2,7 +2,8 @@
 use Rattle.std.proofs.Common.{◌≡◌, ℕ, true, not, List, [], ◌∷◌, ◌++◌, length, Result, Ok, Err, refl}
 use Rattle.std.specs.Prelude.{nat_lt, ◌==◌}
 use Rattle.file_laws.proofs.FileHolds.{OnRefusal, version_holds, either_refuses, done_refuses, none_refuses, at_line_refuses, file_holds}
-use Rattle.file_laws.proofs.LineHolds.{Holds, then_holds, done_holds, none_holds, allowed_holds, ok_or_holds, word_at_holds, end_at_holds, named_word_holds, number_at_holds, hex_at_holds, packages_at_holds, program_in_holds, weighed_holds, injection_at_holds}
+use Rattle.file_laws.proofs.LineHolds.{Holds, then_holds, done_holds, none_holds, allowed_holds, ok_or_holds, word_at_holds, end_at_holds, named_word_holds, number_at_holds, hex_at_holds}
+use Rattle.file_laws.proofs.LineHolds.{packages_at_holds, program_in_holds, weighed_holds, injection_at_holds}
 use Rattle.file_laws.specs.Refusals.{FaultHolds}
 use Rattle.line_reader.specs.Files.{is_skipped}
 use Rattle.line_reader.specs.Headers.{version_in}
@@ -21,7 +22,9 @@ use Rattle.network_config.specs.Hosts.{host_of, dev_of, has_host, has_link}
 use Rattle.network_config.specs.declared.schedule.HostSpec.{HostSpec}
 use Rattle.plan_base.specs.declared.ids.Host.{Host}
 use Rattle.schedule_text.specs.Parts.{host_at, device_at, free_device_at, is_called, program_at}
-use Rattle.schedule_text.specs.Schedules.{network_word, event_word, is_first, frames_line, host_spec, host_line, link_line, begun_at, program_line, named_program, close_program, network_rest, network_line, with_event, injected_at, inject_line, send_line, frame_at, deliver_line, repeat_line, lose_line, tick_line, raw_line, event_rest, event_line, staying, begun_by, step, schedule_of_reading, finish, file_after, schedule_format, nothing_read, schedule_of}
+use Rattle.schedule_text.specs.Schedules.{network_word, event_word, is_first, frames_line, host_spec, host_line, link_line, begun_at, program_line, named_program, close_program, network_rest}
+use Rattle.schedule_text.specs.Schedules.{network_line, with_event, injected_at, inject_line, send_line, frame_at, deliver_line, repeat_line, lose_line, tick_line, raw_line, event_rest, event_line}
+use Rattle.schedule_text.specs.Schedules.{staying, begun_by, step, schedule_of_reading, finish, file_after, schedule_format, nothing_read, schedule_of}
 use Rattle.schedule_text.specs.declared.keyword.EventWord.{EventWord}
 use Rattle.schedule_text.specs.declared.keyword.NetworkWord.{NetworkWord}
 use Rattle.schedule_text.specs.declared.reading.BegunProgram.{BegunProgram}
@@ -229,7 +232,9 @@ step_holds number line (stages.Inside begun) s =
     either_refuses (bytes_eq line (codes "end program")) _ _
     (at_line_refuses begun.source.line (staying stages.Network (close_program begun s)) (staying_holds stages.Network (close_program begun s) (close_program_holds begun s)))
     (done_refuses _)
-step_holds number line stages.Events s = either_refuses (is_skipped line) _ _ (done_refuses (stages.Events, s)) (at_line_refuses number (staying stages.Events (event_line (words line) s)) (staying_holds stages.Events (event_line (words line) s) (event_line_holds (words line) s)))
+step_holds number line stages.Events s =
+    either_refuses (is_skipped line) _ _ (done_refuses (stages.Events, s))
+    (at_line_refuses number (staying stages.Events (event_line (words line) s)) (staying_holds stages.Events (event_line (words line) s) (event_line_holds (words line) s)))
 
 after_holds : (r : Result (Stage × Reading) LineFault) → OnRefusal r → OnRefusal (file_after r)
 after_holds (Ok next) h = done_refuses _

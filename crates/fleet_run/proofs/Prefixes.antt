@@ -34,5 +34,6 @@ prefix_written kids ss old new a b (Err WaitFault) d = prefix_all a b (fleet_tex
 prefix_written kids ss old new a b (Err WriteFault) d = record { count = d.2.count; is = d.2.is }
 prefix_written kids ss old new a b (Err NoMemory) d = prefix_all a b (fleet_text kids ss) d.2
 
-pub fleet_prefix : (kids : List Kid) (old new : SpawnerState) (a b : SinkState) (result : Result FleetEnd FleetFault) → RunsFleet kids old new a b result → IsTrue old.observable → WritesPrefix a b (fleet_text kids (drop old.started old.statuses))
+pub fleet_prefix : (kids : List Kid) (old new : SpawnerState) (a b : SinkState) (result : Result FleetEnd FleetFault) → RunsFleet kids old new a b result → IsTrue old.observable
+    → WritesPrefix a b (fleet_text kids (drop old.started old.statuses))
 fleet_prefix kids old new a b result f seen = prefix_given kids (drop old.started old.statuses) f.statuses a b (f.given seen) (prefix_written kids f.statuses old new a b result f.did)

@@ -66,7 +66,9 @@ pub record Asks {T : Type 0} (a : AskFile) (old new : LinkState) (out_old out_ne
 -- the one bind and the one frame, or what stands of them where the link failed
 abbrev pub OneResult : {T E : Type 0} → Bind → Heard → LinkState → LinkState → Result T E → Type 0
 OneResult bind frame old new (Ok x) = (IsTrue old.observable → new.binds ≡ old.binds ++ bind ∷ []) × (IsTrue old.observable → new.sent ≡ old.sent ++ frame ∷ [])
-OneResult bind frame old new (Err e) = HasRisen old.faults new.faults × (IsTrue old.observable → (new.binds ≡ old.binds) ⊎ (new.binds ≡ old.binds ++ bind ∷ [])) × (new.sent ≡ old.sent)
+OneResult bind frame old new (Err e) =
+    HasRisen old.faults new.faults × (IsTrue old.observable → (new.binds ≡ old.binds) ⊎ (new.binds ≡ old.binds ++ bind ∷ []))
+    × (new.sent ≡ old.sent)
 
 pub record SendsOne {T E : Type 0} (bind : Bind) (frame : Heard) (old new : LinkState) (result : Result T E) : Type 0 where
   pub observable : new.observable ≡ old.observable

@@ -51,7 +51,8 @@ abbrev pub Closes : {T E : Type 0} → List Child → List Child → Result T E 
 Closes base running (Ok x) = running ≡ base
 Closes base running (Err e) = LeavesOpen base running
 
-pub record ReportsEach {T : Type 0} (kids : List Kid) (started : List Child) (statuses : List ℕ) (old new : SpawnerState) (out_old out_new : SinkState) (result : Result T FleetFault) : Type 0 where
+pub record ReportsEach {T : Type 0} (kids : List Kid) (started : List Child) (statuses : List ℕ) (old new : SpawnerState)
+    (out_old out_new : SinkState) (result : Result T FleetFault) : Type 0 where
   pub kept : KeepsStatuses old new
   pub starts : new.starts ≡ old.starts
   pub few : length statuses ≤ length kids

@@ -1,3 +1,4 @@
+//! Sends a request to a serving node.
 ghost use Rattle.std.specs.Prelude.{◌≡◌, IfOk};
 ghost use Rattle.std.specs.String.{string_bytes};
 ghost use Rattle.network_config.specs.Hosts.{dev_of};

@@ -1,3 +1,4 @@
+//! Runs a fleet: starts its children, waits for them, and writes how each ended.
 ghost use Rattle.std.specs.Prelude.{◌≡◌, IfOk, [], length, vec_capacity};
 ghost use Rattle.fleet_run.specs.Fleets.{fleet_starts};
 ghost use Rattle.fleet_run.specs.Runs.{RunsFleet};

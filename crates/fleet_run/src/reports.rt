@@ -1,3 +1,4 @@
+//! Waits for children and writes a line for each.
 ghost use Rattle.std.specs.Prelude.{◌≡◌, length, vec_capacity};
 ghost use Rattle.fleet_run.specs.Children.{AreStarted, HasRoomFor};
 ghost use Rattle.fleet_run.specs.Fleets.{fleet_end};

@@ -1,3 +1,4 @@
+//! Starts children in order.
 ghost use Rattle.std.specs.Prelude.{◌≡◌, ◌≤◌, List, [], length, vec_len, vec_capacity};
 ghost use Rattle.node_io.specs.declared.spawner.Child.{Child as Kid};
 ghost use Rattle.fleet_run.specs.Children.{AreOpen};

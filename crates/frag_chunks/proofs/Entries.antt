@@ -20,7 +20,8 @@ holding_at_place : (k : ℤ) (es : List Entry) (i : ℕ) (d : Entry) → positio
 holding_at_place k [] i d e = absurd cc
 holding_at_place k (x ∷ es) i d e = by (int_eq x.key k) refl (λ j. holding_at_place k es j d) e
   where
-    by : (t : Bool) → int_eq x.key k ≡ t → ((j : ℕ) → position k es ≡ Some j → holding_of k es ≡ Some (get_or es j d).holding) → (if t then Some 0 else option_map (λ j. suc j) (position k es)) ≡ Some i → holding_of k (x ∷ es) ≡ Some (get_or (x ∷ es) i d).holding
+    by : (t : Bool) → int_eq x.key k ≡ t → ((j : ℕ) → position k es ≡ Some j → holding_of k es ≡ Some (get_or es j d).holding)
+        → (if t then Some 0 else option_map (λ j. suc j) (position k es)) ≡ Some i → holding_of k (x ∷ es) ≡ Some (get_or (x ∷ es) i d).holding
     by true q r s = let z : 0 ≡ i = cc in ap (λ t. if t then Some x.holding else holding_of k es) q ∙ ap (λ n. Some (get_or (x ∷ es) n d).holding) z
     by false q r s =
         let n = none_placed (position k es) i s in
@@ -30,7 +31,8 @@ written_at_place : (k : ℤ) (h : PartialMessage) (es : List Entry) (i : ℕ) (d
 written_at_place k h [] i d e = absurd cc
 written_at_place k h (x ∷ es) i d e = by (int_eq x.key k) refl (λ j. written_at_place k h es j d) e
   where
-    by : (t : Bool) → int_eq x.key k ≡ t → ((j : ℕ) → position k es ≡ Some j → slice_set es j (record { key = (get_or es j d).key; holding = h }) ≡ with_holding k h es) → (if t then Some 0 else option_map (λ j. suc j) (position k es)) ≡ Some i
+    by : (t : Bool) → int_eq x.key k ≡ t → ((j : ℕ) → position k es ≡ Some j → slice_set es j (record { key = (get_or es j d).key; holding = h }) ≡ with_holding k h es)
+        → (if t then Some 0 else option_map (λ j. suc j) (position k es)) ≡ Some i
         → slice_set (x ∷ es) i (record { key = (get_or (x ∷ es) i d).key; holding = h }) ≡ (if t then record { key = x.key; holding = h } ∷ es else x ∷ with_holding k h es)
     by true q r s = let z : i ≡ 0 = cc in ap (λ n. slice_set (x ∷ es) n (record { key = (get_or (x ∷ es) n d).key; holding = h })) z
     by false q r s =

@@ -72,7 +72,8 @@ pub first_part : (k : ℤ) (b : List ℕ) (i : ℕ) (es : List Entry) → IsMess
     → holding_of k (after (judged_all (said_of k b i) es) (said_of k b i) es) ≡ Came (also k (said_of k b i) (λ x. false)) b
 unfolding judged_part with_part
 first_part k b i es m h e r =
-    let a : judged_all (said_of k b i) es ≡ added.Kept = ap (λ o. judged_among o (said_of k b i) es) e ∙ ap (λ t. if t then added.Full else judged_part None (said_of k b i)) r ∙ ap (λ t. if t then added.Kept else added.Spoiled) (is_right b i m h) in
+    let a : judged_all (said_of k b i) es ≡ added.Kept = ap (λ o. judged_among o (said_of k b i) es) e ∙ ap (λ t. if t then added.Full else judged_part None (said_of k b i)) r
+    ∙ ap (λ t. if t then added.Kept else added.Spoiled) (is_right b i m h) in
     ap (λ x. holding_of k (after x (said_of k b i) es)) a
     ∙ own_holding k (with_part (holding_of k es) (said_of k b i)) es
     ∙ ap (λ o. Some (with_part o (said_of k b i))) e

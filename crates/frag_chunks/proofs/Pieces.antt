@@ -42,7 +42,8 @@ pub slots_filled : (f : ℕ → Bool) (b : List ℕ) (i n : ℕ) → filled_part
 slots_filled f b i zero = refl
 slots_filled f b i (suc n) = by (f i) (slots_filled f b (i + 1) n)
   where
-    by : (t : Bool) → filled_parts (slots_from f b (i + 1) n) ≡ given_from f (i + 1) n → filled_parts ((if t then Some (piece_of b i) else None) ∷ slots_from f b (i + 1) n) ≡ (if t then suc (given_from f (i + 1) n) else given_from f (i + 1) n)
+    by : (t : Bool) → filled_parts (slots_from f b (i + 1) n) ≡ given_from f (i + 1) n
+        → filled_parts ((if t then Some (piece_of b i) else None) ∷ slots_from f b (i + 1) n) ≡ (if t then suc (given_from f (i + 1) n) else given_from f (i + 1) n)
     by true h = ap suc h
     by false h = h
 

@@ -74,7 +74,8 @@ parts_are code n dest port key b e = sym (ap (λ r. parts_by r (bound_of n) (add
 pub last_piece : (b : List ℕ) (i : ℕ) → length b - 8192 * i < 8192 → take (length b - 8192 * i) (drop (8192 * i) b) ≡ piece_of b i
 last_piece b i h = take_all (length b - 8192 * i) (drop (8192 * i) b) (omega (arith, length-drop (8192 * i) b)) ∙ sym (take_all 8192 (drop (8192 * i) b) (omega (arith, length-drop (8192 * i) b)))
 
-pub part_step : (code : Program) (n : ℕ) (a : PartId) (b : List ℕ) (m i : ℕ) (ps all : List Part) → ps ++ parts_from code n a b m i (m - i) ≡ all → i < m → (ps ++ part code n a b m i ∷ []) ++ parts_from code n a b m (i + 1) (m - (i + 1)) ≡ all
+pub part_step : (code : Program) (n : ℕ) (a : PartId) (b : List ℕ) (m i : ℕ) (ps all : List Part) → ps ++ parts_from code n a b m i (m - i) ≡ all → i < m
+    → (ps ++ part code n a b m i ∷ []) ++ parts_from code n a b m (i + 1) (m - (i + 1)) ≡ all
 part_step code n a b m i ps all h l = append_assoc ps (part code n a b m i ∷ []) (parts_from code n a b m (i + 1) (m - (i + 1))) ∙ ap (λ xs. ps ++ xs) (sym (parts_next code n a b m i l)) ∙ h
 
 pub part_end : (code : Program) (n : ℕ) (a : PartId) (b : List ℕ) (m i : ℕ) (ps all : List Part) → ps ++ parts_from code n a b m i (m - i) ≡ all → m ≤ i → ps ≡ all

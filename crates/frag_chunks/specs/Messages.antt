@@ -1,5 +1,6 @@
 -- Notes of the parts of one message.
-use Rattle.std.specs.Prelude.{◌≡◌, ℕ, zero, suc, ◌+◌, ◌<◌, ◌≤◌, Bool, false, IsTrue, IsSome, if◌then◌else◌, ◌&&◌, nat_eq, ℤ, pos, List, [], length, Option, Some, None, IfSome}
+use Rattle.std.specs.Prelude.{◌≡◌, ℕ, zero, suc, ◌+◌, ◌<◌, ◌≤◌, Bool, false, IsTrue, IsSome, if◌then◌else◌, ◌&&◌, nat_eq, ℤ, pos, List, []}
+use Rattle.std.specs.Prelude.{length, Option, Some, None, IfSome}
 use Rattle.std.specs.List.{list_any, AllByRecursion}
 use Rattle.std.specs.Option.{option_map}
 use Rattle.std.specs.Ordering.{int_eq}

@@ -1,5 +1,6 @@
 -- How a message is cut into parts, and the chunk that carries each.
-use Rattle.std.specs.Prelude.{◌≡◌, IsTrue, Result, Ok, Err, ℕ, zero, suc, ◌+◌, ◌*◌, ◌/◌, ◌%◌, ◌≤◌, if◌then◌else◌, nat_lt, ℤ, pos, List, [], ◌∷◌, length, take, drop, codes}
+use Rattle.std.specs.Prelude.{◌≡◌, IsTrue, Result, Ok, Err, ℕ, zero, suc, ◌+◌, ◌*◌, ◌/◌, ◌%◌, ◌≤◌, if◌then◌else◌, nat_lt, ℤ, pos, List, []}
+use Rattle.std.specs.Prelude.{◌∷◌, length, take, drop, codes}
 use Rattle.plan_base.specs.declared.ids.Host.{Host}
 use Rattle.plan_base.specs.declared.tree.Chunk.{Chunk}
 use Rattle.plan_base.specs.declared.tree.Program.{Program}
@@ -13,7 +14,8 @@ use Rattle.frag_chunks.specs.declared.cutting.PartId.{PartId}
 
 -- the program of a part: it goes to its destination, and is delivered there
 unfoldable pub part_text : List ℕ
-part_text = codes "svc thisHostIs : (host) -> bool\nsvc getRB : () -> int\nsvc deliver : (int, (int * int * int * blob)) -> unit\nfun part(dest : host, port : int, key : int, index : int, count : int, data : blob) : unit =\n  if thisHostIs(dest) then deliver(port, (key, index, count, data))\n  else OnRemote(|part|(dest, port, key, index, count, data), dest, getRB(), defaultRoute)\n"
+part_text = codes
+    "svc thisHostIs : (host) -> bool\nsvc getRB : () -> int\nsvc deliver : (int, (int * int * int * blob)) -> unit\nfun part(dest : host, port : int, key : int, index : int, count : int, data : blob) : unit =\n  if thisHostIs(dest) then deliver(port, (key, index, count, data))\n  else OnRemote(|part|(dest, port, key, index, count, data), dest, getRB(), defaultRoute)\n"
 
 -- the bounds of parts, added up
 abbrev pub bounds : List Part → ℕ

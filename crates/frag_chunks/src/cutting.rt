@@ -1,3 +1,4 @@
+//! Cuts a message into parts, and makes the chunk and the bound of each.
 ghost use Rattle.std.specs.Prelude.{◌≡◌, ◌*◌, ◌≤ℤ◌, ◌<◌, ◌≤◌, length, pos, IfOk, OnOk, OnErr, Ok, Err, ◌↔◌, false, All};
 ghost use Rattle.plan_meaning.specs.Meaning.{is_paid, bound_of};
 ghost use Rattle.program_text.specs.Texts.{program_of};

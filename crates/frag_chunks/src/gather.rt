@@ -1,3 +1,4 @@
+//! Gathers the parts of messages by their keys.
 ghost use Rattle.std.specs.Prelude.{◌≡◌, ◌+◌, ◌<◌, ◌≤◌, ◌∷◌, [], ◌++◌, length, Some, None, slice_get, slice_set, IfOk, OnOk, OnErr, MatchOption, All, if◌then◌else◌, IfSome};
 ghost use Rattle.frag_chunks.specs.Gathers as spec;
 ghost use Rattle.frag_chunks.specs.Saying.{as_said, FewPlaces};

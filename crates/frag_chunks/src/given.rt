@@ -1,3 +1,4 @@
+//! A part as a note says it.
 ghost use Rattle.std.specs.Prelude.{◌≡◌, ◌∷◌, [], Some, None, nat_eq, if◌then◌else◌};
 ghost use Rattle.std.specs.Option.{option_copied, option_map};
 ghost use Rattle.plan_base.specs.declared.tree.Value.{out-Value};

@@ -1,3 +1,4 @@
+//! What is kept of a message until it is whole.
 ghost use Rattle.std.specs.Prelude.{◌≡◌, ◌∷◌, [], ◌<◌, ◌≤◌, length, pos, Some, None, slice_get, slice_set, replicate, IfOk, OnOk, OnErr, IsTrue, true};
 ghost use Rattle.std.specs.List.{list_all};
 ghost use Rattle.std.specs.Option.{is_some};

@@ -1,3 +1,4 @@
+//! A law: what came in parts is held whole, with exactly that message.
 ghost use Rattle.std.specs.Prelude.{◌≡◌, ◌<◌, ◌⊎◌, ℕ, ℤ, List, [], length, Some, None, false};
 ghost use Rattle.service_api.specs.declared.answer.Note.{Note};
 ghost use Rattle.frag_chunks.specs.declared.gather.Held.TheVariants as held;

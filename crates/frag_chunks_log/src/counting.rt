@@ -1,3 +1,4 @@
+//! Gathers the notes of a log's acts.
 ghost use Rattle.std.specs.Prelude.{◌≡◌, IfOk, OnOk};
 ghost use Rattle.std.specs.List.{All};
 ghost use Rattle.network_config.specs.NodeRules.{KeepsEntry, KeepsNodeEvent};

@@ -1,3 +1,4 @@
+//! Gathers the messages of a node's log.
 ghost use Rattle.std.specs.Prelude.{◌≡◌, IfOk};
 ghost use Rattle.network_config.specs.NodeRules.{KeepsLog};
 ghost use Rattle.node_core_spec.specs.State.{new_node};

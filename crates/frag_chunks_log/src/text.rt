@@ -1,3 +1,4 @@
+//! Writes what was gathered.
 ghost use Rattle.std.specs.Prelude.{◌≡◌, ◌++◌, IfOk, OnOk};
 ghost use Rattle.hex.specs.Hex.{encode_lower};
 ghost use Rattle.plan_printer_spec.specs.Literals.{int_text};

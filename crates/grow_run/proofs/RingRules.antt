@@ -35,7 +35,14 @@ hosts_1 = whole_host 1 ∷ hosts_2
 
 -- what each of the eight hosts has
 each_host : (P : HostSpec → Type 0) → ((n : ℕ) → n < 9 → P (whole_host n)) → All P ring.hosts
-each_host P f = All-cons P (whole_host 1) hosts_2 (f 1 (omega arith)) (All-cons P (whole_host 2) hosts_3 (f 2 (omega arith)) (All-cons P (whole_host 3) hosts_4 (f 3 (omega arith)) (All-cons P (whole_host 4) hosts_5 (f 4 (omega arith)) (All-cons P (whole_host 5) hosts_6 (f 5 (omega arith)) (All-cons P (whole_host 6) hosts_7 (f 6 (omega arith)) (All-cons P (whole_host 7) hosts_8 (f 7 (omega arith)) (All-cons P (whole_host 8) [] (f 8 (omega arith)) (All-nil P))))))))
+each_host P f =
+    All-cons P (whole_host 1) hosts_2 (f 1 (omega arith))
+    (All-cons P (whole_host 2) hosts_3 (f 2 (omega arith))
+    (All-cons P (whole_host 3) hosts_4 (f 3 (omega arith))
+    (All-cons P (whole_host 4) hosts_5 (f 4 (omega arith))
+    (All-cons P (whole_host 5) hosts_6 (f 5 (omega arith))
+    (All-cons P (whole_host 6) hosts_7 (f 6 (omega arith))
+    (All-cons P (whole_host 7) hosts_8 (f 7 (omega arith)) (All-cons P (whole_host 8) [] (f 8 (omega arith)) (All-nil P))))))))
 
 link_keeps : (n m : ℕ) → has_host (host_of n) ring.hosts ≡ true → has_host (host_of m) ring.hosts ≡ true → m ≢ n → KeepsLink ring.hosts (ring_link n m)
 link_keeps n m a b c = record { from = a; to = b; apart = c; from_device = (omega arith, omega arith); to_device = (omega arith, omega arith) }
@@ -69,7 +76,14 @@ abbrev links_1 : List Link
 links_1 = ring_link 1 2 ∷ links_2
 
 links_keep : All Keeps ring.links
-links_keep = All-cons Keeps (ring_link 1 2) links_2 (link_keeps 1 2 refl refl (λ e. omega (arith, e))) (All-cons Keeps (ring_link 2 3) links_3 (link_keeps 2 3 refl refl (λ e. omega (arith, e))) (All-cons Keeps (ring_link 3 4) links_4 (link_keeps 3 4 refl refl (λ e. omega (arith, e))) (All-cons Keeps (ring_link 4 5) links_5 (link_keeps 4 5 refl refl (λ e. omega (arith, e))) (All-cons Keeps (ring_link 5 6) links_6 (link_keeps 5 6 refl refl (λ e. omega (arith, e))) (All-cons Keeps (ring_link 6 7) links_7 (link_keeps 6 7 refl refl (λ e. omega (arith, e))) (All-cons Keeps (ring_link 7 8) links_8 (link_keeps 7 8 refl refl (λ e. omega (arith, e))) (All-cons Keeps (ring_link 8 1) [] (link_keeps 8 1 refl refl (λ e. omega (arith, e))) (All-nil Keeps))))))))
+links_keep = All-cons Keeps (ring_link 1 2) links_2 (link_keeps 1 2 refl refl (λ e. omega (arith, e)))
+    (All-cons Keeps (ring_link 2 3) links_3 (link_keeps 2 3 refl refl (λ e. omega (arith, e)))
+    (All-cons Keeps (ring_link 3 4) links_4 (link_keeps 3 4 refl refl (λ e. omega (arith, e)))
+    (All-cons Keeps (ring_link 4 5) links_5 (link_keeps 4 5 refl refl (λ e. omega (arith, e)))
+    (All-cons Keeps (ring_link 5 6) links_6 (link_keeps 5 6 refl refl (λ e. omega (arith, e)))
+    (All-cons Keeps (ring_link 6 7) links_7 (link_keeps 6 7 refl refl (λ e. omega (arith, e)))
+    (All-cons Keeps (ring_link 7 8) links_8 (link_keeps 7 8 refl refl (λ e. omega (arith, e)))
+    (All-cons Keeps (ring_link 8 1) [] (link_keeps 8 1 refl refl (λ e. omega (arith, e))) (All-nil Keeps))))))))
 
 pub ring_keeps : KeepsNetwork ring
 ring_keeps = record {

@@ -12,7 +12,8 @@ use Rattle.net_world.specs.declared.runs.RunFault.TheVariants.{WriteFault, NoMem
 
 -- the program of a ping: it goes to a host, and from there an answer comes back and prints
 unfoldable pub ping_text : List ℕ
-ping_text = codes "svc thisHostIs : (host) -> bool\nsvc getRB : () -> int\nsvc print : (string) -> unit\nfun ack() : unit = print(\"Success\")\nfun ping(src : host, dest : host) : unit =\n  if not thisHostIs(dest) then\n    OnRemote(|ping|(src, dest), dest, getRB(), defaultRoute)\n  else OnRemote(|ack|(), src, getRB(), defaultRoute)\n"
+ping_text = codes
+    "svc thisHostIs : (host) -> bool\nsvc getRB : () -> int\nsvc print : (string) -> unit\nfun ack() : unit = print(\"Success\")\nfun ping(src : host, dest : host) : unit =\n  if not thisHostIs(dest) then\n    OnRemote(|ping|(src, dest), dest, getRB(), defaultRoute)\n  else OnRemote(|ack|(), src, getRB(), defaultRoute)\n"
 
 -- a ping of that program from one host to another
 abbrev pub ping : Program → Host → Host → Chunk

@@ -95,11 +95,18 @@ size_text n = (codes "hosts 8 links 8 events " ++ decimal n) ++ codes "\n"
 
 -- what happened
 abbrev pub happened_text : Summary → List ℕ
-happened_text s = (codes "lines " ++ decimal s.lines) ++ ((codes "\nvisits " ++ decimal s.visits) ++ ((codes " drops " ++ decimal s.drops) ++ ((codes " lost " ++ decimal s.lost) ++ codes "\n")))
+happened_text s =
+    (codes "lines " ++ decimal s.lines)
+    ++ ((codes "\nvisits " ++ decimal s.visits) ++
+    ((codes " drops " ++ decimal s.drops) ++ ((codes " lost " ++ decimal s.lost) ++ codes "\n")))
 
 -- what the families were granted, paid, have and left
 abbrev pub sums_text : Totals → List ℕ
-sums_text r = (codes "granted " ++ decimal r.granted) ++ ((codes " hops " ++ decimal r.hops) ++ ((codes " evals " ++ decimal r.evals) ++ ((codes " live " ++ decimal r.live) ++ ((codes " left " ++ decimal r.left) ++ codes "\n"))))
+sums_text r =
+    (codes "granted " ++ decimal r.granted)
+    ++ ((codes " hops " ++ decimal r.hops) ++
+    ((codes " evals " ++ decimal r.evals) ++
+    ((codes " live " ++ decimal r.live) ++ ((codes " left " ++ decimal r.left) ++ codes "\n"))))
 
 -- a summary
 unfoldable pub summary_text : ℕ → ℕ → Summary → Totals → List ℕ

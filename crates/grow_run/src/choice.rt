@@ -1,3 +1,4 @@
+//! Which kind of event a draw gives.
 use plan_base::{Dev, Host};
 
 /// What is to happen next.

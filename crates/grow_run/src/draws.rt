@@ -1,3 +1,4 @@
+//! The generator of a seed, and what is drawn from it.
 ghost use Rattle.std.specs.Prelude.{◌≡◌, ◌<◌};
 ghost use Rattle.grow_run.specs.Draws as spec;
 

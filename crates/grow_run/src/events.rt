@@ -1,3 +1,4 @@
+//! The event that a network makes next.
 ghost use Rattle.std.specs.Prelude.{◌≡◌, ◌≤◌, IfOk};
 ghost use Rattle.net_world_spec.specs.World.{WorldState};
 ghost use Rattle.net_world_spec.specs.Sound.{event_fits};

@@ -1,3 +1,4 @@
+//! A network while it grows, with its counts.
 ghost use Rattle.std.specs.Prelude.{◌≡◌, ◌≤◌, List, map, IfOk, OnOk};
 ghost use Rattle.plan_base.specs.declared.ids.Family.{Family};
 ghost use Rattle.grow_run.specs.Draws.{seeded_generator};

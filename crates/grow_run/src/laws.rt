@@ -1,3 +1,4 @@
+//! Laws: the summary is that of the history, and the ring keeps the rules of a network.
 ghost use Rattle.std.specs.Prelude.{◌≡◌, ℕ, List};
 ghost use Rattle.plan_base.specs.declared.ids.Family.{Family};
 ghost use Rattle.bound_ledger.specs.Rows.{FamilyRow, OneEach};

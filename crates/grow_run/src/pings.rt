@@ -1,3 +1,4 @@
+//! The program of a ping, and pings from host to host.
 ghost use Rattle.std.specs.Prelude.{◌≡◌, ◌≤◌, ◌∷◌, [], length, IsTrue, IfOk, Ok};
 ghost use Rattle.std.specs.List.{list_all};
 ghost use Rattle.plan_base.specs.declared.tree.Value.TheVariants as value;

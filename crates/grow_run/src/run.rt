@@ -1,3 +1,4 @@
+//! Grows a network from a seed, and writes its summary.
 ghost use Rattle.std.specs.Prelude.{◌≡◌, ◌≤◌, map, IfOk};
 ghost use Rattle.net_world_spec.specs.World.{opening_services};
 ghost use Rattle.grow_run.specs.Grow.{ring};

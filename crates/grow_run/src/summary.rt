@@ -1,3 +1,4 @@
+//! What happened in a network, counted line by line.
 ghost use Rattle.std.specs.Prelude.{◌≡◌, ◌≤◌, ◌+◌, ◌++◌, ℕ, List, [], length, map};
 ghost use Rattle.net_world_spec.specs.declared.lines.Entry.{Entry};
 ghost use Rattle.net_world_spec.specs.World.{entry_at};

@@ -1,3 +1,4 @@
+//! The sums over the rows of a ledger.
 ghost use Rattle.std.specs.Prelude.{◌≡◌, ◌^◌};
 ghost use Rattle.bound_ledger.specs.Rows.{OneEach};
 ghost use Rattle.grow_run.specs.Summaries as spec;

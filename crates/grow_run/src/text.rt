@@ -1,3 +1,4 @@
+//! Writes a summary.
 ghost use Rattle.std.specs.Prelude.{◌≡◌, ◌++◌, OnOk, OnErr};
 ghost use Rattle.std.specs.Fmt.{decimal};
 ghost use Rattle.grow_run.specs.Summaries as spec;

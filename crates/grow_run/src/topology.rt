@@ -1,3 +1,4 @@
+//! The ring of eight hosts in which the events happen.
 ghost use Rattle.std.specs.Prelude.{◌≡◌, ◌++◌, ◌∷◌, [], IfOk, OnOk};
 ghost use Rattle.grow_run.specs.Grow as spec;
 

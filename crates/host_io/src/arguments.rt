@@ -1,3 +1,4 @@
+//! The arguments of the process, as bytes.
 ghost use Rattle.std.specs.Prelude.{◌≤◌, length, IfOk, IfSome, All};
 ghost use Rattle.host_io.specs.Words.{IsShort};
 

@@ -1,3 +1,4 @@
+//! The clock of the machine.
 ghost use Rattle.std.specs.Prelude.{◌≡◌, [], false};
 
 use node_io::Clock;

@@ -1,3 +1,4 @@
+//! The files of the machine.
 ghost use Rattle.std.specs.Prelude.{◌≡◌, [], false, is_some};
 
 use crate::host_sink::write_some;

@@ -1,3 +1,4 @@
+//! The standard outputs of the machine.
 ghost use Rattle.std.specs.Prelude.{◌≡◌, ◌≤◌, ◌<◌, [], false, length, IfSome};
 
 use node_io::{Failed, Sink, raise};

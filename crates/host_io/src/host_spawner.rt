@@ -1,3 +1,4 @@
+//! The children of the process.
 ghost use Rattle.std.specs.Prelude.{◌≡◌, ◌+◌, ◌≤◌, ◌++◌, ◌∷◌, [], false, filter, vec_len, vec_capacity, IfSome, OnSome, MatchOption};
 ghost use Rattle.node_io.specs.Spawners.{is_other, IsFresh};
 

@@ -1,3 +1,4 @@
+//! Takes the stack of the deepest call at the start.
 use plan_base::NoMemory;
 use std::alloc::Global;
 use std::rt::Env;

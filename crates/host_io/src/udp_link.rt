@@ -1,3 +1,4 @@
+//! Frames between neighbours by UDP over loopback.
 ghost use Rattle.std.specs.Prelude.{◌≡◌, [], ◌≤◌, ◌<◌, false, length, None, IfOk, IfSome, IsTrue};
 ghost use Rattle.node_io.specs.Links.{has_peer, HasPeer};
 

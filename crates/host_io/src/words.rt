@@ -1,3 +1,4 @@
+//! Texts and bytes of the process's words.
 ghost use Rattle.std.specs.Prelude.{◌≡◌, map, IfOk};
 ghost use Rattle.std.specs.Str.{is_utf8};
 ghost use Rattle.host_io.specs.Words as spec;

@@ -106,7 +106,8 @@ log_balances f links k n node (e ∷ es) r =
     B c = act_sum c (acts_in (node_by node e) es)
 
     total : A (act_granted f) + Live f (accepts links node e) + node_live f node ≡ A (act_hops f) + A (act_evals f) + A (act_left f) + node_live f (node_by node e) + Live f (sends node e)
-        → B (act_granted f) + Live f (crossings (accepted_in links k (n + 1) (node_by node e) es)) + node_live f (node_by node e) ≡ B (act_hops f) + B (act_evals f) + B (act_left f) + node_live f (node_after (node_by node e) es) + Live f (sent_in (node_by node e) es)
+        → B (act_granted f) + Live f (crossings (accepted_in links k (n + 1) (node_by node e) es)) + node_live f (node_by node e)
+        ≡ B (act_hops f) + B (act_evals f) + B (act_left f) + node_live f (node_after (node_by node e) es) + Live f (sent_in (node_by node e) es)
         → act_sum (act_granted f) (acts_in node (e ∷ es)) + Live f (crossings (accepted_in links k n node (e ∷ es))) + node_live f node
         ≡ act_sum (act_hops f) (acts_in node (e ∷ es)) + act_sum (act_evals f) (acts_in node (e ∷ es)) + act_sum (act_left f) (acts_in node (e ∷ es)) + node_live f (node_after (node_by node e) es) + Live f (sent_in node (e ∷ es))
     total one rest =

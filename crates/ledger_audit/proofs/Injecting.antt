@@ -34,7 +34,9 @@ use Rattle.node_core_spec.specs.declared.acts.Reason.TheVariants as reason
 use Rattle.node_core_spec.specs.declared.acts.TxQueue.{TxQueue}
 use Rattle.node_core_spec.specs.State.{Links, Queues, NodeState, routing_of, is_host, leads_to}
 use Rattle.node_core_spec.specs.Visits.{visit_at, settled_at}
-use Rattle.node_core_spec.specs.Node.{NodeStep as Stepped, stepped_node, has_room, lane_room, drop_act, mark, takes_as, stamped_as, stamped_step, asked_plain, asked_read, control_step, take_first, take_from, take_step, packet_sending, advert_sending, visit_sends, tick_sends, send_act, send_queues, sends_acts, handled_acts, visit_acts, visit_step, next_serial, injected_packet, inject_step, forward_by, forward_step, packet_step, advert_step, frame_step, arrived_read, arrive_step, tick_step, node_step}
+use Rattle.node_core_spec.specs.Node.{NodeStep as Stepped, stepped_node, has_room, lane_room, drop_act, mark, takes_as, stamped_as, stamped_step, asked_plain, asked_read, control_step, take_first}
+use Rattle.node_core_spec.specs.Node.{take_from, take_step, packet_sending, advert_sending, visit_sends, tick_sends, send_act, send_queues, sends_acts, handled_acts, visit_acts, visit_step}
+use Rattle.node_core_spec.specs.Node.{next_serial, injected_packet, inject_step, forward_by, forward_step, packet_step, advert_step, frame_step, arrived_read, arrive_step, tick_step, node_step}
 use Rattle.node_core_spec.proofs.Staying.{visited_stays, arrive_stays, tick_stays, take_stays}
 use Rattle.ledger_audit.specs.Runs.{acts_in}
 use Rattle.ledger_audit.specs.Pasts.{injected_by, injected_families}
@@ -99,12 +101,16 @@ advert_quiet m queues a l = by (has_room queues l.1 (advert_sending m a l).frame
 packets_quiet : (m : Option Stamp) (queues : Queues) (ss : List Sent) → Quiet (sends_acts queues (map (packet_sending m) ss))
 unfolding sends_acts
 packets_quiet m queues [] = quiet_none
-packets_quiet m queues (s ∷ ss) = quiet_more (send_act queues (packet_sending m s)) (sends_acts (send_queues queues (packet_sending m s)) (map (packet_sending m) ss)) (packet_quiet m queues s) (packets_quiet m (send_queues queues (packet_sending m s)) ss)
+packets_quiet m queues (s ∷ ss) =
+    quiet_more (send_act queues (packet_sending m s))
+    (sends_acts (send_queues queues (packet_sending m s)) (map (packet_sending m) ss)) (packet_quiet m queues s) (packets_quiet m (send_queues queues (packet_sending m s)) ss)
 
 adverts_quiet : (m : Option Stamp) (queues : Queues) (a : Advert) (ls : Links) → Quiet (sends_acts queues (map (advert_sending m a) ls))
 unfolding sends_acts
 adverts_quiet m queues a [] = quiet_none
-adverts_quiet m queues a (l ∷ ls) = quiet_more (send_act queues (advert_sending m a l)) (sends_acts (send_queues queues (advert_sending m a l)) (map (advert_sending m a) ls)) (advert_quiet m queues a l) (adverts_quiet m (send_queues queues (advert_sending m a l)) a ls)
+adverts_quiet m queues a (l ∷ ls) =
+    quiet_more (send_act queues (advert_sending m a l))
+    (sends_acts (send_queues queues (advert_sending m a l)) (map (advert_sending m a) ls)) (advert_quiet m queues a l) (adverts_quiet m (send_queues queues (advert_sending m a l)) a ls)
 
 handled_quiet : (f : Family) (o : Option Name) (bound : ℕ) → Quiet (handled_acts f o bound)
 handled_quiet f None bound = quiet_none

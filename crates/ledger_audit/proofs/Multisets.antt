@@ -56,7 +56,8 @@ less_times a c (x ∷ xs) h = by (same_crossing a x) refl (less_times a c xs) h
         one false = omega arith
     by false e r g = two (same_crossing c x) (r g)
       where
-        two : (t : Bool) → times c xs ≡ times c (less_one a xs) + (if same_crossing c a then 1 else 0) → (if t then suc (times c xs) else times c xs) ≡ (if t then suc (times c (less_one a xs)) else times c (less_one a xs)) + (if same_crossing c a then 1 else 0)
+        two : (t : Bool) → times c xs ≡ times c (less_one a xs) + (if same_crossing c a then 1 else 0)
+            → (if t then suc (times c xs) else times c xs) ≡ (if t then suc (times c (less_one a xs)) else times c (less_one a xs)) + (if same_crossing c a then 1 else 0)
         two true q = omega (arith, q)
         two false q = q
 
@@ -99,7 +100,8 @@ verdict_only sent seen [] e h c = omega (arith, h c)
 verdict_only sent seen (a ∷ zs) e h c = by (nat_lt (times a.crossing sent) (suc (times a.crossing seen))) refl (λ f g. verdict_only sent (a.crossing ∷ seen) zs f g c) e
   where
     by : (t : Bool) → nat_lt (times a.crossing sent) (suc (times a.crossing seen)) ≡ t → (first_over sent (a.crossing ∷ seen) zs ≡ None → AtMost (a.crossing ∷ seen) sent → times c (a.crossing ∷ seen) + times c (crossings zs) ≤ times c sent)
-        → (if t then Some (record { log = a.log; event = a.event; accepted = suc (times a.crossing seen); sent = times a.crossing sent }) else first_over sent (a.crossing ∷ seen) zs) ≡ None → times c seen + times c (a.crossing ∷ crossings zs) ≤ times c sent
+        → (if t then Some (record { log = a.log; event = a.event; accepted = suc (times a.crossing seen); sent = times a.crossing sent }) else first_over sent (a.crossing ∷ seen) zs)
+        ≡ None → times c seen + times c (a.crossing ∷ crossings zs) ≤ times c sent
     by true q r f = absurd cc
     by false q r f =
         let l : suc (times a.crossing seen) ≤ times a.crossing sent = grind (arith, nat_tests) in

@@ -43,7 +43,8 @@ use Rattle.ledger_audit.specs.declared.reckoning.AuditState.{AuditState}
 use Rattle.ledger_audit.specs.Keys.{crossing_of}
 use Rattle.ledger_audit.specs.Tallies.{none as no_frames, one_sent, tally_in, Changes}
 use Rattle.ledger_audit.specs.Books.{none as no_sums, plus, counts_in, act_counts}
-use Rattle.ledger_audit.specs.Pasts.{Past, nothing, with_acts, with_sent, with_accepted, with_host, arrived_from, accepted_by, taken_by, TakenReads, with_frames, with_entry, with_entries, with_log, with_logs, arrival_of, arrivals_of, injected_by, injected_families, Holds, IsReckoned}
+use Rattle.ledger_audit.specs.Pasts.{Past, nothing, with_acts, with_sent, with_accepted, with_host, arrived_from, accepted_by, taken_by, TakenReads, with_frames, with_entry, with_entries, with_log}
+use Rattle.ledger_audit.specs.Pasts.{with_logs, arrival_of, arrivals_of, injected_by, injected_families, Holds, IsReckoned}
 use Rattle.ledger_audit.proofs.TallyLaws.{tallied_sent}
 use Rattle.ledger_audit.proofs.ActLaws.{counts_push, no_counts, act_apart}
 
@@ -262,7 +263,8 @@ all_push : (P : Logged → Type 0) (ls : List Logged) (l : Logged) → AllByRecu
 all_push P [] l a h = (h, tt)
 all_push P (x ∷ ls) l a h = (a.0, all_push P ls l a.1 h)
 
-pub host_held : (p : Past) (old new : AuditState) (h : Host) → Holds old p → new.hosts ≡ old.hosts ++ h ∷ [] → new.tallies ≡ old.tallies → new.arrived ≡ old.arrived → new.book ≡ old.book → new.injected ≡ old.injected → Holds new (with_host h p)
+pub host_held : (p : Past) (old new : AuditState) (h : Host) → Holds old p → new.hosts ≡ old.hosts ++ h ∷ [] → new.tallies ≡ old.tallies → new.arrived ≡ old.arrived → new.book ≡ old.book
+    → new.injected ≡ old.injected → Holds new (with_host h p)
 host_held p old new h k hosts tallies arrived book injects = record {
   hosts = hosts ∙ ap (λ l. l ++ h ∷ []) k.hosts;
   sent = λ c. ap (tally_in c) tallies ∙ k.sent c;

@@ -30,7 +30,8 @@ use Rattle.node_core_spec.specs.declared.acts.TxQueue.{TxQueue}
 use Rattle.node_core_spec.specs.State.{Queues, NodeState, routing_of, is_host}
 use Rattle.plan_eval_settle.specs.declared.settling.Settled.{Settled}
 use Rattle.node_core_spec.specs.Visits.{visit_at, settled_at}
-use Rattle.node_core_spec.specs.Node.{node_step, arrive_step, arrived_read, asked_plain, asked_read, drop_act, lane_room, mark, takes_as, stamped_as, stamped_step, control_step, packet_step, forward_step, forward_by, frame_step, visit_step, handled_acts, visit_acts, visit_sends, sends_acts, send_act, send_queues, has_room, packet_sending}
+use Rattle.node_core_spec.specs.Node.{node_step, arrive_step, arrived_read, asked_plain, asked_read, drop_act, lane_room, mark, takes_as, stamped_as, stamped_step, control_step, packet_step}
+use Rattle.node_core_spec.specs.Node.{forward_step, forward_by, frame_step, visit_step, handled_acts, visit_acts, visit_sends, sends_acts, send_act, send_queues, has_room, packet_sending}
 use Rattle.node_core_spec.proofs.Staying.{inject_frame, arrive_frame, tick_frame}
 use Rattle.node_core_spec.specs.Counts.{came, frame_live, if_fresh, bytes_came}
 use Rattle.ledger_audit.specs.Runs.{is_refusal, is_accepted}

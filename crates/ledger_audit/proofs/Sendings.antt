@@ -103,7 +103,9 @@ module _ (c : Crossing) (h : Host) (d : Dev) (from : c.from ≡ end h d) where
       by false = l
   frame_here g e (Some x) rest frames l = by (e.0 == d.0) (one_here g e x (times c rest) (count c.bytes frames) l)
     where
-      by : (u : Bool) → (if same_crossing c (crossing_from g e (stamped_bytes x)) then suc (times c rest) else times c rest) ≤ (if u then (if bytes_eq c.bytes (stamped_bytes x) then suc (count c.bytes frames) else count c.bytes frames) else count c.bytes frames)
+      by : (u : Bool)
+          → (if same_crossing c (crossing_from g e (stamped_bytes x)) then suc (times c rest) else times c rest) ≤
+          (if u then (if bytes_eq c.bytes (stamped_bytes x) then suc (count c.bytes frames) else count c.bytes frames) else count c.bytes frames)
           → (if same_crossing c (crossing_from g e (stamped_bytes x)) then suc (times c rest) else times c rest) ≤ count c.bytes ((if u then x ∷ [] else []) ++ frames)
       by true k = k
       by false k = k

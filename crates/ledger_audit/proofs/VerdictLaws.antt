@@ -204,7 +204,8 @@ no_logs links r h = h links
 logged_next : (logs : List Log) (i : ℕ) (l : Log) → i < length logs → l ≡ get_or logs i l → map logged_of (take i logs) ++ logged_of l ∷ [] ≡ map logged_of (take (i + 1) logs)
 logged_next logs i l less is = sym (map-append logged_of (take i logs) (l ∷ [])) ∙ ap (map logged_of) (ap (λ b. take i logs ++ b ∷ []) is ∙ sym (take_at_read logs i l less).1)
 
-pub next_log : (links : Cables) (logs : List Log) (i : ℕ) (l : Log) (r : AuditState) → i < length logs → l ≡ get_or logs i l → IsReckoned links (map logged_of (take i logs) ++ logged_of l ∷ []) r → IsReckoned links (map logged_of (take (i + 1) logs)) r
+pub next_log : (links : Cables) (logs : List Log) (i : ℕ) (l : Log) (r : AuditState) → i < length logs → l ≡ get_or logs i l → IsReckoned links (map logged_of (take i logs) ++ logged_of l ∷ []) r
+    → IsReckoned links (map logged_of (take (i + 1) logs)) r
 next_log links logs i l r less is k = subst (λ ls. IsReckoned links ls r) (logged_next logs i l less is) k
 
 pub all_logs : (links : Cables) (logs : List Log) (i : ℕ) (r : AuditState) → length logs ≤ i → IsReckoned links (map logged_of (take i logs)) r → IsReckoned links (map logged_of logs) r

@@ -20,7 +20,9 @@ rows_text rows = flat_map row_text rows
 -- the frame that doesn't fit
 unfoldable pub no_text : ℕ → ℕ → ℕ → ℕ → List ℕ
 no_text log event accepted sent =
-    (codes "no log " ++ decimal log) ++ ((codes " event " ++ decimal event) ++ ((codes " accepted " ++ decimal accepted) ++ ((codes " sent " ++ decimal sent) ++ codes "\n")))
+    (codes "no log " ++ decimal log)
+    ++ ((codes " event " ++ decimal event) ++
+    ((codes " accepted " ++ decimal accepted) ++ ((codes " sent " ++ decimal sent) ++ codes "\n")))
 
 abbrev pub answer_text : Verdict → List ℕ
 answer_text (Yes rows) = codes "yes\n" ++ rows_text rows

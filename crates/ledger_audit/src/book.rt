@@ -1,3 +1,4 @@
+//! The counts of each family over all logs.
 ghost use Rattle.std.specs.Prelude.{◌≡◌, OnOk, IfSome};
 ghost use Rattle.plan_base.specs.declared.ids.Family.{Family as FamilyOf};
 ghost use Rattle.ledger_audit.specs.Books as spec;

@@ -1,3 +1,4 @@
+//! Finds the first frame that was accepted more often than it was sent.
 ghost use Rattle.std.specs.Prelude.{◌≡◌, List, [], IfOk};
 ghost use Rattle.ledger_audit.specs.Crossings.{Crossing, first_over};
 ghost use Rattle.ledger_audit.specs.Tallies.{Tallied};

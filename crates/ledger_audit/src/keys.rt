@@ -1,3 +1,4 @@
+//! Ends, frames and families as keys of their counts.
 ghost use Rattle.std.specs.Prelude.{◌≡◌, IfOk};
 ghost use Rattle.ledger_audit.specs.Keys.{end_of, crossing_of, family_of};
 

@@ -1,3 +1,4 @@
+//! Laws of audits: logs fit exactly where what was accepted was sent, and then their ledger adds up.
 ghost use Rattle.std.specs.Prelude.{◌≡◌, ◌↔◌, List, None};
 ghost use Rattle.std.specs.List.{AllByRecursion};
 ghost use Rattle.plan_base.specs.declared.ids.Family.{Family};

@@ -1,3 +1,4 @@
+//! Laws: a node of version 2 sends no frame twice, so none is accepted twice.
 ghost use Rattle.std.specs.Prelude.{◌≡◌, ◌≤◌, List, None};
 ghost use Rattle.std.specs.List.{AllByRecursion};
 ghost use Rattle.net_world_spec.specs.World.{Cables};

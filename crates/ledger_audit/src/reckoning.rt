@@ -1,3 +1,4 @@
+//! What the logs so far sent, accepted and did.
 ghost use Rattle.std.specs.Prelude.{◌≡◌, ◌+◌, ◌≤◌, List, [], ◌∷◌, ◌++◌, length, Some, OnOk};
 ghost use Rattle.std.specs.List.{All, list_any};
 ghost use Rattle.network_config.specs.NodeRules.{KeepsEntry, KeepsNodeEvent, KeepsLog};

@@ -1,3 +1,4 @@
+//! Laws of the rows of an audit's ledger: their order, and which there are.
 ghost use Rattle.std.specs.Prelude.{◌↔◌, List};
 ghost use Rattle.plan_base.specs.declared.ids.Family.{Family};
 ghost use Rattle.dv_routing.specs.Sorted.{HostsDiffer};

@@ -1,3 +1,4 @@
+//! How often each frame was sent and accepted.
 ghost use Rattle.std.specs.Prelude.{◌≡◌, IfOk, IfSome, OnOk};
 ghost use Rattle.ledger_audit.specs.Crossings.{Crossing};
 ghost use Rattle.ledger_audit.specs.Keys.{crossing_of};

@@ -1,3 +1,4 @@
+//! Writes what an audit answers.
 ghost use Rattle.std.specs.Prelude.{◌≡◌, ◌++◌, IfOk, OnOk};
 ghost use Rattle.std.specs.Fmt.{decimal};
 ghost use Rattle.ledger_audit.specs.Texts as spec;

@@ -1,3 +1,4 @@
+//! What an audit answers: that the logs fit, with their ledger, or the first frame that doesn't.
 ghost use Rattle.std.specs.Prelude.{◌≡◌, ◌∷◌, ◌++◌, ◌≤◌, List, [], map, length, IfOk, OnOk};
 ghost use Rattle.std.specs.List.{All, filter};
 ghost use Rattle.plan_base.specs.declared.ids.Family.{Family as FamilyOf};

@@ -1,3 +1,4 @@
+//! A law: an audit says yes exactly where what was accepted was sent.
 ghost use Rattle.std.specs.Prelude.{◌↔◌, List};
 ghost use Rattle.net_world_spec.specs.World.{Cables};
 ghost use Rattle.ledger_audit.specs.Crossings.{AtMost, crossings};

@@ -41,11 +41,13 @@ read_behind {S} {T} f (line ∷ before) more number s t e = behind (f.step numbe
     behind (Ok h) is again q = ap (λ z. and_then z (λ h. read_on f (number + 1) (before ++ more) h)) is ∙ sym (shift _ (sym (again h q)))
     behind (Err d) is again q = absurd cc
 
-then_moved : {S T : Type 0} (first : ℕ) (change : S → S) (r : Result S LineFault) (g h : S → Result T LineFault) → ((x : S) → g (change x) ≡ moved_by first (λ t. t) (h x)) → and_then (moved_by first change r) g ≡ moved_by first (λ t. t) (and_then r h)
+then_moved : {S T : Type 0} (first : ℕ) (change : S → S) (r : Result S LineFault) (g h : S → Result T LineFault) → ((x : S) → g (change x) ≡ moved_by first (λ t. t) (h x))
+    → and_then (moved_by first change r) g ≡ moved_by first (λ t. t) (and_then r h)
 then_moved first change (Ok x) g h k = k x
 then_moved first change (Err e) g h k = refl
 
-pub read_moved : {S T : Type 0} (f : Format S T) (shift : ℕ → S → S) → CountsOnly f shift → (ls : List (List ℕ)) (first number : ℕ) (s : S) → first < number → read_on f (number + 1) ls (shift first s) ≡ moved_by first (λ t. t) (read_on f number ls s)
+pub read_moved : {S T : Type 0} (f : Format S T) (shift : ℕ → S → S) → CountsOnly f shift → (ls : List (List ℕ)) (first number : ℕ) (s : S) → first < number
+    → read_on f (number + 1) ls (shift first s) ≡ moved_by first (λ t. t) (read_on f number ls s)
 unfolding read_on
 read_moved f shift c [] first number s lt = c.finish first number s lt
 read_moved f shift c (line ∷ ls) first number s lt =
@@ -57,10 +59,12 @@ unfolding read_on
 skip_line f number line more s e = ap (λ z. and_then z (λ g. read_on f (number + 1) more g)) e
 
 -- a line that leaves what was read as it is
-pub line_counts : {S T : Type 0} (f : Format S T) (shift : ℕ → S → S) (begin s : S) (bytes more : List ℕ) (before after : List (List ℕ)) (line : List ℕ) → CountsOnly f shift → after_lines f 1 before begin ≡ Ok s → f.step (1 + length before) line s ≡ Ok s → shift (length before) s ≡ s
+pub line_counts : {S T : Type 0} (f : Format S T) (shift : ℕ → S → S) (begin s : S) (bytes more : List ℕ) (before after : List (List ℕ)) (line : List ℕ) → CountsOnly f shift
+    → after_lines f 1 before begin ≡ Ok s → f.step (1 + length before) line s ≡ Ok s → shift (length before) s ≡ s
     → lines bytes ≡ before ++ after → lines more ≡ before ++ line ∷ after → file_of f begin more ≡ moved_by (length before) (λ x. x) (file_of f begin bytes)
 line_counts f shift begin s bytes more before after line c said stays fixed is longer =
     let short : read_on f 1 (lines bytes) begin ≡ read_on f (1 + length before) after s = ap (λ ls. read_on f 1 ls begin) is ∙ read_behind f before after 1 begin s said in
-    let long : read_on f 1 (lines more) begin ≡ read_on f (1 + length before + 1) after s = ap (λ ls. read_on f 1 ls begin) longer ∙ (read_behind f before (line ∷ after) 1 begin s said ∙ skip_line f (1 + length before) line after s stays) in
+    let long : read_on f 1 (lines more) begin ≡ read_on f (1 + length before + 1) after s = ap (λ ls. read_on f 1 ls begin) longer
+    ∙ (read_behind f before (line ∷ after) 1 begin s said ∙ skip_line f (1 + length before) line after s stays) in
     let there = read_moved f shift c after (length before) (1 + length before) s (omega arith) in
     long ∙ (ap (λ x. read_on f (1 + length before + 1) after x) (sym fixed) ∙ (there ∙ ap (λ r. moved_by (length before) (λ x. x) r) (sym short)))

@@ -65,7 +65,9 @@ module _ {S T : Type 0} (f : Format S T) (begin : S) (places : RefusesRead f beg
     where
       by : (r : Result S LineFault) → f.step (1 + length ls) line s ≡ r → and_then r (λ t. read_on f (1 + length ls + 1) rest t) ≡ Err e
           → ((t : S) → f.step (1 + length ls) line s ≡ Ok t → OnFault (1 + length (ls ++ line ∷ []) + length rest) (read_on f (1 + length (ls ++ line ∷ [])) rest t)) → Placed (1 + length ls + length (line ∷ rest)) e
-      by (Ok t) is q more = placed_to (1 + length (ls ++ line ∷ []) + length rest) (1 + length ls + length (line ∷ rest)) e (omega (arith, length-append ls (line ∷ []))) (more t is e (subst (λ n. read_on f n rest t ≡ Err e) (next_is ls line) q))
+      by (Ok t) is q more =
+          placed_to (1 + length (ls ++ line ∷ []) + length rest) (1 + length ls + length (line ∷ rest)) e (omega (arith, length-append ls (line ∷ [])))
+          (more t is e (subst (λ n. read_on f n rest t ≡ Err e) (next_is ls line) q))
       by (Err d) is q more = placed_to (1 + length ls) (1 + length ls + length (line ∷ rest)) e (omega arith) (places.step ls line s b.said e (is ∙ ap (λ z. failed_line z) (err_is {B = T} d e q)))
 
   reaches : (k : ℕ) (ls rest : List (List ℕ)) (s : S) (n : ℕ) (r : LineReason) → Behind ls s → read_on f (1 + length ls) rest s ≡ Err (faults.Line n r) → length ls + k < n → AreInside f begin (ls ++ take k rest)

@@ -46,7 +46,8 @@ kept_behind f B p [] number s t low b e =
     subst (λ n. B n t) here (subst (λ x. B number x) same b)
 kept_behind {S} {T} f B p (line ∷ ls) number s t low b e = by (f.step number line s) refl e (λ x q h. kept_behind f B p ls (number + 1) x t (omega arith) (p.later number x (p.kept number line s low b x q)) h)
   where
-    by : (r : Result S LineFault) → f.step number line s ≡ r → and_then r (λ x. after_lines f (number + 1) ls x) ≡ Ok t → ((x : S) → f.step number line s ≡ Ok x → after_lines f (number + 1) ls x ≡ Ok t → B (number + 1 + length ls) t) → B (number + length (line ∷ ls)) t
+    by : (r : Result S LineFault) → f.step number line s ≡ r → and_then r (λ x. after_lines f (number + 1) ls x) ≡ Ok t
+        → ((x : S) → f.step number line s ≡ Ok x → after_lines f (number + 1) ls x ≡ Ok t → B (number + 1 + length ls) t) → B (number + length (line ∷ ls)) t
     by (Ok x) is q more = let there : number + 1 + length ls ≡ number + length (line ∷ ls) = omega arith in subst (λ n. B n t) there (more x is q)
     by (Err d) is q more = absurd cc
 

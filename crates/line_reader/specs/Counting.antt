@@ -20,5 +20,6 @@ moved_by first change (Err e) = Err (moved_fault first e)
 
 -- a format only counts its lines: with one line more it goes on from shifted states to shifted states, and to the same value
 pub record CountsOnly {S T : Type 0} (format : Format S T) (shift : ℕ → S → S) : Type 0 where
-  pub step : (first number : ℕ) (line : List ℕ) (s : S) → first < number → format.step (number + 1) line (shift first s) ≡ moved_by first (shift first) (format.step number line s)
+  pub step : (first number : ℕ) (line : List ℕ) (s : S) → first < number
+      → format.step (number + 1) line (shift first s) ≡ moved_by first (shift first) (format.step number line s)
   pub finish : (first number : ℕ) (s : S) → first < number → format.finish (number + 1) (shift first s) ≡ moved_by first (λ t. t) (format.finish number s)

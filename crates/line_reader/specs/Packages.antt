@@ -12,7 +12,9 @@ use Rattle.line_reader.specs.Reads.{◌>>=◌, Part, word_at, allowed_or_reason}
 
 -- the package that a word names
 abbrev pub package_of : List ℕ → Option PackageName
-package_of w = if bytes_eq w (codes "net") then Some packages.Net else (if bytes_eq w (codes "resident") then Some packages.Resident else (if bytes_eq w (codes "host") then Some packages.Host else None))
+package_of w =
+    if bytes_eq w (codes "net") then Some packages.Net else
+    (if bytes_eq w (codes "resident") then Some packages.Resident else (if bytes_eq w (codes "host") then Some packages.Host else None))
 
 -- whether two packages are the same
 abbrev pub same_package : PackageName → PackageName → Bool

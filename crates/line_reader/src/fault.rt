@@ -1,3 +1,4 @@
+//! Why a file of lines has no value: the line and its reason.
 ghost use Rattle.std.specs.Prelude.{◌≡◌};
 
 use containers::Boxed;

@@ -1,3 +1,4 @@
+//! Reads names of files.
 ghost use Rattle.std.specs.Prelude.{◌≡◌, false, true, MatchOption};
 ghost use Rattle.std.specs.Str.{is_utf8};
 ghost use Rattle.network_config.specs.FileNames.{is_file_name};

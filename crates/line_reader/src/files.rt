@@ -1,3 +1,4 @@
+//! Reads a file line by line into the value that it says.
 ghost use Rattle.std.specs.Prelude.{◌≡◌, ◌≤◌, length};
 ghost use Rattle.line_reader.specs.Files.{Format, file_of};
 ghost use Rattle.line_reader.specs.Reads.{FileGives, FileLeaves};

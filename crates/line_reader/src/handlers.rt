@@ -1,3 +1,4 @@
+//! Reads the handler of an injection.
 ghost use Rattle.std.specs.Prelude.{◌≡◌};
 ghost use Rattle.line_reader.specs.Handlers as spec;
 ghost use Rattle.line_reader.specs.Handlers.{handler_at};

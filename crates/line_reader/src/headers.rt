@@ -1,3 +1,4 @@
+//! Reads the first line, which gives the version.
 ghost use Rattle.std.specs.Prelude.{◌≡◌};
 ghost use Rattle.line_reader.specs.Headers.{version_by};
 

@@ -1,3 +1,4 @@
+//! Reads bytes in hex.
 ghost use Rattle.std.specs.Prelude.{◌≡◌, ◌≤◌, length, IfSome, IfOk};
 ghost use Rattle.hex.specs.Hex.{decode_of};
 ghost use Rattle.line_reader.specs.HexWords as spec;

@@ -1,3 +1,4 @@
+//! Reads the hosts of a network.
 ghost use Rattle.std.specs.Prelude.{◌≡◌, []};
 ghost use Rattle.line_reader.specs.HostLists as spec;
 ghost use Rattle.line_reader.specs.HostLists.{host_more, hosts_from, hosts_with};

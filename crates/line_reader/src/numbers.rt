@@ -1,3 +1,4 @@
+//! Reads numbers.
 ghost use Rattle.std.specs.Prelude.{◌≡◌, ◌≤◌, [], ◌∷◌, IfSome, IfOk};
 ghost use Rattle.std.specs.List.{list_all};
 ghost use Rattle.line_reader.specs.Numbers.{is_digit, is_padded, digits_from, within, number_in, number_at};

@@ -1,3 +1,4 @@
+//! Reads names of packages.
 ghost use Rattle.std.specs.Prelude.{◌≡◌, [], length};
 ghost use Rattle.std.specs.List.{list_any};
 ghost use Rattle.line_reader.specs.Packages.{package_of, same_package, package_at, packages_at, one_package};

@@ -1,3 +1,4 @@
+//! A queue of at most 64 items, first in, first out.
 ghost use Rattle.std.specs.Prelude.{◌≡◌, [], ◌∷◌, ◌++◌, ◌<◌, ◌≤◌, length, ◌↔◌, IsTrue, IsOk, IfOk, OnOk, IfErr, MatchOption};
 
 use circular_buffer::HeapCircularBuffer;

@@ -17,7 +17,8 @@ use Rattle.net_world_spec.specs.declared.lines.Line.TheVariants.{Wire, Off, Lost
 use Rattle.net_world_spec.specs.declared.lines.LinkEnd.{LinkEnd}
 use Rattle.net_world_spec.specs.declared.lines.FrameOnWire.{FrameOnWire}
 use Rattle.net_world_spec.specs.declared.lines.Delivery.{Delivery}
-use Rattle.net_world_spec.specs.World.{WorldState, EventResult, nothing, lines_at, place_of, step_at, step_place, steps, steps_at, far_end, wire_place, send_taken, send_at, send_over, send_place, sends, without_frame, with_wire, hand_line, wire_after, hand_at, hand_to, hand_frame, hand_place, hands, lose_frame, lose_place, loses}
+use Rattle.net_world_spec.specs.World.{WorldState, EventResult, nothing, lines_at, place_of, step_at, step_place, steps, steps_at, far_end, wire_place, send_taken, send_at, send_over, send_place}
+use Rattle.net_world_spec.specs.World.{sends, without_frame, with_wire, hand_line, wire_after, hand_at, hand_to, hand_frame, hand_place, hands, lose_frame, lose_place, loses}
 use Rattle.net_world.specs.declared.network.Network.{Network}
 use Rattle.net_world.specs.Stands.{AllStand, NetworkStands, IsActed, StepsAt}
 

@@ -115,7 +115,8 @@ module _ (w : WorldState) (es : List WorldEvent) (i : ℕ) (e : WorldEvent) (wit
     text_more : entries_text frames (history_of (take (i + 1) es) w) ≡ entries_text frames (history_of (take i es) w) ++ entries_text frames (entries (world_after (take i es) w) e)
     text_more = ap (entries_text frames) (sym history_next) ∙ entries_text-append frames (history_of (take i es) w) (entries (world_after (take i es) w) e)
 
-    pub waits_next : (old mid new : SinkState) (text left : List ℕ) (k : ℕ) → k ≡ i + 1 → IsWaiting old mid text (entries_text frames (history_of (take i es) w)) → IsWaiting mid new left (text ++ entries_text frames (entries (world_after (take i es) w) e))
+    pub waits_next : (old mid new : SinkState) (text left : List ℕ) (k : ℕ) → k ≡ i + 1 → IsWaiting old mid text (entries_text frames (history_of (take i es) w))
+        → IsWaiting mid new left (text ++ entries_text frames (entries (world_after (take i es) w) e))
         → IsWaiting old new left (entries_text frames (history_of (take k es) w))
     waits_next old mid new text left k c a b = subst (IsWaiting old new left) (sym text_more ∙ ap (λ m. entries_text frames (history_of (take m es) w)) (sym c))
         (waits_more old mid new text left (entries_text frames (history_of (take i es) w)) (entries_text frames (entries (world_after (take i es) w) e)) a b)
@@ -150,7 +151,8 @@ unfolding history_of
 counts_none rows w es h = h
 
 -- once all events were made
-pub waits_all : (frames : Bool) (w : WorldState) (es : List WorldEvent) (i : ℕ) (old new : SinkState) (text : List ℕ) → length es ≤ i → IsWaiting old new text (entries_text frames (history_of (take i es) w)) → IsWaiting old new text (entries_text frames (history_of es w))
+pub waits_all : (frames : Bool) (w : WorldState) (es : List WorldEvent) (i : ℕ) (old new : SinkState) (text : List ℕ) → length es ≤ i
+    → IsWaiting old new text (entries_text frames (history_of (take i es) w)) → IsWaiting old new text (entries_text frames (history_of es w))
 waits_all frames w es i old new text h a = subst (λ x. IsWaiting old new text (entries_text frames (history_of x w))) (take_all i es h) a
 
 pub counts_all : (rows : List FamilyRow) (w : WorldState) (es : List WorldEvent) (i : ℕ) → length es ≤ i → Stands (history_of (take i es) w) rows → Stands (history_of es w) rows
@@ -306,7 +308,8 @@ module _ (frames : Bool) (es : List WorldEvent) (w : WorldState) (a b c d : Sink
   unfolding lines
   stopped_lines fault h p = stops_as fault a c _ (run_text frames es w) whole_is (stops_longer fault a c (header ++ lines) (ledger_text (history_of es w) (world_after es w)) (stops_more fault a b c header lines h p))
 
-  pub stopped_ledger : (fault : RunFault) → Writes a b (codes "planet trace 1\n") → Writes b c (entries_text frames (history_of es w)) → Stops fault (ledger_text (history_of es w) (world_after es w)) c d → Stops fault (run_text frames es w) a d
+  pub stopped_ledger : (fault : RunFault) → Writes a b (codes "planet trace 1\n") → Writes b c (entries_text frames (history_of es w))
+      → Stops fault (ledger_text (history_of es w) (world_after es w)) c d → Stops fault (run_text frames es w) a d
   unfolding lines
   stopped_ledger fault h l f = stops_as fault a d _ (run_text frames es w) whole_is (stops_more fault a c d (header ++ lines) (ledger_text (history_of es w) (world_after es w)) (writes_both a b c header lines h l) f)
 

@@ -47,7 +47,8 @@ pub record IsHappened {S : Type 0} (stands : S → ServiceState) (event : EventR
   pub world : WorldStands stands new event.world
 
 -- the node at a place made a step, and no other changed
-pub record StepsAt {S : Type 0} (stands : S → ServiceState) (step : NodeState → NodeStep) (old : List NodeState) (at : ℕ) (acts : Acts) (new : List (Node S)) : Type 0 where
+pub record StepsAt {S : Type 0} (stands : S → ServiceState) (step : NodeState → NodeStep) (old : List NodeState) (at : ℕ) (acts : Acts)
+    (new : List (Node S)) : Type 0 where
   pub node : NodeState
   pub there : slice_get old at ≡ Some node
   pub list : acts.list ≡ (step node).acts

@@ -1,3 +1,4 @@
+//! The ends of links, and frames that are handed off the wire.
 ghost use Rattle.std.specs.Prelude.{◌≡◌, ◌++◌, ◌<◌, length, slice_get, slice_set, Some, IfOk, IfSome, OnOk};
 ghost use Rattle.net_world_spec.specs.declared.lines.FrameOnWire.{FrameOnWire as WiredOf};
 ghost use Rattle.net_world_spec.specs.Counts.{late_at};

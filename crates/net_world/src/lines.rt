@@ -1,3 +1,4 @@
+//! The lines of an event, as acts of a node give them.
 ghost use Rattle.std.specs.Prelude.{◌≡◌, ◌≢◌, ◌∷◌, ◌++◌, [], IfOk};
 ghost use Rattle.packet_frame.specs.declared.fault.FrameFault.TheVariants as refusal;
 ghost use Rattle.packet_frame.specs.Typed.{plain_of};

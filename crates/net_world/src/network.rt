@@ -1,3 +1,4 @@
+//! The parts of a network, and what each event does to them.
 ghost use Rattle.std.specs.Prelude.{◌≡◌, ◌≤◌, ◌<◌, ◌+◌, ◌-◌, ◌^◌, ◌∷◌, [], map, IfOk, OnErr};
 ghost use Rattle.network_config.specs.Rules.{KeepsNetwork, MayName};
 ghost use Rattle.net_world_spec.specs.World as spec;

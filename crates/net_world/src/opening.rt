@@ -1,3 +1,4 @@
+//! A network in which nothing has happened yet.
 ghost use Rattle.std.specs.Prelude.{◌≡◌, map, IfOk};
 ghost use Rattle.network_config.specs.Rules.{KeepsNetwork};
 ghost use Rattle.node_core.specs.Stands.{NodeStands};

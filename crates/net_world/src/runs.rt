@@ -1,3 +1,4 @@
+//! Runs a schedule: makes its events, counts them, and writes their lines.
 ghost use Rattle.std.specs.Prelude.{◌≡◌, ◌++◌, ◌+◌, ◌<◌, ◌-◌, ◌^◌, [], List, codes, map, OnOk};
 ghost use Rattle.plan_base.specs.declared.ids.Family.{Family as FamilyOf};
 ghost use Rattle.network_config.specs.Rules.{KeepsRules};

@@ -1,3 +1,4 @@
+//! A network of nodes, with each event as a public call.
 ghost use Rattle.std.specs.Prelude.{◌≡◌, ◌+◌, ◌-◌, ◌<◌, ◌^◌, map, IfOk, OnOk, All};
 ghost use Rattle.plan_base.specs.declared.ids.Family.{Family};
 ghost use Rattle.network_config.specs.Rules.{KeepsNetwork};

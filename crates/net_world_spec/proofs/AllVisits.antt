@@ -34,7 +34,9 @@ use Rattle.node_core_spec.specs.State.{Links, Queues, NodeState, routing_of, is_
 use Rattle.plan_eval_settle.specs.declared.settling.Settled.{Settled}
 use Rattle.plan_base.specs.declared.ids.Family.{Family}
 use Rattle.node_core_spec.specs.Visits.{visit_at, settled_at}
-use Rattle.node_core_spec.specs.Node.{NodeStep, stepped_node, lane_room, mark, packet_sending, advert_sending, visit_sends, tick_sends, has_room, drop_act, send_act, send_queues, sends_acts, handled_acts, visit_acts, visit_step, next_serial, injected_packet, inject_step, forward_by, forward_step, packet_step, hearing, advert_step, frame_step, takes_as, stamped_as, stamped_step, arrived_read, arrive_step, next_tick, tick_step, take_first, take_from, take_step}
+use Rattle.node_core_spec.specs.Node.{NodeStep, stepped_node, lane_room, mark, packet_sending, advert_sending, visit_sends, tick_sends, has_room, drop_act, send_act, send_queues, sends_acts}
+use Rattle.node_core_spec.specs.Node.{handled_acts, visit_acts, visit_step, next_serial, injected_packet, inject_step, forward_by, forward_step, packet_step, hearing, advert_step, frame_step}
+use Rattle.node_core_spec.specs.Node.{takes_as, stamped_as, stamped_step, arrived_read, arrive_step, next_tick, tick_step, take_first, take_from, take_step}
 use Rattle.node_core_spec.specs.Counts.{act_sum}
 use Rattle.node_core_spec.proofs.CountLaws.{act_sum-nil, act_sum-cons, act_sum-append}
 use Rattle.net_world_spec.specs.declared.lines.Line.{Line}
@@ -43,7 +45,8 @@ use Rattle.net_world_spec.specs.declared.lines.LinkEnd.{LinkEnd}
 use Rattle.net_world_spec.specs.declared.lines.FrameOnWire.{FrameOnWire}
 use Rattle.net_world_spec.specs.declared.lines.Delivery.{Delivery}
 use Rattle.net_world_spec.specs.declared.lines.Delivery.TheVariants.{Taking, Leaving}
-use Rattle.net_world_spec.specs.World.{WorldState, EventResult, nothing, lines_at, step_at, step_place, steps, none_before, forged_frame, forged_lines, forged_at, send_taken, send_at, send_over, send_place, sends, place_of, far_end, wire_place, hand_line, hand_at, hand_to, hand_frame, hand_place, hands, lose_frame, lose_place, loses, happens}
+use Rattle.net_world_spec.specs.World.{WorldState, EventResult, nothing, lines_at, step_at, step_place, steps, none_before, forged_frame, forged_lines, forged_at, send_taken, send_at, send_over}
+use Rattle.net_world_spec.specs.World.{send_place, sends, place_of, far_end, wire_place, hand_line, hand_at, hand_to, hand_frame, hand_place, hands, lose_frame, lose_place, loses, happens}
 use Rattle.net_world_spec.specs.Counts.{line_sum}
 use Rattle.net_world_spec.specs.Visits.{Visiting, one_visit, frame_visits, visits_as, stamped_visits, read_visits, bytes_visits, chunk_visits, item_at, at_node, at_host, of_wired, delivered_visits, event_visits, act_ends, line_ends}
 use Rattle.net_world_spec.proofs.CountLaws.{line_sum-nil, line_sum-cons, line_sum-one, line_sum-append, line_sum-at}
@@ -230,7 +233,9 @@ forged_none h (Ok x) = frame_none h x.frame
 forged_none h (Err e) = line_sum-nil line_ends
 
 -- a step of one node, and its visits
-module _ (w : WorldState) (h : Host) (before : NodeState → List Line) (quiet : (node : NodeState) → line_sum line_ends (before node) ≡ 0) (step : NodeState → NodeStep) (visits : NodeState → List Visiting) (each : (node : NodeState) → Ends (step node) (length (visits node))) where
+module _ (w : WorldState) (h : Host) (before : NodeState → List Line)
+    (quiet : (node : NodeState) → line_sum line_ends (before node) ≡ 0) (step : NodeState → NodeStep) (visits : NodeState → List Visiting)
+    (each : (node : NodeState) → Ends (step node) (length (visits node))) where
   step_at_has : (at : ℕ) (o : Option NodeState) → Has (step_at w h before step at o) (length (at_node visits o))
   unfolding step_at
   step_at_has at None = nothing_has w

@@ -32,10 +32,13 @@ use Rattle.net_world_spec.specs.declared.lines.LinkEnd.{LinkEnd}
 use Rattle.net_world_spec.specs.declared.lines.FrameOnWire.{FrameOnWire}
 use Rattle.net_world_spec.specs.declared.lines.Delivery.{Delivery}
 use Rattle.net_world_spec.specs.declared.lines.Delivery.TheVariants.{Taking, Leaving}
-use Rattle.net_world_spec.specs.World.{WorldState, EventResult, nothing, lines_at, step_at, step_place, steps, none_before, injects, ticks, forged_frame, forged_lines, forged_at, raws, send_taken, send_at, send_over, send_place, sends, place_of, far_end, wire_place, hand_line, as_handed, wire_after, hand_at, hand_to, hand_frame, hand_place, hands, lose_frame, lose_place, loses, acted_event, happens, opening_node, opening}
+use Rattle.net_world_spec.specs.World.{WorldState, EventResult, nothing, lines_at, step_at, step_place, steps, none_before, injects, ticks, forged_frame, forged_lines, forged_at, raws, send_taken}
+use Rattle.net_world_spec.specs.World.{send_at, send_over, send_place, sends, place_of, far_end, wire_place, hand_line, as_handed, wire_after, hand_at, hand_to, hand_frame, hand_place, hands}
+use Rattle.net_world_spec.specs.World.{lose_frame, lose_place, loses, acted_event, happens, opening_node, opening}
 use Rattle.net_world_spec.specs.Counts.{line_granted, line_hops, line_evals, line_left, line_sum, nodes_sum, wire_sum, unhanded_count, unhanded_sum, live, late_frame, late_at, is_late, EventInBalance}
 use Rattle.net_world_spec.specs.Sound.{IsSound, takes_at, IsStaleAt}
-use Rattle.net_world_spec.proofs.CountLaws.{line_sum-nil, line_sum-cons, line_sum-one, line_sum-append, line_sum-at, nodes_sum-nil, nodes_sum-cons, nodes_sum-set, wire_sum-nil, unhanded_sum-nil, unhanded_sum-push, unhanded_sum-remove, unhanded_sum-set}
+use Rattle.net_world_spec.proofs.CountLaws.{line_sum-nil, line_sum-cons, line_sum-one, line_sum-append, line_sum-at, nodes_sum-nil, nodes_sum-cons, nodes_sum-set, wire_sum-nil, unhanded_sum-nil}
+use Rattle.net_world_spec.proofs.CountLaws.{unhanded_sum-push, unhanded_sum-remove, unhanded_sum-set}
 use Rattle.net_world_spec.proofs.Places.{first_of_host}
 use Rattle.std.proofs.lemmas.List.Elements.{All-get_or}
 use Rattle.std.proofs.lemmas.Option.{slice_get_within, get_or_from_slice_get}

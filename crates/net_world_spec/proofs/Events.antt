@@ -35,7 +35,9 @@ use Rattle.net_world_spec.specs.declared.lines.LinkEnd.{LinkEnd}
 use Rattle.net_world_spec.specs.declared.lines.FrameOnWire.{FrameOnWire}
 use Rattle.net_world_spec.specs.declared.lines.Delivery.{Delivery}
 use Rattle.net_world_spec.specs.declared.lines.Delivery.TheVariants.{Taking, Leaving}
-use Rattle.net_world_spec.specs.World.{Cables, WorldState, EventResult, nothing, lines_at, step_at, step_place, steps, none_before, forged_frame, forged_lines, forged_at, place_of, far_end, send_taken, send_at, send_over, send_place, sends, wire_place, hand_line, as_handed, wire_after, hand_at, hand_to, hand_frame, hand_place, hands, lose_frame, lose_place, loses, acted_event, happens}
+use Rattle.net_world_spec.specs.World.{Cables, WorldState, EventResult, nothing, lines_at, step_at, step_place, steps, none_before, forged_frame, forged_lines, forged_at, place_of, far_end}
+use Rattle.net_world_spec.specs.World.{send_taken, send_at, send_over, send_place, sends, wire_place, hand_line, as_handed, wire_after, hand_at, hand_to, hand_frame, hand_place, hands, lose_frame}
+use Rattle.net_world_spec.specs.World.{lose_place, loses, acted_event, happens}
 use Rattle.net_world_spec.specs.Wires.{WireLeads}
 use Rattle.net_world_spec.specs.Roads.{routing_in, CarriesNone, BringsNone}
 use Rattle.net_world_spec.specs.Routes.{FrameHasWay, IsRoutedAct, IsRouted}

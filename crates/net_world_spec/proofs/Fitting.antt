@@ -33,7 +33,9 @@ use Rattle.net_world_spec.specs.declared.lines.LinkEnd.{LinkEnd}
 use Rattle.net_world_spec.specs.declared.lines.FrameOnWire.{FrameOnWire}
 use Rattle.net_world_spec.specs.declared.lines.Delivery.{Delivery}
 use Rattle.net_world_spec.specs.declared.lines.Delivery.TheVariants.{Taking, Leaving}
-use Rattle.net_world_spec.specs.World.{Cables, WorldState, EventResult, nothing, step_at, step_place, steps, none_before, injects, ticks, forged_at, raws, send_taken, send_at, send_over, send_place, sends, place_of, is_on, has_end, other_end, peer_at, peer_of, far_end, wire_place, as_handed, wire_after, hand_at, hand_to, hand_frame, hand_place, hands, lose_frame, lose_place, loses, acted_event, happens, world_after}
+use Rattle.net_world_spec.specs.World.{Cables, WorldState, EventResult, nothing, step_at, step_place, steps, none_before, injects, ticks, forged_at, raws, send_taken, send_at, send_over, send_place}
+use Rattle.net_world_spec.specs.World.{sends, place_of, is_on, has_end, other_end, peer_at, peer_of, far_end, wire_place, as_handed, wire_after, hand_at, hand_to, hand_frame, hand_place, hands}
+use Rattle.net_world_spec.specs.World.{lose_frame, lose_place, loses, acted_event, happens, world_after}
 use Rattle.net_world_spec.specs.Sound.{WiredFits, Rise, DevicesFit, number_of, takes_at, is_fresh_at, IsStaleAt, LinkFits, IsSound, event_fits, EventsFit}
 
 -- ---- lists
@@ -112,7 +114,8 @@ record Keeps (v : Version) (step : NodeState → NodeStep) : Type 0 where
   stays : (node : NodeState) → Stays node (step node).node
   later : (node : NodeState) → SeenLater node.seen (step node).node.seen
 
-step_at_fits : (w : WorldState) (h : Host) (before : NodeState → List Line) (step : NodeState → NodeStep) (at : ℕ) (o : Option NodeState) → Keeps w.version step → slice_get w.nodes at ≡ o → IsSound w → EventFits w (step_at w h before step at o)
+step_at_fits : (w : WorldState) (h : Host) (before : NodeState → List Line) (step : NodeState → NodeStep) (at : ℕ) (o : Option NodeState) → Keeps w.version step → slice_get w.nodes at ≡ o → IsSound w
+    → EventFits w (step_at w h before step at o)
 unfolding step_at
 step_at_fits w h before step at None k e s = nothing_fits w s
 step_at_fits w h before step at (Some node) k e s = record {

@@ -39,7 +39,9 @@ use Rattle.net_world_spec.specs.declared.lines.Entry.{Entry}
 use Rattle.net_world_spec.specs.declared.lines.FrameOnWire.{FrameOnWire}
 use Rattle.net_world_spec.specs.declared.lines.Delivery.{Delivery}
 use Rattle.net_world_spec.specs.declared.lines.Delivery.TheVariants.{Taking, Leaving}
-use Rattle.net_world_spec.specs.World.{WorldState, EventResult, nothing, lines_at, step_at, step_place, steps, none_before, forged_frame, forged_lines, forged_at, send_taken, send_at, send_over, send_place, sends, place_of, far_end, wire_place, hand_line, as_handed, wire_after, hand_at, hand_to, hand_frame, hand_place, hands, lose_frame, lose_place, loses, acted_event, happens, entries, world_after, history_of, opening_node, opening}
+use Rattle.net_world_spec.specs.World.{WorldState, EventResult, nothing, lines_at, step_at, step_place, steps, none_before, forged_frame, forged_lines, forged_at, send_taken, send_at, send_over}
+use Rattle.net_world_spec.specs.World.{send_place, sends, place_of, far_end, wire_place, hand_line, as_handed, wire_after, hand_at, hand_to, hand_frame, hand_place, hands, lose_frame, lose_place}
+use Rattle.net_world_spec.specs.World.{loses, acted_event, happens, entries, world_after, history_of, opening_node, opening}
 use Rattle.net_world_spec.specs.Counts.{line_sum, line_granted, line_injections, line_forged, granted_sum, injections, forgeries, nodes_sum, wire_sum, packets, IsBounded, IsGranted}
 use Rattle.net_world_spec.specs.Sound.{event_fits, EventsFit}
 use Rattle.net_world_spec.proofs.CountLaws.{line_sum-nil, line_sum-cons, line_sum-one, line_sum-append, line_sum-at, tally-nil, tally-append, tally-entries, nodes_sum-set, wire_sum-push, wire_sum-remove, wire_sum-set}

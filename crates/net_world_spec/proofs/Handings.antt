@@ -32,8 +32,11 @@ use Rattle.net_world_spec.specs.declared.lines.Entry.{Entry}
 use Rattle.net_world_spec.specs.declared.lines.FrameOnWire.{FrameOnWire}
 use Rattle.net_world_spec.specs.declared.lines.Delivery.{Delivery}
 use Rattle.net_world_spec.specs.declared.lines.Delivery.TheVariants.{Taking, Leaving}
-use Rattle.net_world_spec.specs.World.{WorldState, EventResult, nothing, lines_at, step_at, step_place, steps, none_before, forged_frame, forged_lines, forged_at, send_taken, send_at, send_over, send_place, sends, place_of, far_end, wire_place, hand_line, as_handed, wire_after, hand_at, hand_to, hand_frame, hand_place, hands, lose_frame, lose_place, loses, acted_event, happens, entry_at, entries, world_after, history_of, opening}
-use Rattle.net_world_spec.specs.Counts.{line_granted, line_hops, line_evals, line_left, line_sum, granted_sum, hops, evals, left_sum, Past, no_past, was_handed, past_with, past_after, left_from, live, late_frame, late_at, is_late, LeavesByWire, PastAgrees, Balanced}
+use Rattle.net_world_spec.specs.World.{WorldState, EventResult, nothing, lines_at, step_at, step_place, steps, none_before, forged_frame, forged_lines, forged_at, send_taken, send_at, send_over}
+use Rattle.net_world_spec.specs.World.{send_place, sends, place_of, far_end, wire_place, hand_line, as_handed, wire_after, hand_at, hand_to, hand_frame, hand_place, hands, lose_frame, lose_place}
+use Rattle.net_world_spec.specs.World.{loses, acted_event, happens, entry_at, entries, world_after, history_of, opening}
+use Rattle.net_world_spec.specs.Counts.{line_granted, line_hops, line_evals, line_left, line_sum, granted_sum, hops, evals, left_sum, Past, no_past, was_handed, past_with, past_after, left_from, live}
+use Rattle.net_world_spec.specs.Counts.{late_frame, late_at, is_late, LeavesByWire, PastAgrees, Balanced}
 use Rattle.net_world_spec.specs.Sound.{Rise, number_of, IsSound, event_fits, EventsFit}
 use Rattle.net_world_spec.proofs.CountLaws.{line_sum-nil, line_sum-cons, line_sum-append, line_sum-at, tally-nil, tally-append, tally-entries}
 use Rattle.net_world_spec.proofs.Balance.{stale_count, acts_left, event_balances, opening_live}

@@ -14,7 +14,8 @@ use Rattle.node_core_spec.specs.State.{Queues, NodeState, is_host}
 use Rattle.net_world_spec.specs.declared.lines.FrameOnWire.{FrameOnWire}
 use Rattle.net_world_spec.specs.declared.lines.Delivery.{Delivery}
 use Rattle.net_world_spec.specs.declared.lines.Delivery.TheVariants.{Taking, Leaving}
-use Rattle.net_world_spec.specs.World.{WorldState, EventResult, nothing, step_at, step_place, steps, none_before, forged_at, send_taken, send_at, send_over, send_place, sends, place_of, far_end, wire_place, as_handed, wire_after, hand_at, hand_to, hand_frame, hand_place, hands, lose_frame, lose_place, loses, acted_event, happens}
+use Rattle.net_world_spec.specs.World.{WorldState, EventResult, nothing, step_at, step_place, steps, none_before, forged_at, send_taken, send_at, send_over, send_place, sends, place_of, far_end}
+use Rattle.net_world_spec.specs.World.{wire_place, as_handed, wire_after, hand_at, hand_to, hand_frame, hand_place, hands, lose_frame, lose_place, loses, acted_event, happens}
 use Rattle.net_world_spec.specs.Sound.{node_of, is_from, from_numbers, sent_numbers, NumbersDiffer}
 use Rattle.net_world_spec.specs.declared.lines.Line.{Line}
 use Rattle.net_world_spec.specs.declared.lines.LinkEnd.{LinkEnd}
@@ -228,7 +229,8 @@ record TookFirst (node : NodeState) (d : Dev) (x : PlainStamped) (step : NodeSte
   moved : step.node.queues ≡ slice_set node.queues d.0 (record { frames = queue; number = number })
   here : step.node.here ≡ node.here
 
-took_first : (node : NodeState) (d : Dev) (x : PlainStamped) (q : List PlainStamped) (n : ℕ) → slice_get node.queues d.0 ≡ Some (record { frames = q; number = n }) → (take_first node d n q).frame ≡ Some x → TookFirst node d x (take_first node d n q)
+took_first : (node : NodeState) (d : Dev) (x : PlainStamped) (q : List PlainStamped) (n : ℕ) → slice_get node.queues d.0 ≡ Some (record { frames = q; number = n })
+    → (take_first node d n q).frame ≡ Some x → TookFirst node d x (take_first node d n q)
 took_first node d x [] n g e = cc
 took_first node d x (y ∷ q) n g e = record { queue = q; number = n; head = g ∙ ap (λ z. Some (record { frames = z ∷ q; number = n })) (some_inj e); moved = refl; here = refl }
 

@@ -49,7 +49,9 @@ use Rattle.plan_eval_settle.proofs.Tellings.{Tells as TellsSource}
 use Rattle.plan_eval_settle.proofs.Sends.{all_settled}
 use Rattle.node_core_spec.specs.Visits.{around, evaluated_packet, visit_end, visit_of, visit_at, settled_at}
 use Rattle.packet_frame.specs.Spelled.{what_of, numbered_frame}
-use Rattle.node_core_spec.specs.Node.{NodeStep, stepped_node, lane_room, queue_room, has_room, lane_with, queue_push, mark, drop_act, takes_as, noting, stamped_as, stamped_step, arrived_read, arrive_step, send_act, send_queues, sends_acts, sends_queues, packet_sending, visit_sends, handled_acts, visit_acts, visit_step, next_serial, injected_packet, inject_step, only_acts, forward_by, forward_step, packet_step, hearing, advert_step, frame_step, next_tick, advert_sending, tick_sends, tick_step}
+use Rattle.node_core_spec.specs.Node.{NodeStep, stepped_node, lane_room, queue_room, has_room, lane_with, queue_push, mark, drop_act, takes_as, noting, stamped_as, stamped_step, arrived_read}
+use Rattle.node_core_spec.specs.Node.{arrive_step, send_act, send_queues, sends_acts, sends_queues, packet_sending, visit_sends, handled_acts, visit_acts, visit_step, next_serial, injected_packet}
+use Rattle.node_core_spec.specs.Node.{inject_step, only_acts, forward_by, forward_step, packet_step, hearing, advert_step, frame_step, next_tick, advert_sending, tick_sends, tick_step}
 use Rattle.node_core_spec.specs.Fits.{QueuesKeep}
 use Rattle.node_core_spec.proofs.Keeping.{Sends, send_keeps, sends_keep}
 use Rattle.net_world_spec.specs.Roads.{IsAsk, CarriesNone}
@@ -240,7 +242,8 @@ module _ (far : Wiring) where
     }
 
     inject_cases : (t : Bool) (node : NodeState) (chunk : Chunk) (bound : ℕ) (handler : Option Name) → QueuesKeep GoesDefault node.queues
-        → StepKeeps far On node (cond t (stepped_node ([] ++ SerialsSpent ∷ []) None node) (visit_step ([] ++ Injected (record { source = node.here; serial = node.serial }) bound ∷ []) (next_serial node) (injected_packet node chunk bound handler)))
+        → StepKeeps far On node (cond t (stepped_node ([] ++ SerialsSpent ∷ []) None node)
+        (visit_step ([] ++ Injected (record { source = node.here; serial = node.serial }) bound ∷ []) (next_serial node) (injected_packet node chunk bound handler)))
     inject_cases true node chunk bound handler q = still (SerialsSpent ∷ []) node (All-cons IsRoutedAct SerialsSpent [] tt (All-nil IsRoutedAct)) q
     inject_cases false node chunk bound handler q =
         let act = Injected (record { source = node.here; serial = node.serial }) bound in

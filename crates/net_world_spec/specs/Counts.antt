@@ -5,7 +5,8 @@ use Rattle.plan_base.specs.declared.ids.Host.{Host}
 use Rattle.plan_base.specs.declared.ids.Family.{Family}
 use Rattle.packet_frame.specs.declared.frame.PlainFrame.{PlainFrame}
 use Rattle.node_core_spec.specs.State.{NodeState}
-use Rattle.node_core_spec.specs.Counts.{only, act_granted, act_injections, act_hops, act_evals, act_left, act_stale, what_left, queues_sum, frame_live, frame_one}
+use Rattle.node_core_spec.specs.Counts.{only, act_granted, act_injections, act_hops, act_evals, act_left, act_stale, what_left, queues_sum}
+use Rattle.node_core_spec.specs.Counts.{frame_live, frame_one}
 use Rattle.node_core_spec.specs.declared.acts.Act.TheVariants.{Injected}
 use Rattle.net_world_spec.specs.declared.lines.Line.{Line}
 use Rattle.net_world_spec.specs.declared.lines.Line.TheVariants.{At, Forged, Off, Again, Lost}

@@ -13,7 +13,8 @@ use Rattle.plan_meaning.specs.declared.sent.Sent.{Sent}
 -- neighbour's device to that neighbour
 pub record IsLed (here : Host) (neighbours : List (Host × Dev)) (router : List RouteRow) (s : Sent) : Type 0 where
   pub default : bytes_eq s.packet.route default_route ≡ true
-  pub leads : ((m : Host) × (hop router s.packet.route here s.packet.dest ≡ To m s.dev)) ⊎ (((s.dev.0 ≡ 0) × (s.packet.dest ≡ here)) ⊎ Contains neighbours (s.packet.dest, s.dev))
+  pub leads : ((m : Host) × (hop router s.packet.route here s.packet.dest ≡ To m s.dev))
+      ⊎ (((s.dev.0 ≡ 0) × (s.packet.dest ≡ here)) ⊎ Contains neighbours (s.packet.dest, s.dev))
 
 -- the same in the surroundings of a visit
 abbrev pub IsLedIn : Ctx → Sent → Type 0

@@ -78,7 +78,8 @@ pub record IsHop (w : WorldState) (x n : Host) (row : RouteRow) : Type 0 where
 -- route that its node has by then, and any events may lie between that and its arrival there
 pub data WorldWay (x : Host) : WorldState → Host → ℕ → Type 0 where
   Ends : (w : WorldState) (n : Host) → WorldWay x w n zero
-  Hops : (w : WorldState) (es : List WorldEvent) (n : Host) (row : RouteRow) (k : ℕ) → IsHop w x n row → All (BringsNone w.version) es → WorldWay x (world_after es w) row.«next» k → WorldWay x w n (suc k)
+  Hops : (w : WorldState) (es : List WorldEvent) (n : Host) (row : RouteRow) (k : ℕ) → IsHop w x n row → All (BringsNone w.version) es
+      → WorldWay x (world_after es w) row.«next» k → WorldWay x w n (suc k)
 
 -- ---- journeys
 
@@ -99,5 +100,6 @@ IsPacketFor x _ = ⊥
 pub data Journey (x : Host) : WorldState → Host → ℕ → Type 0 where
   Rests : (w : WorldState) (n : Host) → Journey x w n zero
   Waits : (w : WorldState) (n : Host) (d : Dev) → n ≢ x → HopsOver w x n d → Journey x w n (suc zero)
-  Rides : (w : WorldState) (es : List WorldEvent) (n : Host) (y : FrameOnWire) (k : ℕ) → n ≢ x → HopsOver w x n y.from.dev → y.from.host ≡ n → IsPacketFor x y.frame.frame → All (BringsNone w.version) es
+  Rides : (w : WorldState) (es : List WorldEvent) (n : Host) (y : FrameOnWire) (k : ℕ) → n ≢ x → HopsOver w x n y.from.dev → y.from.host ≡ n
+      → IsPacketFor x y.frame.frame → All (BringsNone w.version) es
       → Contains (world_after es w).wire y → Journey x (world_after es w) y.to.host k → Journey x w n (suc k)

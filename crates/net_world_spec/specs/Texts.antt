@@ -61,7 +61,11 @@ families history = fold (λ fs e. line_families fs e.line) [] history
 
 -- a family with its counts
 abbrev pub counts_text : Family → ℕ → ℕ → ℕ → ℕ → ℕ → List ℕ
-counts_text f g h e l r = family_text f ++ ((codes " granted " ++ decimal g) ++ ((codes " hops " ++ decimal h) ++ ((codes " evals " ++ decimal e) ++ ((codes " live " ++ decimal l) ++ ((codes " left " ++ decimal r) ++ codes "\n")))))
+counts_text f g h e l r =
+    family_text f
+    ++ ((codes " granted " ++ decimal g) ++
+    ((codes " hops " ++ decimal h) ++
+    ((codes " evals " ++ decimal e) ++ ((codes " live " ++ decimal l) ++ ((codes " left " ++ decimal r) ++ codes "\n")))))
 
 -- a row of the ledger
 unfoldable pub row_text : List Entry → WorldState → Family → List ℕ

@@ -41,7 +41,9 @@ FrameTrue nodes m (Told a) = AdvertTrue nodes a
 
 -- frames are true for the node to which their device leads
 abbrev pub QueuesTrue : Wiring → List Routing → Host → List (List RouteFrame) → Type 0
-QueuesTrue far nodes n queues = (d : Dev) (queue : List RouteFrame) (end : Host × Dev) → slice_get queues d.0 ≡ Some queue → far n d ≡ Some end → All (FrameTrue nodes end.0) queue
+QueuesTrue far nodes n queues =
+    (d : Dev) (queue : List RouteFrame) (end : Host × Dev) → slice_get queues d.0 ≡ Some queue → far n d
+    ≡ Some end → All (FrameTrue nodes end.0) queue
 
 pub record NodeHolds (far : Wiring) (nodes : List Routing) (node : Node) : Type 0 where
   pub linked : IsLinked far node.routing

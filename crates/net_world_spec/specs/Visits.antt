@@ -57,7 +57,8 @@ bytes_visits d bytes node = read_visits d (read_by node.version bytes) node
 
 -- an injected chunk is visited at once, where a serial number is left
 abbrev pub chunk_visits : Chunk → ℕ → Option Name → NodeState → List Visiting
-chunk_visits chunk bound handler node = if node.serial == 18446744073709551615 then [] else one_visit (next_serial node) (injected_packet node chunk bound handler)
+chunk_visits chunk bound handler node =
+    if node.serial == 18446744073709551615 then [] else one_visit (next_serial node) (injected_packet node chunk bound handler)
 
 -- ---- in a network
 

@@ -1,5 +1,6 @@
 -- What a network does at each event, and in a whole run.
-use Rattle.std.specs.Prelude.{ℕ, zero, suc, ◌+◌, Bool, true, false, ◌==◌, ◌&&◌, ◌||◌, nat_lt, if◌then◌else◌, List, [], ◌∷◌, ◌++◌, length, map, slice_get, slice_set, remove, position, Option, Some, None, Result, Ok, Err}
+use Rattle.std.specs.Prelude.{ℕ, zero, suc, ◌+◌, Bool, true, false, ◌==◌, ◌&&◌, ◌||◌, nat_lt, if◌then◌else◌, List, [], ◌∷◌, ◌++◌, length}
+use Rattle.std.specs.Prelude.{map, slice_get, slice_set, remove, position, Option, Some, None, Result, Ok, Err}
 use Rattle.plan_base.specs.declared.ids.Host.{Host}
 use Rattle.plan_base.specs.declared.ids.Dev.{Dev}
 use Rattle.plan_base.specs.declared.name.Name.{Name}
@@ -72,7 +73,9 @@ is_on h d c = has_end h d c.from c.from_dev || has_end h d c.to c.to_dev
 -- the other end of a link
 abbrev pub other_end : Host → Dev → Option Link → Option LinkEnd
 other_end h d None = None
-other_end h d (Some c) = if has_end h d c.from c.from_dev then Some (record { host = c.to; dev = c.to_dev }) else Some (record { host = c.from; dev = c.from_dev })
+other_end h d (Some c) =
+    if has_end h d c.from c.from_dev then Some (record { host = c.to; dev = c.to_dev }) else Some
+    (record { host = c.from; dev = c.from_dev })
 
 abbrev pub peer_at : Cables → Host → Dev → Option ℕ → Option LinkEnd
 peer_at links h d None = None
@@ -194,7 +197,8 @@ wire_place wire number = position (λ x. x.number == number) wire
 -- the frame arrives at the node at this place
 unfoldable pub hand_at : WorldState → Delivery → ℕ → FrameOnWire → ℕ → Option NodeState → EventResult
 hand_at w how place x at None = nothing w
-hand_at w how place x at (Some node) = steps_at (with_wire w (wire_after how w.wire place x)) x.to.host at (hand_line how x.number ∷ []) (stamped_step node x.to.dev x.frame)
+hand_at w how place x at (Some node) =
+    steps_at (with_wire w (wire_after how w.wire place x)) x.to.host at (hand_line how x.number ∷ []) (stamped_step node x.to.dev x.frame)
 
 unfoldable pub hand_to : WorldState → Delivery → ℕ → FrameOnWire → Option ℕ → EventResult
 hand_to w how place x None = nothing w

@@ -1,3 +1,4 @@
+//! Laws of each run: balance, bounds, and what histories tell of the wire.
 ghost use Rattle.std.specs.Prelude.{◌≡◌, ℕ, List, length, All};
 ghost use Rattle.plan_base.specs.declared.ids.Family.{Family};
 ghost use Rattle.network_config.specs.Rules.{HostsDiffer, KeepsNetwork};

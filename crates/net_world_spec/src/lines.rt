@@ -1,3 +1,4 @@
+//! The lines of a trace, and what stands on the wire.
 use containers::Items;
 use node_core_spec::{Act, What};
 use packet_frame::EncodedFrame;

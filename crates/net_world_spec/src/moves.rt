@@ -1,3 +1,4 @@
+//! Laws of routes over all events: costs never rise, and each packet that comes has a route.
 ghost use Rattle.std.specs.Prelude.{◌≡◌, ◌≤◌, ℕ, Some, Contains, position, slice_get};
 ghost use Rattle.plan_base.specs.declared.ids.Host.{Host};
 ghost use Rattle.plan_base.specs.declared.ids.Dev.{Dev};

@@ -1,3 +1,4 @@
+//! The lowest and the highest number on the wire.
 ghost use Rattle.std.specs.Prelude.{◌≡◌};
 ghost use Rattle.net_world_spec.specs.Numbers as spec;
 

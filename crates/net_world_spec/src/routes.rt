@@ -1,3 +1,4 @@
+//! Laws of routes in every network that schedules reach.
 ghost use Rattle.std.specs.Prelude.{◌≡◌, ℕ, ◌≤◌, List, Some, All, [], slice_get};
 ghost use Rattle.plan_base.specs.declared.ids.Host.{Host};
 ghost use Rattle.network_config.specs.Rules.{KeepsNetwork};

@@ -1,3 +1,4 @@
+//! What may happen to a network, to a node, and what a log has of it.
 use checked_chunks::CheckedChunk;
 use containers::Items;
 use plan_base::{Bytes, Dev, Host, Name};

@@ -1,3 +1,4 @@
+//! Requests and fleets, as their files say them.
 use checked_chunks::CheckedChunk;
 use containers::Items;
 use plan_base::{Host, Text};

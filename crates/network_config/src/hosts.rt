@@ -1,3 +1,4 @@
+//! Looks up hosts and links.
 ghost use Rattle.std.specs.Prelude.{◌≡◌};
 ghost use Rattle.network_config.specs.Hosts as spec;
 

@@ -1,3 +1,4 @@
+//! How a node begins, and what its log has.
 ghost use Rattle.std.specs.Prelude.{◌≡◌};
 ghost use Rattle.network_config.specs.NodeRules as spec;
 

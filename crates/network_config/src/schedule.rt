@@ -1,3 +1,4 @@
+//! A schedule: a network and its events.
 use crate::event::WorldEvents;
 use containers::Items;
 use plan_base::{Dev, Host, Version};

@@ -1,3 +1,4 @@
+//! How a node serves, as its file says it.
 use crate::node::NodeConfig;
 use checked_chunks::CheckedChunk;
 use containers::Items;

@@ -35,7 +35,8 @@ use Rattle.node_core_spec.specs.declared.acts.Act.TheVariants.{Injected, Arrived
 use Rattle.node_core_spec.specs.declared.acts.Acts.{Acts}
 use Rattle.node_core_spec.specs.State.{NodeState, Queues, routing_of}
 use Rattle.node_core_spec.specs.Visits.{around, visit_of, services_after}
-use Rattle.node_core_spec.specs.Node.{NodeStep, next_serial, injected_packet, visit_acts, visit_sends, sends_queues, visit_step, inject_step, stepped_node, mark_of, mark, takes_as, seen_then, with_seen, frame_step, only_acts, stamped_as, stamped_step, arrived_read, arrive_step, asked_read, control_step}
+use Rattle.node_core_spec.specs.Node.{NodeStep, next_serial, injected_packet, visit_acts, visit_sends, sends_queues, visit_step, inject_step, stepped_node, mark_of, mark, takes_as, seen_then}
+use Rattle.node_core_spec.specs.Node.{with_seen, frame_step, only_acts, stamped_as, stamped_step, arrived_read, arrive_step, asked_read, control_step}
 use Rattle.node_core_spec.specs.Fits.{IsMarked}
 use Rattle.node_core_spec.proofs.Staying.{frame_stays}
 use Rattle.node_core_parts.proofs.ReadingLaws.{goes_on}

@@ -54,7 +54,8 @@ abbrev pub own_family : Host → ℕ → Family
 own_family here serial = record { source = here; serial = serial }
 
 abbrev pub own_packet : Host → ℕ → Chunk → ℕ → Option Name → Packet
-own_packet here serial chunk bound handler = record { family = own_family here serial; dest = here; bound = bound; route = default_route; chunk = chunk; handler = handler }
+own_packet here serial chunk bound handler =
+    record { family = own_family here serial; dest = here; bound = bound; route = default_route; chunk = chunk; handler = handler }
 
 -- what stands around the visit of a packet at a node with these neighbours and routes
 abbrev pub around_at : Host → ℕ → Packet → List (Host × Dev) → List RouteRow → Ctx

@@ -1,3 +1,4 @@
+//! The services of a node between its visits, and the visits that they answer.
 ghost use Rattle.std.specs.Prelude.{◌≡◌, ◌≤◌, ◌+◌, ◌∷◌, ◌++◌, map, All, length, vec_len, vec_capacity, IfOk, OnOk, OnErr, IsSome, IsTrue, None, false};
 ghost use Rattle.std.specs.Option.{option_to_list};
 ghost use Rattle.service_api.specs.Services.{AreGoodRows, ServiceState, begun_now, made_ready, unexpired_services};

@@ -1,3 +1,4 @@
+//! The node: what each event does to its routes, tables, queues and windows.
 ghost use Rattle.std.specs.Prelude.{◌≡◌, ◌≤◌, ◌<◌, IfOk, OnErr, [], ◌∷◌, slice_get, None};
 ghost use Rattle.node_core_spec.specs.State.{NodeState, new_node, leads_to, routing_of};
 ghost use Rattle.node_core_spec.specs.declared.acts.Act.TheVariants as act;

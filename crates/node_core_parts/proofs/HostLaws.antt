@@ -19,7 +19,8 @@ use Rattle.dv_routing.specs.Routing.{Routing, all_routes, own_advert}
 use Rattle.dv_routing.proofs.Rows.{advert_fits}
 
 -- a table that has heard nothing
-pub opened_heard : (t : Table) (here : Host) (hosts sorted : List Host) (links : List (Host × Dev)) → here.0 < 2 ^ 32 → NetworkFits hosts → sorted ≡ sorted_into [] hosts → HostsSmall sorted → Stands (opening_routing here sorted links) t → IsHeard t
+pub opened_heard : (t : Table) (here : Host) (hosts sorted : List Host) (links : List (Host × Dev)) → here.0 < 2 ^ 32 → NetworkFits hosts → sorted ≡ sorted_into [] hosts → HostsSmall sorted
+    → Stands (opening_routing here sorted links) t → IsHeard t
 opened_heard t here hosts sorted links small n e numbers s = record {
   routing = opening_routing here (sorted_into [] hosts) links;
   stands = subst (λ hs. Stands (opening_routing here hs links) t) e s;

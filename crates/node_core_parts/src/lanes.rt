@@ -1,3 +1,4 @@
+//! The queues of a node, one a device.
 ghost use Rattle.std.specs.Prelude.{◌≡◌, ◌∷◌, IfOk, IsTrue, slice_get};
 ghost use Rattle.node_core_spec.specs.State.{no_queues};
 ghost use Rattle.node_core_parts.specs.Queued.{has_first, is_filled, queued_at, TakesFirst};

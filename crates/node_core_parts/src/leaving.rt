@@ -1,3 +1,4 @@
+//! Queues a frame that a node sends, or says why it is dropped.
 ghost use Rattle.std.specs.Prelude.{◌≡◌};
 ghost use Rattle.node_core_parts.specs.Leaving as spec;
 

@@ -1,3 +1,4 @@
+//! The neighbours of a node, at most eight.
 ghost use Rattle.std.specs.Prelude.{◌≡◌, ◌≤◌, [], length};
 
 use containers::Items;

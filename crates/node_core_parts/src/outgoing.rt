@@ -1,3 +1,4 @@
+//! Makes the frames of visits and of adverts.
 ghost use Rattle.std.specs.Prelude.{◌≡◌, map, All, IfOk};
 ghost use Rattle.service_api.specs.Adverts.{AdvertFits};
 ghost use Rattle.packet_frame.specs.Spelled.{MayCarry};

@@ -1,3 +1,4 @@
+//! Reads frames as a node of a version does.
 ghost use Rattle.std.specs.Prelude.{◌≡◌, ◌⊎◌, ℕ, IfOk, IfErr, Ok, Err};
 ghost use Rattle.wire_bytes.specs.Fields.{IsBytes};
 ghost use Rattle.plan_base.specs.declared.stamp.Version.TheVariants.{One, Two};

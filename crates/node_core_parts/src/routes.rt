@@ -1,3 +1,4 @@
+//! The routes of a node, with the rows by which services see them.
 ghost use Rattle.std.specs.Prelude.{◌≡◌, ◌<◌, ◌^◌, [], IfOk};
 ghost use Rattle.service_api.specs.Adverts.{AdvertFits};
 ghost use Rattle.dv_routing.specs.Routing.{Routing, opening_routing, hears, routes_within, own_advert};

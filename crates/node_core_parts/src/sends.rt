@@ -1,3 +1,4 @@
+//! Room and numbers of devices, and sending on them.
 ghost use Rattle.std.specs.Prelude.{◌≡◌, ◌∷◌, ◌++◌, map, IfOk, vec_len, vec_capacity, ◌≤◌, ◌+◌, length, [], Some, IsTrue, slice_get};
 ghost use Rattle.std.specs.Option.{option_to_list};
 ghost use Rattle.node_core_spec.specs.declared.acts.Act.TheVariants.{Noted};

@@ -48,7 +48,9 @@ use Rattle.node_core_spec.specs.State.{Links, Queues, NodeState, routing_of, is_
 use Rattle.plan_eval_settle.proofs.Sends.{IsGoodSettled, settled_good}
 use Rattle.node_core_spec.specs.Visits.{around, visit_at, settled_at}
 use Rattle.packet_frame.specs.Spelled.{stamp_with}
-use Rattle.node_core_spec.specs.Node.{NodeStep, stepped_node, mark_of, mark, takes_as, seen_then, with_seen, noting, stamped_as, stamped_step, asked_plain, take_first, hop_packet, packet_sending, advert_sending, visit_sends, tick_sends, visit_step, next_serial, injected_packet, inject_step, forward_by, forward_step, packet_step, hearing, advert_step, frame_step, arrived_read, arrive_step, asked_read, control_step, next_tick, tick_step, take_from, take_step, node_step}
+use Rattle.node_core_spec.specs.Node.{NodeStep, stepped_node, mark_of, mark, takes_as, seen_then, with_seen, noting, stamped_as, stamped_step, asked_plain, take_first, hop_packet, packet_sending}
+use Rattle.node_core_spec.specs.Node.{advert_sending, visit_sends, tick_sends, visit_step, next_serial, injected_packet, inject_step, forward_by, forward_step, packet_step, hearing, advert_step}
+use Rattle.node_core_spec.specs.Node.{frame_step, arrived_read, arrive_step, asked_read, control_step, next_tick, tick_step, take_from, take_step, node_step}
 use Rattle.node_core_spec.specs.Fits.{PacketFits, FrameKeeps, IsMarked, StampedKeeps, QueuesKeep, ServicesFit, NodeFits, comes_fit}
 use Rattle.node_core_spec.proofs.Keeping.{Sends, Whatever, send_keeps, sends_keep, took}
 use Rattle.node_core_spec.proofs.VisitLaws.{settled_keeps, visit_fits}

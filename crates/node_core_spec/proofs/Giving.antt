@@ -33,7 +33,9 @@ use Rattle.node_core_spec.specs.State.{Links, Queues, NodeState, routing_of, is_
 use Rattle.plan_eval_settle.specs.declared.settling.Settled.{Settled}
 use Rattle.node_core_spec.specs.Visits.{visit_at, settled_at}
 use Rattle.packet_frame.specs.Spelled.{numbered_frame}
-use Rattle.node_core_spec.specs.Node.{NodeStep, stepped_node, queue_room, has_room, lane_room, lane_with, queue_push, drop_act, mark, takes_as, stamped_as, stamped_step, take_first, packet_sending, advert_sending, visit_sends, tick_sends, send_act, send_queues, sends_acts, sends_queues, handled_acts, visit_acts, visit_step, next_serial, injected_packet, inject_step, forward_by, forward_step, packet_step, advert_step, frame_step, arrived_read, arrive_step, next_tick, tick_step, take_from, take_step}
+use Rattle.node_core_spec.specs.Node.{NodeStep, stepped_node, queue_room, has_room, lane_room, lane_with, queue_push, drop_act, mark, takes_as, stamped_as, stamped_step, take_first, packet_sending}
+use Rattle.node_core_spec.specs.Node.{advert_sending, visit_sends, tick_sends, send_act, send_queues, sends_acts, sends_queues, handled_acts, visit_acts, visit_step, next_serial, injected_packet}
+use Rattle.node_core_spec.specs.Node.{inject_step, forward_by, forward_step, packet_step, advert_step, frame_step, arrived_read, arrive_step, next_tick, tick_step, take_from, take_step}
 use Rattle.node_core_spec.specs.Counts.{only, is_family, act_sum, act_granted, act_injections, queues_sum, frame_one, taken_sum}
 use Rattle.node_core_spec.proofs.CountLaws.{act_sum-nil, act_sum-cons, act_sum-append, queue_sum-push, queue_sum-cons, queues_sum-set}
 use Rattle.node_core_spec.proofs.VisitLaws.{settled_keeps}
@@ -73,7 +75,9 @@ module _ (c : Act → ℕ) (z : OnlyInjects c) where
 
   quiet_adverts : (m : Option Stamp) (a : Advert) (links : Links) → All Quiet (map (advert_sending m a) links)
   quiet_adverts m a [] = All-nil Quiet
-  quiet_adverts m a (l ∷ ls) = All-cons Quiet (advert_sending m a l) (map (advert_sending m a) ls) (record { queued = z (AdvertQueued l.1) refl; dropped = z (AdvertDropped l.1) refl; spent = z (AdvertSpent l.1) refl }) (quiet_adverts m a ls)
+  quiet_adverts m a (l ∷ ls) =
+      All-cons Quiet (advert_sending m a l) (map (advert_sending m a) ls)
+      (record { queued = z (AdvertQueued l.1) refl; dropped = z (AdvertDropped l.1) refl; spent = z (AdvertSpent l.1) refl }) (quiet_adverts m a ls)
 
   drop_none : (o : Option TxQueue) (s : Sending) → Quiet s → c (drop_act o s) ≡ 0
   drop_none None s q = q.dropped
@@ -345,15 +349,20 @@ module _ (f : Family) where
   adds_cases false a b x y = y
 
   inject_adds_cases : (t : Bool) (node : NodeState) (chunk : Chunk) (bound : ℕ) (handler : Option Name) → count_in node.queues ≡ 0
-      → act_sum (act_injections f) (cond t (stepped_node ([] ++ SerialsSpent ∷ []) None node) (visit_step ([] ++ Injected (record { source = node.here; serial = node.serial }) bound ∷ []) (next_serial node) (injected_packet node chunk bound handler))).acts ≡ 0
-      → count_in (cond t (stepped_node ([] ++ SerialsSpent ∷ []) None node) (visit_step ([] ++ Injected (record { source = node.here; serial = node.serial }) bound ∷ []) (next_serial node) (injected_packet node chunk bound handler))).node.queues ≡ 0
+      → act_sum (act_injections f) (cond t (stepped_node ([] ++ SerialsSpent ∷ []) None node)
+      (visit_step ([] ++ Injected (record { source = node.here; serial = node.serial }) bound ∷ []) (next_serial node) (injected_packet node chunk bound handler))).acts
+      ≡ 0
+      → count_in (cond t (stepped_node ([] ++ SerialsSpent ∷ []) None node)
+      (visit_step ([] ++ Injected (record { source = node.here; serial = node.serial }) bound ∷ []) (next_serial node) (injected_packet node chunk bound handler))).node.queues
+      ≡ 0
   inject_adds_cases true node chunk bound handler q z = q
   inject_adds_cases false node chunk bound handler q z =
       let g : Family = record { source = node.here; serial = node.serial } in
       let c = visited_count (act_injections f) injections_injects (Injected g bound) (next_serial node) (injected_packet node chunk bound handler) in
       visited_adds (Injected g bound ∷ []) (next_serial node) (injected_packet node chunk bound handler) (sym c ∙ z) q
 
-  pub inject_adds : (node : NodeState) (chunk : Chunk) (bound : ℕ) (handler : Option Name) → count_in node.queues ≡ 0 → act_sum (act_injections f) (inject_step [] node chunk bound handler).acts ≡ 0 → count_in (inject_step [] node chunk bound handler).node.queues ≡ 0
+  pub inject_adds : (node : NodeState) (chunk : Chunk) (bound : ℕ) (handler : Option Name) → count_in node.queues ≡ 0 → act_sum (act_injections f) (inject_step [] node chunk bound handler).acts ≡ 0
+      → count_in (inject_step [] node chunk bound handler).node.queues ≡ 0
   unfolding inject_step
   inject_adds node chunk bound handler q z = inject_adds_cases (node.serial == 18446744073709551615) node chunk bound handler q z
 

@@ -36,8 +36,12 @@ use Rattle.node_core_spec.specs.State.{Links, Queues, NodeState, routing_of, is_
 use Rattle.plan_eval_settle.specs.declared.settling.Settled.{Settled}
 use Rattle.node_core_spec.specs.Visits.{visit_at, settled_at, VisitKeeps}
 use Rattle.packet_frame.specs.Spelled.{numbered_frame}
-use Rattle.node_core_spec.specs.Node.{NodeStep, stepped_node, queue_room, has_room, lane_room, lane_with, queue_push, drop_act, mark, takes_as, noting, stamped_as, stamped_step, asked_plain, take_first, packet_sending, advert_sending, visit_sends, tick_sends, send_act, send_queues, sends_acts, sends_queues, with_queues, handled_acts, visit_acts, visit_step, injected_packet, next_serial, inject_step, only_acts, forward_by, forward_step, packet_step, hearing, advert_step, frame_step, arrived_read, arrive_step, asked_read, control_step, next_tick, tick_step, take_from, take_step, node_step}
-use Rattle.node_core_spec.specs.Counts.{only, act_sum, act_granted, act_hops, act_evals, act_left, act_stale, what_left, packet_live, frame_live, queues_sum, node_live, if_fresh, if_stale, stamped_came, stamped_stale, bytes_came, bytes_stale, came, stale, StepBalances}
+use Rattle.node_core_spec.specs.Node.{NodeStep, stepped_node, queue_room, has_room, lane_room, lane_with, queue_push, drop_act, mark, takes_as, noting, stamped_as, stamped_step, asked_plain}
+use Rattle.node_core_spec.specs.Node.{take_first, packet_sending, advert_sending, visit_sends, tick_sends, send_act, send_queues, sends_acts, sends_queues, with_queues, handled_acts, visit_acts}
+use Rattle.node_core_spec.specs.Node.{visit_step, injected_packet, next_serial, inject_step, only_acts, forward_by, forward_step, packet_step, hearing, advert_step, frame_step, arrived_read}
+use Rattle.node_core_spec.specs.Node.{arrive_step, asked_read, control_step, next_tick, tick_step, take_from, take_step, node_step}
+use Rattle.node_core_spec.specs.Counts.{only, act_sum, act_granted, act_hops, act_evals, act_left, act_stale, what_left, packet_live, frame_live, queues_sum, node_live, if_fresh, if_stale}
+use Rattle.node_core_spec.specs.Counts.{stamped_came, stamped_stale, bytes_came, bytes_stale, came, stale, StepBalances}
 use Rattle.node_core_spec.proofs.CountLaws.{only-plus, only_hop, act_sum-nil, act_sum-cons, act_sum-append, queue_sum-push, queue_sum-cons, queues_sum-set, dropped_left, sent_live}
 use Rattle.node_core_spec.proofs.VisitLaws.{settled_keeps}
 
@@ -309,7 +313,8 @@ module _ (f : Family) where
   same_node_balances arrived old new step e b = record { law = omega (arith, b.law); stale = b.stale }
 
   inject_cases : (t : Bool) (before : List Act) (node : NodeState) (chunk : Chunk) (bound : ℕ) (handler : Option Name) → BeginsBalance before 0 0
-      → StepBalances f 0 0 node (cond t (stepped_node (before ++ SerialsSpent ∷ []) None node) (visit_step (before ++ Injected (record { source = node.here; serial = node.serial }) bound ∷ []) (next_serial node) (injected_packet node chunk bound handler)))
+      → StepBalances f 0 0 node (cond t (stepped_node (before ++ SerialsSpent ∷ []) None node)
+      (visit_step (before ++ Injected (record { source = node.here; serial = node.serial }) bound ∷ []) (next_serial node) (injected_packet node chunk bound handler)))
   inject_cases true before node chunk bound handler b = plain_balances (before ++ SerialsSpent ∷ []) 0 node node refl (more_begins before SerialsSpent 0 b (one_begins SerialsSpent 0 0 refl refl refl refl refl))
   inject_cases false before node chunk bound handler b =
       let act = Injected (record { source = node.here; serial = node.serial }) bound in

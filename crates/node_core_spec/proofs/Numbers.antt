@@ -29,7 +29,9 @@ use Rattle.node_core_spec.specs.declared.acts.Sending.{Sending}
 use Rattle.node_core_spec.specs.State.{Queues, NodeState, routing_of, is_host, leads_to}
 use Rattle.node_core_spec.specs.Visits.{settled_at}
 use Rattle.packet_frame.specs.Spelled.{stamp_with}
-use Rattle.node_core_spec.specs.Node.{NodeStep, stepped_node, queue_room, has_room, number_after, lane_with, queue_push, mark, takes_as, stamped_as, stamped_step, asked_plain, packet_sending, visit_sends, tick_sends, send_queues, sends_queues, visit_step, next_serial, injected_packet, inject_step, forward_by, forward_step, packet_step, advert_step, frame_step, arrived_read, arrive_step, asked_read, control_step, tick_step, node_step}
+use Rattle.node_core_spec.specs.Node.{NodeStep, stepped_node, queue_room, has_room, number_after, lane_with, queue_push, mark, takes_as, stamped_as, stamped_step, asked_plain, packet_sending}
+use Rattle.node_core_spec.specs.Node.{visit_sends, tick_sends, send_queues, sends_queues, visit_step, next_serial, injected_packet, inject_step, forward_by, forward_step, packet_step, advert_step}
+use Rattle.node_core_spec.specs.Node.{frame_step, arrived_read, arrive_step, asked_read, control_step, tick_step, node_step}
 use Rattle.node_core_spec.specs.Numbers.{link_in, numbers_in, Ascend, NumbersFit, FitsAt}
 
 -- a number more that is above all
@@ -60,7 +62,8 @@ module _ (before : List ℕ) where
           let e = whole (Some s) in
           record {
             ascend = subst Ascend (sym e) (ascend-push (before ++ numbers_in lane.frames) lane.number f.ascend f.below);
-            below = subst (λ l. All (λ n. n < lane.number + 1) l) (sym e) (All-push (λ n. n < lane.number + 1) (before ++ numbers_in lane.frames) lane.number (below-more (before ++ numbers_in lane.frames) lane.number f.below) (omega arith));
+            below = subst (λ l. All (λ n. n < lane.number + 1) l) (sym e)
+                (All-push (λ n. n < lane.number + 1) (before ++ numbers_in lane.frames) lane.number (below-more (before ++ numbers_in lane.frames) lane.number f.below) (omega arith));
           }
 
   -- the first frame of a queue goes behind those before
@@ -135,7 +138,8 @@ module _ (before : List ℕ) (d : ℕ) where
   visited_rises acts node p = sends_rise node.queues (visit_sends (mark node) (settled_at node p).visit)
 
   inject_cases : (t : Bool) (before : List Act) (node : NodeState) (chunk : Chunk) (bound : ℕ) (handler : Option Name)
-      → StepRises node (cond t (stepped_node (before ++ SerialsSpent ∷ []) None node) (visit_step (before ++ Injected (record { source = node.here; serial = node.serial }) bound ∷ []) (next_serial node) (injected_packet node chunk bound handler)))
+      → StepRises node (cond t (stepped_node (before ++ SerialsSpent ∷ []) None node)
+      (visit_step (before ++ Injected (record { source = node.here; serial = node.serial }) bound ∷ []) (next_serial node) (injected_packet node chunk bound handler)))
   inject_cases true before node chunk bound handler = still node
   inject_cases false before node chunk bound handler = visited_rises _ (next_serial node) (injected_packet node chunk bound handler)
 

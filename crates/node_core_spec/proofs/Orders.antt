@@ -26,7 +26,9 @@ use Rattle.node_core_spec.specs.declared.acts.Sending.{Sending}
 use Rattle.node_core_spec.specs.State.{Queues, NodeState, routing_of, is_host, leads_to}
 use Rattle.node_core_spec.specs.Visits.{settled_at}
 use Rattle.packet_frame.specs.Spelled.{numbered_frame}
-use Rattle.node_core_spec.specs.Node.{NodeStep, stepped_node, queue_room, has_room, number_after, lane_with, queue_push, mark, takes_as, stamped_as, stamped_step, asked_plain, take_first, packet_sending, visit_sends, tick_sends, send_queues, sends_queues, visit_step, next_serial, injected_packet, inject_step, forward_by, forward_step, packet_step, advert_step, frame_step, arrived_read, arrive_step, asked_read, control_step, tick_step, take_from, take_step, node_step}
+use Rattle.node_core_spec.specs.Node.{NodeStep, stepped_node, queue_room, has_room, number_after, lane_with, queue_push, mark, takes_as, stamped_as, stamped_step, asked_plain, take_first}
+use Rattle.node_core_spec.specs.Node.{packet_sending, visit_sends, tick_sends, send_queues, sends_queues, visit_step, next_serial, injected_packet, inject_step, forward_by, forward_step, packet_step}
+use Rattle.node_core_spec.specs.Node.{advert_step, frame_step, arrived_read, arrive_step, asked_read, control_step, tick_step, take_from, take_step, node_step}
 use Rattle.node_core_spec.specs.Orders.{frames_of, queue_at, MovesInOrder, joined, taken}
 
 -- one queue set anew, seen at a device
@@ -99,7 +101,8 @@ module _ (d : ℕ) where
   visited_joins acts node p = sends_join node.queues (visit_sends (mark node) (settled_at node p).visit)
 
   inject_cases : (t : Bool) (before : List Act) (node : NodeState) (chunk : Chunk) (bound : ℕ) (handler : Option Name)
-      → StepJoins node (cond t (stepped_node (before ++ SerialsSpent ∷ []) None node) (visit_step (before ++ Injected (record { source = node.here; serial = node.serial }) bound ∷ []) (next_serial node) (injected_packet node chunk bound handler)))
+      → StepJoins node (cond t (stepped_node (before ++ SerialsSpent ∷ []) None node)
+      (visit_step (before ++ Injected (record { source = node.here; serial = node.serial }) bound ∷ []) (next_serial node) (injected_packet node chunk bound handler)))
   inject_cases true before node chunk bound handler = still node
   inject_cases false before node chunk bound handler = visited_joins _ (next_serial node) (injected_packet node chunk bound handler)
 

@@ -25,7 +25,9 @@ use Rattle.node_core_spec.specs.State.{Queues, NodeState, routing_of, is_host, l
 use Rattle.node_core_spec.specs.Visits.{settled_at}
 use Rattle.plan_base.specs.declared.stamp.Stamp.{Stamp}
 use Rattle.replay_window.specs.Seen.{Seen, seen_with}
-use Rattle.node_core_spec.specs.Node.{NodeStep, stepped_node, queue_room, has_room, lane_with, queue_push, mark, takes_as, seen_at, seen_then, noting, stamped_as, stamped_step, take_first, packet_sending, visit_sends, tick_sends, send_queues, sends_queues, visit_step, next_serial, injected_packet, inject_step, forward_by, forward_step, packet_step, advert_step, frame_step, arrived_read, arrive_step, tick_step, take_from, take_step}
+use Rattle.node_core_spec.specs.Node.{NodeStep, stepped_node, queue_room, has_room, lane_with, queue_push, mark, takes_as, seen_at, seen_then, noting, stamped_as, stamped_step, take_first}
+use Rattle.node_core_spec.specs.Node.{packet_sending, visit_sends, tick_sends, send_queues, sends_queues, visit_step, next_serial, injected_packet, inject_step, forward_by, forward_step, packet_step}
+use Rattle.node_core_spec.specs.Node.{advert_step, frame_step, arrived_read, arrive_step, tick_step, take_from, take_step}
 
 -- a node with the same host, hosts and neighbours, and as many queues
 pub record Stays (old new : NodeState) : Type 0 where
@@ -109,7 +111,9 @@ packet_stays node d p = cases (is_host p.dest node.here) node _ _ (visited_stays
 
 advert_stays : (node : NodeState) (d : Dev) (a : Advert) → StepStays node (advert_step node d a)
 unfolding advert_step
-advert_stays node d a = cases (leads_to node.neighbours d a.host) node _ _ (record { node = record { here = refl; hosts = refl; neighbours = refl; count = refl; version = refl; boot = refl; windows = refl }; serial = refl; seen = refl }) (still _ node)
+advert_stays node d a =
+    cases (leads_to node.neighbours d a.host) node _ _
+    (record { node = record { here = refl; hosts = refl; neighbours = refl; count = refl; version = refl; boot = refl; windows = refl }; serial = refl; seen = refl }) (still _ node)
 
 pub frame_stays : (node : NodeState) (d : Dev) (x : PlainFrame) → StepStays node (frame_step node d x)
 frame_stays node d (PlainFrame.Packet p) = packet_stays node d p

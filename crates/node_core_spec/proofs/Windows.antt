@@ -106,7 +106,9 @@ unfolding arrive_step
 arrive_later node d bytes = arrived_later node d (read_by node.version bytes)
 
 inject_cases : (t : Bool) (node : NodeState) (chunk : Chunk) (bound : ℕ) (handler : Option Name)
-    → (cond t (stepped_node ([] ++ SerialsSpent ∷ []) None node) (visit_step ([] ++ Injected (record { source = node.here; serial = node.serial }) bound ∷ []) (next_serial node) (injected_packet node chunk bound handler))).node.seen ≡ node.seen
+    → (cond t (stepped_node ([] ++ SerialsSpent ∷ []) None node)
+    (visit_step ([] ++ Injected (record { source = node.here; serial = node.serial }) bound ∷ []) (next_serial node) (injected_packet node chunk bound handler))).node.seen
+    ≡ node.seen
 unfolding visit_step
 inject_cases true node chunk bound handler = refl
 inject_cases false node chunk bound handler = refl

@@ -145,5 +145,6 @@ stale f node _ = 0
 -- and what is stale is in its acts
 pub record StepBalances (f : Family) (arrived late : ℕ) (old : NodeState) (step : NodeStep) : Type 0 where
   pub law : act_sum (act_granted f) step.acts + arrived + node_live f old
-      ≡ act_sum (act_hops f) step.acts + act_sum (act_evals f) step.acts + act_sum (act_left f) step.acts + node_live f step.node + taken_sum (frame_live f) step.frame
+      ≡ act_sum (act_hops f) step.acts + act_sum (act_evals f) step.acts + act_sum (act_left f) step.acts + node_live f step.node +
+      taken_sum (frame_live f) step.frame
   pub stale : act_sum (act_stale f) step.acts ≡ late

@@ -1,5 +1,6 @@
 -- What a node does at each event.
-use Rattle.std.specs.Prelude.{ℕ, ◌+◌, ◌-◌, Bool, false, ◌==◌, ◌&&◌, not, nat_lt, if◌then◌else◌, List, [], ◌∷◌, ◌++◌, length, map, slice_get, slice_set, Option, Some, None, Result, Ok, Err}
+use Rattle.std.specs.Prelude.{ℕ, ◌+◌, ◌-◌, Bool, false, ◌==◌, ◌&&◌, not, nat_lt, if◌then◌else◌, List, [], ◌∷◌, ◌++◌, length, map, slice_get}
+use Rattle.std.specs.Prelude.{slice_set, Option, Some, None, Result, Ok, Err}
 use Rattle.plan_base.specs.declared.ids.Host.{Host}
 use Rattle.plan_base.specs.declared.ids.Dev.{Dev}
 use Rattle.plan_base.specs.declared.name.Name.{Name}
@@ -28,7 +29,9 @@ use Rattle.plan_base.specs.declared.ids.Family.{Family}
 use Rattle.plan_meaning.specs.declared.outcome.Visit.{Visit}
 use Rattle.plan_eval_settle.specs.declared.settling.Settled.{Settled}
 use Rattle.node_core_spec.specs.declared.acts.Act.{Act}
-use Rattle.node_core_spec.specs.declared.acts.Act.TheVariants.{Injected, Arrived, Asked, Noted, Ended, Handled, Queued, Dropped, Bad, Misplaced, AdvertQueued, AdvertDropped, AdvertSpent, Stale, Heard, Ticked, Taken, SerialsSpent}
+use Rattle.node_core_spec.specs.declared.acts.Act.TheVariants.{Injected, Arrived, Asked, Noted, Ended, Handled, Queued, Dropped, Bad}
+use Rattle.node_core_spec.specs.declared.acts.Act.TheVariants.{Misplaced, AdvertQueued, AdvertDropped, AdvertSpent, Stale, Heard, Ticked}
+use Rattle.node_core_spec.specs.declared.acts.Act.TheVariants.{Taken, SerialsSpent}
 use Rattle.node_core_spec.specs.declared.acts.Reason.TheVariants as reason
 use Rattle.node_core_spec.specs.declared.acts.Sending.{Sending}
 use Rattle.node_core_spec.specs.declared.acts.TxQueue.{TxQueue}
@@ -146,13 +149,22 @@ visit_acts m queues p left s =
 -- a settled visit at a node, after these acts
 unfoldable pub visit_step : List Act → NodeState → Packet → NodeStep
 visit_step acts node p = stepped_node (acts ++ visit_acts (mark node) node.queues p (visit_at node p).left (settled_at node p)) None
-    (with_services (with_queues node (sends_queues node.queues (visit_sends (mark node) (settled_at node p).visit))) (services_after (around node p) (begun_now node.services) p))
+    (with_services (with_queues node (sends_queues node.queues (visit_sends (mark node) (settled_at node p).visit)))
+    (services_after (around node p) (begun_now node.services) p))
 
 -- ---- injections
 
 -- the packet of an injection with its handler, if it has one
 abbrev pub injected_packet : NodeState → Chunk → ℕ → Option Name → Packet
-injected_packet node chunk bound handler = record { family = record { source = node.here; serial = node.serial }; dest = node.here; bound = bound; route = default_route; chunk = chunk; handler = handler }
+injected_packet node chunk bound handler =
+    record {
+      family = record { source = node.here; serial = node.serial };
+      dest = node.here;
+      bound = bound;
+      route = default_route;
+      chunk = chunk;
+      handler = handler;
+    }
 
 abbrev pub next_serial : NodeState → NodeState
 next_serial node = record node { serial = node.serial + 1 }
@@ -160,7 +172,8 @@ next_serial node = record node { serial = node.serial + 1 }
 -- an injection after these acts, which is refused where the last serial number would be given
 unfoldable pub inject_step : List Act → NodeState → Chunk → ℕ → Option Name → NodeStep
 inject_step acts node chunk bound handler = if node.serial == 18446744073709551615 then stepped_node (acts ++ SerialsSpent ∷ []) None node
-    else visit_step (acts ++ Injected (record { source = node.here; serial = node.serial }) bound ∷ []) (next_serial node) (injected_packet node chunk bound handler)
+    else visit_step (acts ++ Injected (record { source = node.here; serial = node.serial }) bound ∷
+    []) (next_serial node) (injected_packet node chunk bound handler)
 
 -- ---- arrivals
 
@@ -280,13 +293,17 @@ unfoldable pub tick_sends : NodeState → List Sending
 tick_sends node = map (advert_sending (mark node) (own_advert (routing_of node))) node.neighbours
 
 unfoldable pub tick_step : NodeState → NodeStep
-tick_step node = stepped_node (Ticked (next_tick node.now) ∷ sends_acts node.queues (tick_sends node)) None (with_queues (ticking node) (sends_queues node.queues (tick_sends node)))
+tick_step node =
+    stepped_node (Ticked (next_tick node.now) ∷ sends_acts node.queues (tick_sends node)) None
+    (with_queues (ticking node) (sends_queues node.queues (tick_sends node)))
 
 -- ---- takes
 
 abbrev pub take_first : NodeState → Dev → ℕ → List PlainStamped → NodeStep
 take_first node d n [] = stepped_node [] None node
-take_first node d n (x ∷ queue) = stepped_node (Taken d (what_of x.frame) ∷ []) (Some x) (with_queues node (slice_set node.queues d.0 (record { frames = queue; number = n })))
+take_first node d n (x ∷ queue) =
+    stepped_node (Taken d (what_of x.frame) ∷ []) (Some x)
+    (with_queues node (slice_set node.queues d.0 (record { frames = queue; number = n })))
 
 abbrev pub take_from : NodeState → Dev → Option TxQueue → NodeStep
 take_from node d None = stepped_node [] None node

@@ -13,7 +13,9 @@ use Rattle.plan_meaning.specs.declared.outcome.Outcome.TheVariants as outcome
 use Rattle.replay_window.specs.declared.window.Took.{Took}
 use Rattle.replay_window.specs.declared.window.Took.TheVariants.{Fresh, Repeated, TooOld}
 use Rattle.node_core_spec.specs.declared.acts.Act.{Act}
-use Rattle.node_core_spec.specs.declared.acts.Act.TheVariants.{Injected, Arrived, Asked, Noted, Ended, Handled, Queued, Dropped, Bad, Misplaced, AdvertQueued, AdvertDropped, AdvertSpent, Stale, Heard, Ticked, Taken, SerialsSpent, NoMemory}
+use Rattle.node_core_spec.specs.declared.acts.Act.TheVariants.{Injected, Arrived, Asked, Noted, Ended, Handled, Queued, Dropped, Bad}
+use Rattle.node_core_spec.specs.declared.acts.Act.TheVariants.{Misplaced, AdvertQueued, AdvertDropped, AdvertSpent, Stale, Heard, Ticked}
+use Rattle.node_core_spec.specs.declared.acts.Act.TheVariants.{Taken, SerialsSpent, NoMemory}
 use Rattle.node_core_spec.specs.declared.acts.Reason.{Reason}
 use Rattle.node_core_spec.specs.declared.acts.Reason.TheVariants as reason
 use Rattle.packet_frame.specs.declared.spelled.What.{What}
@@ -50,7 +52,8 @@ abbrev pub rest_text : ℕ → ℕ → List ℕ
 rest_text evals rest = codes " evals " ++ (decimal evals ++ (codes " left " ++ decimal rest))
 
 abbrev pub end_text : Host → Family → Outcome → ℕ → ℕ → List ℕ
-end_text h f (outcome.Value v) evals rest = head_text (codes "value") h ++ (codes " " ++ (family_text f ++ (codes " " ++ (value_text v ++ rest_text evals rest))))
+end_text h f (outcome.Value v) evals rest =
+    head_text (codes "value") h ++ (codes " " ++ (family_text f ++ (codes " " ++ (value_text v ++ rest_text evals rest))))
 end_text h f (outcome.Raised x) evals rest = head_text (codes "raised") h ++ (codes " " ++ (family_text f ++ (codes " " ++ (x.0 ++ rest_text evals rest))))
 end_text h f outcome.WorkSpent evals rest = head_text (codes "spent") h ++ (codes " " ++ (family_text f ++ (codes " left " ++ decimal rest)))
 

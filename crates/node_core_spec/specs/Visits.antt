@@ -42,7 +42,15 @@ services_after ctx services p = services_end services (evaluated_packet ctx serv
 
 -- what stands around the visit of a packet at a node: the packet's bound is the purse
 abbrev pub around : NodeState → Packet → Ctx
-around node p = record { here = node.here; source = p.family.source; purse = p.bound; now = node.now; neighbours = node.neighbours; router = all_routes (routing_of node) }
+around node p =
+    record {
+      here = node.here;
+      source = p.family.source;
+      purse = p.bound;
+      now = node.now;
+      neighbours = node.neighbours;
+      router = all_routes (routing_of node);
+    }
 
 -- the visit of a packet at a node
 abbrev pub visit_at : NodeState → Packet → Visit

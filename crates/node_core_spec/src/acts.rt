@@ -1,3 +1,4 @@
+//! What a node does in a step: its acts and what it sends.
 use containers::Items;
 use link_queue::Queue;
 use packet_frame::{EncodedFrame, FrameFault, What};

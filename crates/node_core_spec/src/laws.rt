@@ -1,3 +1,4 @@
+//! Laws of visits and steps: each is in balance, and none is without a case.
 ghost use Rattle.std.specs.Prelude.{◌≡◌, ℕ, ◌≤◌, ◌<◌, false, Option, length};
 ghost use Rattle.plan_base.specs.declared.ids.Dev.{Dev};
 ghost use Rattle.packet_frame.specs.declared.frame.PlainStamped.{PlainStamped};

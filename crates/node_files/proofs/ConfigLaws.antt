@@ -47,7 +47,8 @@ use Rattle.node_files.specs.declared.config.ConfigStage.TheVariants as stages
 use Rattle.node_files.specs.declared.config.ConfigReading.{ConfigReading}
 use Rattle.node_files.specs.Parts.{behind_word, last_number}
 use Rattle.node_files.specs.Nodes.{host_line, hosts_line, neighbour_at, placed_items, device_of, port_device}
-use Rattle.node_files.specs.Configs.{port_line, is_used, free_port, control_line, period_line, log_line, wanted_line, tail_word, may_come, with_device, device_line, missing_line, program_line, inject_line, tail_rest, tail_line, close_program, begun_by, config_step_at, config_said, config_end, config_format, nothing_read, config_of}
+use Rattle.node_files.specs.Configs.{port_line, is_used, free_port, control_line, period_line, log_line, wanted_line, tail_word, may_come, with_device, device_line, missing_line, program_line}
+use Rattle.node_files.specs.Configs.{inject_line, tail_rest, tail_line, close_program, begun_by, config_step_at, config_said, config_end, config_format, nothing_read, config_of}
 use Rattle.node_files.specs.Answers.{Accepted, Refused}
 use Rattle.node_files.proofs.PartLaws.{HasChecked, last_number_is, link_small, usual_keeps, usual_placed, value_or_refusal}
 use Rattle.node_files.proofs.Placed.{all_placed, same_devices, ascend_placed, all_ports, ports_differ}
@@ -192,7 +193,8 @@ wanted_keeps head.Log ws s k = log_keeps ws s k
 
 -- ---- the lines behind it
 
-more_devices : (s : ConfigReading) (n : Host × Dev) (p : ℕ) → Devices s → IsNew s.here s.hosts s.neighbours n → IsFree s p → KeepsDevices s.here s.hosts s.port s.control (placed_items device_of n s.neighbours) (placed_items port_device (n.1, p) s.devs)
+more_devices : (s : ConfigReading) (n : Host × Dev) (p : ℕ) → Devices s → IsNew s.here s.hosts s.neighbours n → IsFree s p
+    → KeepsDevices s.here s.hosts s.port s.control (placed_items device_of n s.neighbours) (placed_items port_device (n.1, p) s.devs)
 more_devices s n p k new free =
     let P = λ (d : Dev × ℕ). d.1 in
     let more = All-tail IsPort s.port (s.control ∷ map P s.devs) k.ports in

@@ -45,10 +45,12 @@ use Rattle.node_files.specs.declared.log.LogReading.{LogReading}
 use Rattle.node_files.specs.Parts.{behind_word}
 use Rattle.node_files.specs.Nodes.{device_of}
 use Rattle.node_files.specs.ChunkWords.{chunk_at}
-use Rattle.node_files.specs.Logs.{behind_host, own_line, boot_line, network_line, device_line, missing_line, events_line, node_rest, node_line, inject_entry, frame_entry, control_entry, take_entry, entry_rest, entry_line, log_step_at, log_said, log_format, nothing_logged, log_of}
+use Rattle.node_files.specs.Logs.{behind_host, own_line, boot_line, network_line, device_line, missing_line, events_line, node_rest, node_line, inject_entry, frame_entry, control_entry, take_entry}
+use Rattle.node_files.specs.Logs.{entry_rest, entry_line, log_step_at, log_said, log_format, nothing_logged, log_of}
 use Rattle.node_files.specs.LogTexts as text
 use Rattle.node_files.specs.LogTexts.{closing, line_text, entry_words, entry_text, host_words, hosts_words, spaced_host, device_words, missing_words, header_text, boot_words, boot_text, head_text, log_text, CanSpell, IsSpellable}
-use Rattle.node_files.proofs.NodeLines.{Clean, clean_more, usual_again, clean_number, last_reads, host_reads, host_clean, more_to, room_for, hosts_read, hosts_clean, listed_small, before, free_there, placed_last, neighbour_reads, hosts_of_neighbours, package_clean, package_reads}
+use Rattle.node_files.proofs.NodeLines.{Clean, clean_more, usual_again, clean_number, last_reads, host_reads, host_clean, more_to, room_for, hosts_read, hosts_clean, listed_small, before, free_there}
+use Rattle.node_files.proofs.NodeLines.{placed_last, neighbour_reads, hosts_of_neighbours, package_clean, package_reads}
 use Rattle.node_files.proofs.ChunkLaws.{typed_again, chunk_weighs}
 
 -- ---- lines of words
@@ -159,20 +161,24 @@ module _ (v : Version) (b : ℕ) where
   says_hosts : (ws : List (List ℕ)) → is_skipped (spaced_words (codes "hosts" ∷ ws)) ≡ false
   says_hosts ws = refl
 
-  hosts_lead : (here : Host) (hosts : List Host) → length hosts ≤ 32 → Ascend hosts → All (λ h. h.0 < 2 ^ 32) hosts → is_listed here hosts ≡ true → LeadsTo (line_text (hosts_words hosts)) (state v b stages.Hosts here [] [] [] []) (state v b (stages.Node false) here hosts [] [] [])
+  hosts_lead : (here : Host) (hosts : List Host) → length hosts ≤ 32 → Ascend hosts → All (λ h. h.0 < 2 ^ 32) hosts → is_listed here hosts ≡ true
+      → LeadsTo (line_text (hosts_words hosts)) (state v b stages.Hosts here [] [] [] []) (state v b (stages.Node false) here hosts [] [] [])
   unfolding log_step_at network_line
   hosts_lead here hosts few a small listed =
       let ws = map (λ (g : Host). decimal g.0) hosts in
       let clean = clean_more (codes "hosts") ws (refl, refl) (hosts_clean hosts small) in
       leads_line (codes "hosts") ws (state v b stages.Hosts here [] [] [] []) (state v b (stages.Node false) here hosts [] [] []) clean
-      (λ n. usual_again n (codes "hosts") ws (state v b stages.Hosts here [] [] [] []) (state v b (stages.Node false) here hosts [] [] []) (λ vs. network_line vs (state v b stages.Hosts here [] [] [] [])) (says_hosts ws) clean (rw (hosts_read here hosts few a small listed) refl))
+      (λ n.
+      usual_again n (codes "hosts") ws (state v b stages.Hosts here [] [] [] []) (state v b (stages.Node false) here hosts [] [] []) (λ vs.
+      network_line vs (state v b stages.Hosts here [] [] [] [])) (says_hosts ws) clean (rw (hosts_read here hosts few a small listed) refl))
 
   -- ---- neighbours
 
   device_clean : (n : Host × Dev) → n.0.0 < 2 ^ 32 → n.1.0 ≤ 8 → Clean (device_words n)
   device_clean n small few = clean_more (codes "dev") (decimal n.1.0 ∷ decimal n.0.0 ∷ []) (refl, refl) (clean_number n.1.0 (omega (arith, few)) (decimal n.0.0 ∷ []) (clean_number n.0.0 (omega (arith, small)) [] (tt, tt)))
 
-  device_reads : (here : Host) (hosts : List Host) (seen : List (Host × Dev)) (n : Host × Dev) → n.0.0 < 2 ^ 32 → IsNeighbour here hosts n → All (λ m. m.1.0 < n.1.0) seen → device_line (decimal n.1.0 ∷ decimal n.0.0 ∷ []) (state v b (stages.Node false) here hosts seen [] []) ≡ Ok (state v b (stages.Node false) here hosts (seen ++ (n ∷ [])) [] [])
+  device_reads : (here : Host) (hosts : List Host) (seen : List (Host × Dev)) (n : Host × Dev) → n.0.0 < 2 ^ 32 → IsNeighbour here hosts n → All (λ m. m.1.0 < n.1.0) seen
+      → device_line (decimal n.1.0 ∷ decimal n.0.0 ∷ []) (state v b (stages.Node false) here hosts seen [] []) ≡ Ok (state v b (stages.Node false) here hosts (seen ++ (n ∷ [])) [] [])
   unfolding device_line
   device_reads here hosts seen n small k lower = rw (neighbour_reads here hosts seen n [] small k (free_there seen n lower), placed_last device_of seen n lower) refl
 
@@ -194,8 +200,11 @@ module _ (v : Version) (b : ℕ) where
   devices_lead here hosts all seen (n ∷ ns) e small k a =
       let ascends : DevicesAscend (seen ++ (n ∷ ns)) = subst DevicesAscend (sym e) a in
       let first = All-head (IsNeighbour here hosts) n ns k in
-      leads_as (flat_map text.device_line (n ∷ ns)) (text.device_line n ++ flat_map text.device_line ns) (state v b (stages.Node false) here hosts seen [] []) (state v b (stages.Node false) here hosts all [] []) (flat_map-cons text.device_line n ns)
-      (leads_then (text.device_line n) (flat_map text.device_line ns) (state v b (stages.Node false) here hosts seen [] []) (state v b (stages.Node false) here hosts (seen ++ (n ∷ [])) [] []) (state v b (stages.Node false) here hosts all [] [])
+      leads_as (flat_map text.device_line (n ∷ ns)) (text.device_line n ++ flat_map text.device_line ns) (state v b (stages.Node false) here hosts seen [] [])
+      (state v b (stages.Node false) here hosts all [] []) (flat_map-cons text.device_line n ns)
+      (
+      leads_then (text.device_line n) (flat_map text.device_line ns) (state v b (stages.Node false) here hosts seen [] [])
+      (state v b (stages.Node false) here hosts (seen ++ (n ∷ [])) [] []) (state v b (stages.Node false) here hosts all [] [])
       (device_leads here hosts seen n (hosts_of_neighbours here hosts n first small) first (before seen n ns ascends))
       (devices_lead here hosts all (seen ++ (n ∷ [])) ns (more_to all seen n ns e) small (All-tail (IsNeighbour here hosts) n ns k) a))
 
@@ -242,7 +251,9 @@ module _ (v : Version) (b : ℕ) where
       let differ : PackagesDiffer (seen ++ (p ∷ ps)) = subst PackagesDiffer (sym e) d in
       leads_as (flat_map text.missing_line (p ∷ ps) ++ end) (text.missing_line p ++ (flat_map text.missing_line ps ++ end)) (state v b (stages.Node lacks) here hosts ns seen []) (state v b stages.Events here hosts ns all [])
       (ap (λ (l : List ℕ). l ++ end) (flat_map-cons text.missing_line p ps) ∙ append_assoc (text.missing_line p) (flat_map text.missing_line ps) end)
-      (leads_then (text.missing_line p) (flat_map text.missing_line ps ++ end) (state v b (stages.Node lacks) here hosts ns seen []) (state v b (stages.Node true) here hosts ns (seen ++ (p ∷ [])) []) (state v b stages.Events here hosts ns all [])
+      (
+      leads_then (text.missing_line p) (flat_map text.missing_line ps ++ end) (state v b (stages.Node lacks) here hosts ns seen [])
+      (state v b (stages.Node true) here hosts ns (seen ++ (p ∷ [])) []) (state v b stages.Events here hosts ns all [])
       (missing_leads lacks here hosts ns seen p (fresh_package seen p ps differ))
       (tail_leads true here hosts ns all (seen ++ (p ∷ [])) ps (more_to all seen p ps e) d))
 
@@ -322,8 +333,11 @@ module _ (v : Version) (b : ℕ) where
   entry_clean : (e : LogEvent) → KeepsEntry v e → IsSpellable e → Clean (entry_words e)
   entry_clean (logged.Step (events.Inject c bound handler)) k s =
       let ws = handler_words handler in
-      clean_more (codes "inject") (decimal bound ∷ encode_lower (chunk_bytes c) ∷ ws) (refl, refl) (clean_number bound (omega (arith, k.0.0)) (encode_lower (chunk_bytes c) ∷ ws) (hex_clean (chunk_bytes c) ws s.0.are_bytes (handler_clean handler s.1)))
-  entry_clean (logged.Step (events.Frame d bytes)) k s = clean_more (codes "frame") (decimal d.0 ∷ encode_lower bytes ∷ []) (refl, refl) (clean_number d.0 (omega (arith, k.0)) (encode_lower bytes ∷ []) (hex_clean bytes [] (λ i. k.1.are_bytes i) (tt, tt)))
+      clean_more (codes "inject") (decimal bound ∷ encode_lower (chunk_bytes c) ∷ ws) (refl, refl)
+      (clean_number bound (omega (arith, k.0.0)) (encode_lower (chunk_bytes c) ∷ ws) (hex_clean (chunk_bytes c) ws s.0.are_bytes (handler_clean handler s.1)))
+  entry_clean (logged.Step (events.Frame d bytes)) k s =
+      clean_more (codes "frame") (decimal d.0 ∷ encode_lower bytes ∷ []) (refl, refl)
+      (clean_number d.0 (omega (arith, k.0)) (encode_lower bytes ∷ []) (hex_clean bytes [] (λ i. k.1.are_bytes i) (tt, tt)))
   entry_clean (logged.Step (events.Control bytes)) k s = clean_more (codes "control") (encode_lower bytes ∷ []) (refl, refl) (hex_clean bytes [] (λ i. k.are_bytes i) (tt, tt))
   entry_clean (logged.Step events.Tick) k s = ((refl, tt), (refl, tt))
   entry_clean (logged.Step (events.Take d)) k s = clean_more (codes "take") (decimal d.0 ∷ []) (refl, refl) (clean_number d.0 (omega (arith, k)) [] (tt, tt))
@@ -415,7 +429,9 @@ head_leads n missing k d =
     (leads_then (line_text (host_words n.here)) (boot_text v b ++ rest) (front v 0 stages.Host (host_of 0)) (front v 0 (behind_host v) n.here) last (host_leads v n.here (listed_small n.here n.hosts k.here k.numbers))
     (leads_then (boot_text v b) rest (front v 0 (behind_host v) n.here) (front v b stages.Hosts n.here) last (boot_leads v b n.here k.boot)
     (leads_then (line_text (hosts_words n.hosts)) (devices ++ tail) (front v b stages.Hosts n.here) (state v b (stages.Node false) n.here n.hosts [] [] []) last (hosts_lead v b n.here n.hosts k.few k.ascend k.numbers k.here)
-    (leads_then devices tail (state v b (stages.Node false) n.here n.hosts [] [] []) (state v b (stages.Node false) n.here n.hosts n.neighbours [] []) last (devices_lead v b n.here n.hosts n.neighbours [] n.neighbours refl k.numbers k.neighbours k.devices)
+    (
+    leads_then devices tail (state v b (stages.Node false) n.here n.hosts [] [] []) (state v b (stages.Node false) n.here n.hosts n.neighbours [] []) last
+    (devices_lead v b n.here n.hosts n.neighbours [] n.neighbours refl k.numbers k.neighbours k.devices)
     (tail_leads v b false n.here n.hosts n.neighbours missing [] missing refl d)))))
 
 -- a log's last state

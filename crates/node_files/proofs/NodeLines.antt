@@ -41,7 +41,8 @@ pub usual_by : {A : Type 0} (n : ℕ) (line : List ℕ) (ws : List (List ℕ)) (
 usual_by n line ws s u read says are e = rw (says, are, e) refl
 
 -- which are those that it was made of
-pub usual_again : {A : Type 0} (n : ℕ) (w : List ℕ) (ws : List (List ℕ)) (s u : A) (read : List (List ℕ) → Result A LineReason) → is_skipped (spaced_words (w ∷ ws)) ≡ false → Clean (w ∷ ws) → read (w ∷ ws) ≡ Ok u → usual_line n (spaced_words (w ∷ ws)) s read ≡ Ok u
+pub usual_again : {A : Type 0} (n : ℕ) (w : List ℕ) (ws : List (List ℕ)) (s u : A) (read : List (List ℕ) → Result A LineReason) → is_skipped (spaced_words (w ∷ ws)) ≡ false → Clean (w ∷ ws)
+    → read (w ∷ ws) ≡ Ok u → usual_line n (spaced_words (w ∷ ws)) s read ≡ Ok u
 usual_again n w ws s u read says c e = usual_by n (spaced_words (w ∷ ws)) (w ∷ ws) s u read says (words_are w ws c.0) e
 
 -- ---- numbers
@@ -130,7 +131,8 @@ placed_last {A} key (y ∷ ys) x h =
     ∙ last_by (ltb (key x) (key y)) x y ys (placed_items key x ys) (le-ltb (key x) (key y) (omega (arith, lower)))
     ∙ ap (λ (l : List A). y ∷ l) (placed_last key ys x (All-tail (λ (z : A). key z < key x) y ys h))
 
-pub neighbour_reads : (here : Host) (hosts : List Host) (seen : List (Host × Dev)) (n : Host × Dev) (ws : List (List ℕ)) → n.0.0 < 2 ^ 32 → IsNeighbour here hosts n → has_device n.1.0 seen ≡ false → neighbour_at here hosts seen (decimal n.1.0 ∷ decimal n.0.0 ∷ ws) ≡ Ok (n, ws)
+pub neighbour_reads : (here : Host) (hosts : List Host) (seen : List (Host × Dev)) (n : Host × Dev) (ws : List (List ℕ)) → n.0.0 < 2 ^ 32 → IsNeighbour here hosts n → has_device n.1.0 seen ≡ false
+    → neighbour_at here hosts seen (decimal n.1.0 ∷ decimal n.0.0 ∷ ws) ≡ Ok (n, ws)
 unfolding neighbour_at
 neighbour_reads here hosts seen n ws small k free =
     rw (

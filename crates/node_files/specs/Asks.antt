@@ -72,7 +72,9 @@ close_program s = do
 
 -- a line of the program, or the line that ends it
 abbrev pub inside_line : List ℕ → AskReading → Result AskReading LineFault
-inside_line line s = if bytes_eq line (codes "end program") then at_line s.program.line (close_program s) else Ok (record s { program = with_line s.program line })
+inside_line line s =
+    if bytes_eq line (codes "end program") then at_line s.program.line (close_program s) else Ok
+    (record s { program = with_line s.program line })
 
 -- what a line adds where it stands
 unfoldable pub ask_step_at : AskStage → ℕ → List ℕ → AskReading → Result AskReading LineFault

@@ -103,7 +103,10 @@ wanted_line head.Log ws s = log_line ws s
 
 -- the first word of a line there
 abbrev pub tail_word : List ℕ → Option TailWord
-tail_word w = if bytes_eq w (codes "dev") then Some tail.Dev else (if bytes_eq w (codes "without") then Some tail.Without else (if bytes_eq w (codes "program") then Some tail.Program else (if bytes_eq w (codes "at") then Some tail.At else None)))
+tail_word w =
+    if bytes_eq w (codes "dev") then Some tail.Dev else
+    (if bytes_eq w (codes "without") then Some tail.Without else
+    (if bytes_eq w (codes "program") then Some tail.Program else (if bytes_eq w (codes "at") then Some tail.At else None)))
 
 -- whether a line may still come: no device behind a missing package, and neither of them nor a program behind the program
 abbrev pub may_come : TailPart → TailWord → Bool
@@ -171,7 +174,9 @@ close_program s = do
 
 -- a line of the program, or the line that ends it
 abbrev pub inside_line : List ℕ → ConfigReading → Result ConfigReading LineFault
-inside_line line s = if bytes_eq line (codes "end program") then at_line s.program.line (close_program s) else Ok (record s { program = with_line s.program line })
+inside_line line s =
+    if bytes_eq line (codes "end program") then at_line s.program.line (close_program s) else Ok
+    (record s { program = with_line s.program line })
 
 -- ---- the whole file
 
@@ -188,7 +193,25 @@ config_step_at stages.Inside number line s = inside_line line s
 
 -- how the node serves, with serial number 1 and no moment yet
 abbrev pub config_said : ConfigReading → ServeConfig
-config_said s = record { node = record { here = s.here; hosts = s.hosts; neighbours = s.neighbours; serial = 1; version = s.version; boot = 0; link = first_link s.version }; missing = s.missing; port = s.port; control = s.control; period = s.period; log = s.log; devs = s.devs; at = s.at }
+config_said s =
+    record {
+      node = record {
+        here = s.here;
+        hosts = s.hosts;
+        neighbours = s.neighbours;
+        serial = 1;
+        version = s.version;
+        boot = 0;
+        link = first_link s.version;
+      };
+      missing = s.missing;
+      port = s.port;
+      control = s.control;
+      period = s.period;
+      log = s.log;
+      devs = s.devs;
+      at = s.at;
+    }
 
 -- what the lines so far say where the file ends in front of the line with a number
 abbrev pub config_end : ConfigStage → ℕ → ConfigReading → Result ServeConfig LineFault
@@ -202,7 +225,23 @@ config_format = record { step = λ number line s. config_step_at s.stage number 
 
 -- nothing read yet; a port is 0 until its line is read
 abbrev pub nothing_read : ConfigReading
-nothing_read = record { stage = stages.Header; version = One; here = host_of 0; hosts = []; port = 0; control = 0; period = 0; log = []; neighbours = []; devs = []; missing = []; program = opened_program 1; checked = None; at = []; weight = 0 }
+nothing_read = record {
+  stage = stages.Header;
+  version = One;
+  here = host_of 0;
+  hosts = [];
+  port = 0;
+  control = 0;
+  period = 0;
+  log = [];
+  neighbours = [];
+  devs = [];
+  missing = [];
+  program = opened_program 1;
+  checked = None;
+  at = [];
+  weight = 0;
+}
 
 -- what the bytes of a file say: how a node serves, or the first line outside the format with the reason
 abbrev pub config_of : List ℕ → Result ServeConfig LineFault

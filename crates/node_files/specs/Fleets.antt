@@ -66,7 +66,10 @@ fleet_end true false number s = Err (faults.Line number BadWord)
 fleet_end true true number s = Ok (record { children = s.children })
 
 abbrev pub fleet_format : Format FleetReading Fleet
-fleet_format = record { step = λ number line s. fleet_step_at s.begun number line s; finish = λ number s. fleet_end s.begun (nat_lt 0 (length s.children)) number s }
+fleet_format = record {
+  step = λ number line s. fleet_step_at s.begun number line s;
+  finish = λ number s. fleet_end s.begun (nat_lt 0 (length s.children)) number s;
+}
 
 -- nothing read yet
 abbrev pub no_children : FleetReading

@@ -61,7 +61,9 @@ network_line ws s = do
 
 -- the first word of a line behind them
 abbrev pub node_word : List ℕ → Option NodeWord
-node_word w = if bytes_eq w (codes "dev") then Some node.Dev else (if bytes_eq w (codes "without") then Some node.Without else (if bytes_eq w (codes "events") then Some node.Events else None))
+node_word w =
+    if bytes_eq w (codes "dev") then Some node.Dev else
+    (if bytes_eq w (codes "without") then Some node.Without else (if bytes_eq w (codes "events") then Some node.Events else None))
 
 -- whether a line may still come: no device behind a missing package
 abbrev pub may_come : Bool → NodeWord → Bool
@@ -106,7 +108,13 @@ node_line lacks ws s = do
 
 -- the first word of an entry
 abbrev pub entry_word : List ℕ → Option EntryWord
-entry_word w = if bytes_eq w (codes "inject") then Some entry.Inject else (if bytes_eq w (codes "frame") then Some entry.Frame else (if bytes_eq w (codes "control") then Some entry.Control else (if bytes_eq w (codes "tick") then Some entry.Tick else (if bytes_eq w (codes "take") then Some entry.Take else (if bytes_eq w (codes "lost") then Some entry.Lost else None)))))
+entry_word w =
+    if bytes_eq w (codes "inject") then Some entry.Inject else
+    (if bytes_eq w (codes "frame") then Some entry.Frame else
+    (if bytes_eq w (codes "control") then Some entry.Control else
+    (if bytes_eq w (codes "tick") then Some entry.Tick else
+    (if bytes_eq w (codes "take") then Some entry.Take else
+    (if bytes_eq w (codes "lost") then Some entry.Lost else None)))))
 
 -- `inject BOUND HEX` behind its first word, under version 2 with a handler at its end or without
 unfoldable pub inject_entry : Version → List (List ℕ) → Result LogEvent LineReason
@@ -177,7 +185,20 @@ log_step_at stages.Events number line s = usual_line number line s (λ ws. entry
 
 -- the log, whose node began with serial number 1
 abbrev pub log_said : LogReading → Log
-log_said s = record { node = record { here = s.here; hosts = s.hosts; neighbours = s.neighbours; serial = 1; version = s.version; boot = s.boot; link = first_link s.version }; missing = s.missing; events = s.events }
+log_said s =
+    record {
+      node = record {
+        here = s.here;
+        hosts = s.hosts;
+        neighbours = s.neighbours;
+        serial = 1;
+        version = s.version;
+        boot = s.boot;
+        link = first_link s.version;
+      };
+      missing = s.missing;
+      events = s.events;
+    }
 
 -- what the lines so far say where the file ends in front of the line with a number
 abbrev pub log_end : LogStage → ℕ → LogReading → Result Log LineFault

@@ -1,3 +1,4 @@
+//! Laws: each file of a node has one answer.
 ghost use Rattle.std.specs.Prelude.{◌⊎◌, ℕ, List};
 ghost use Rattle.line_reader.specs.Inside.{RefusesRead};
 ghost use Rattle.node_files.specs.Asks.{ask_format, nothing_asked, ask_of};

@@ -1,3 +1,4 @@
+//! Reads the file of a request.
 ghost use Rattle.std.specs.Prelude.{◌≡◌, ◌≤◌, ◌⊎◌, length, Ok, Err, IfOk, IfErr, MatchResult};
 ghost use Rattle.line_reader.specs.Files.{file_of};
 ghost use Rattle.line_reader.specs.Reads.{Leaves, Gives, FileLeaves, FileGives};

@@ -1,3 +1,4 @@
+//! Reads chunks in hex, and checks their types.
 ghost use Rattle.std.specs.Prelude.{◌≡◌, ◌≢◌, ◌≤◌, Some, IfOk, IfSome, OnOk, length};
 ghost use Rattle.chunk_codec_spec.specs.Spelling.{a_whole_chunk};
 ghost use Rattle.line_reader.specs.Reads.{Finds, GivesWith};

@@ -1,3 +1,4 @@
+//! Reads the configuration of a serving node.
 ghost use Rattle.std.specs.Prelude.{◌≡◌, ◌≤◌, ◌⊎◌, length, Ok, Err, IfOk, IfErr, OnOk, MatchResult};
 ghost use Rattle.line_reader.specs.Reads.{Leaves, FileLeaves, Reads, GivesWith};
 ghost use Rattle.network_config.specs.NodeRules.{KeepsServe};

@@ -1,3 +1,4 @@
+//! Reads the file of a fleet.
 ghost use Rattle.std.specs.Prelude.{◌≡◌, ◌≤◌, ◌⊎◌, true, false, length, Ok, Err, IfOk, IfErr, MatchResult};
 ghost use Rattle.line_reader.specs.Reads.{Leaves, Gives, FileLeaves};
 ghost use Rattle.network_config.specs.NodeRules.{KeepsFleet};

@@ -1,3 +1,4 @@
+//! Reads words and numbers that must come next.
 ghost use Rattle.std.specs.Prelude.{◌≡◌, ◌≤◌, IfOk};
 ghost use Rattle.line_reader.specs.Reads.{ReadsOn, Tells};
 ghost use Rattle.node_files.specs.Parts as spec;

@@ -1,5 +1,6 @@
 -- Peers of a link, what a link answers, and what it tells of its frames.
-use Rattle.std.specs.Prelude.{ℕ, Bool, not, ◌||◌, if◌then◌else◌, List, [], ◌∷◌, ◌++◌, drop, take, length, ◌≡◌, ◌⊎◌, ◌<◌, ◌≤◌, ◌==◌, IsTrue, Option, Some, None, Result, Ok, Err}
+use Rattle.std.specs.Prelude.{ℕ, Bool, not, ◌||◌, if◌then◌else◌, List, [], ◌∷◌, ◌++◌, drop, take, length, ◌≡◌, ◌⊎◌, ◌<◌, ◌≤◌, ◌==◌, IsTrue}
+use Rattle.std.specs.Prelude.{Option, Some, None, Result, Ok, Err}
 use Rattle.std.specs.List.{list_any}
 use Rattle.plan_base.specs.declared.ids.Dev.{Dev}
 use Rattle.node_io.specs.Causes.{HasRisen}

@@ -35,7 +35,8 @@ pub record KeepsStatuses (old new : SpawnerState) : Type 0 where
 abbrev pub StartResult : {E : Type 0} → Words → SpawnerState → SpawnerState → Result Child E → Type 0
 StartResult words old new (Ok child) = (new.children ≡ old.children ++ child ∷ []) × IsFresh old.children child × Contains new.children child
     × (IsTrue old.observable → (new.starts ≡ old.starts ++ words ∷ []) × (child.0 ≡ old.started) × (new.started ≡ old.started + 1))
-StartResult words old new (Err e) = (new.children ≡ old.children) × (new.started ≡ old.started) × ((new.starts ≡ old.starts) ⊎ (new.starts ≡ old.starts ++ words ∷ []))
+StartResult words old new (Err e) =
+    (new.children ≡ old.children) × (new.started ≡ old.started) × ((new.starts ≡ old.starts) ⊎ (new.starts ≡ old.starts ++ words ∷ []))
     × HasRisen old.faults new.faults
 
 pub record Starts {E : Type 0} (words : Words) (old new : SpawnerState) (result : Result Child E) : Type 0 where

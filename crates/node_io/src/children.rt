@@ -1,3 +1,4 @@
+//! Numbers the children that are open.
 ghost use Rattle.std.specs.Prelude.{◌≡◌, ◌++◌, ◌∷◌, ◌+◌, ◌<◌, ◌==◌, [], false, filter, Contains, IfOk, MatchResult};
 ghost use Rattle.node_io.specs.Spawners.{is_other, IsFresh};
 

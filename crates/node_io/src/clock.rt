@@ -1,3 +1,4 @@
+//! What tells the time, and a clock in memory.
 ghost use Rattle.std.specs.Prelude.{◌≡◌, true, drop, get_or, IfOk};
 ghost use Rattle.node_io.specs.Clocks.{ClockState, Tells};
 

@@ -1,3 +1,4 @@
+//! Counts of calls and faults.
 ghost use Rattle.std.specs.Prelude.{◌≡◌, ◌≤◌, ◌↔◌, IsTrue};
 ghost use Rattle.node_io.specs.Causes.{IsDue, HasRisen, one_more};
 

@@ -1,3 +1,4 @@
+//! Files by name, in memory.
 ghost use Rattle.std.specs.Prelude.{◌≡◌, ℕ, [], ◌∷◌, ◌++◌, ◌<◌, length, slice_get, ◌↔◌, IsTrue, OnOk, OnErr, position};
 ghost use Rattle.std.specs.Option.{option_copied};
 ghost use Rattle.node_io.specs.FileMaps.{file_at, contents, is_named, ChangesOnly};

@@ -1,3 +1,4 @@
+//! What carries frames between neighbours.
 ghost use Rattle.std.specs.Prelude.{◌≡◌, length};
 ghost use Rattle.node_io.specs.Links.{LinkState, HasPeer, Binds, Hears, Sends};
 

@@ -1,3 +1,4 @@
+//! Files in memory, some of whose calls fail.
 ghost use Rattle.std.specs.Prelude.{◌≡◌, ◌++◌, ◌∷◌, ◌<◌, ◌≤◌, ◌⊎◌, ◌↔◌, [], Some, None, true, take, length, is_some, unwrap_or, IsTrue, IsNone, IfNone, IfSome, IsOk, IsErr, OnOk, OnErr, IfOk, MatchOption, MatchResult};
 ghost use Rattle.node_io.specs.FileMaps.{file_at, ChangesOnly, Names, HasDistinctNames};
 ghost use Rattle.node_io.specs.FileStates.{BeginsReading, Pulls, BeginsWriting, AddResult};

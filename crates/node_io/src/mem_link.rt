@@ -1,3 +1,4 @@
+//! A link in memory, whose arrivals are a script.
 ghost use Rattle.std.specs.Prelude.{◌≡◌, ◌++◌, ◌∷◌, [], ◌⊎◌, ◌↔◌, true, length, min, take, drop, IfOk, IfSome, IsNone, IsTrue, IsErr, OnOk, OnErr, MatchResult};
 ghost use Rattle.node_io.specs.Links.{has_peer, HasPeer, IsFrameOfPeer, IsHeard, Hears, Sends, Binds};
 ghost use Rattle.node_io.specs.Memory.{link_state, IsDueAtLink, LinkLacksMemory, CountsAtLink};

@@ -1,3 +1,4 @@
+//! An output in memory.
 ghost use Rattle.std.specs.Prelude.{◌≡◌, ◌++◌, ◌-◌, ◌<◌, ◌≤◌, ◌⊎◌, [], true, take, length, IsNone, IfNone, IfSome, IsErr, OnErr, IfOk, MatchOption, MatchResult, option_map};
 ghost use Rattle.node_io.specs.Sinks.{Pushes};
 ghost use Rattle.node_io.specs.Memory.{sink_state, room_of, IsDuePush, IsFull, LacksRoom, CountsPush};

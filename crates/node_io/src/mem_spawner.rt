@@ -1,3 +1,4 @@
+//! Children in memory, whose statuses are a script.
 ghost use Rattle.std.specs.Prelude.{◌≡◌, ◌++◌, ◌∷◌, ◌+◌, ◌⊎◌, [], None, Some, true, filter, Contains, IsErr, IfOk, OnOk, OnErr, MatchResult, slice_get};
 ghost use Rattle.node_io.specs.Spawners.{Starts, Waits};
 ghost use Rattle.node_io.specs.Memory.{spawner_state, IsDueAtSpawner, SpawnerLacksMemory, HasAllChildren, CountsAtSpawner};

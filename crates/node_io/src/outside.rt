@@ -1,3 +1,4 @@
+//! What takes bytes, and what holds files.
 ghost use Rattle.std.specs.Prelude.{◌<◌, length, IsTrue};
 ghost use Rattle.node_io.specs.Sinks.{SinkState, Pushes};
 ghost use Rattle.node_io.specs.FileStates.{FilesState, BeginsReading, Pulls, BeginsWriting, AddResult};

@@ -1,3 +1,4 @@
+//! Reads a whole file, up to a limit.
 ghost use Rattle.std.specs.Prelude.{◌≡◌, ◌≢◌, ◌++◌, ◌+◌, ◌^◌, ◌<◌, ◌≤◌, [], length, IsTrue, OnOk, IfOk};
 ghost use Rattle.node_io.specs.FileStates.{Filled, Rest, ReadsFile};
 

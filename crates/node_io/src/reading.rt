@@ -1,3 +1,4 @@
+//! A file in memory that is being read.
 ghost use Rattle.std.specs.Prelude.{◌≡◌, ◌++◌, ◌<◌, ◌≤◌, [], take, length, IfOk};
 
 use plan_base::NoMemory;

@@ -1,3 +1,4 @@
+//! What starts the program with given words, and waits for its end.
 ghost use Rattle.std.specs.Prelude.{Contains};
 ghost use Rattle.node_io.specs.Spawners.{SpawnerState, Starts, Waits};
 

@@ -1,3 +1,4 @@
+//! Names as texts.
 ghost use Rattle.std.specs.Prelude.{◌≡◌, ◌++◌, ◌∷◌, [], IfOk, OnOk, OnErr};
 ghost use Rattle.std.specs.Str.{bytes_eq};
 

@@ -1,3 +1,4 @@
+//! Writes all of some bytes.
 ghost use Rattle.std.specs.Prelude.{IsTrue};
 ghost use Rattle.node_io.specs.Sinks.{Puts};
 ghost use Rattle.node_io.specs.FileStates.{PutsFile};

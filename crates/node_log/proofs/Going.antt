@@ -1,5 +1,6 @@
 -- That a run only goes on.
-use Rattle.std.proofs.Common.{◌≡◌, ℕ, zero, suc, ◌+◌, Bool, true, false, if◌then◌else◌, List, [], ◌∷◌, ◌++◌, length, slice_get, nat_le, ◌==◌, drop, Option, Some, None, refl, sym, ◌∙◌, ap, subst, arith, append_assoc, append-nil, length-append}
+use Rattle.std.proofs.Common.{◌≡◌, ℕ, zero, suc, ◌+◌, Bool, true, false, if◌then◌else◌, List, [], ◌∷◌, ◌++◌, length, slice_get, nat_le, ◌==◌, drop, Option, Some, None, refl, sym, ◌∙◌, ap, subst}
+use Rattle.std.proofs.Common.{arith, append_assoc, append-nil, length-append}
 use Rattle.plan_base.specs.declared.ids.Dev.{Dev}
 use Rattle.packet_frame.specs.declared.frame.PlainStamped.{PlainStamped}
 use Rattle.packet_frame.specs.Stamped.{stamped_bytes}
@@ -14,7 +15,9 @@ use Rattle.node_io.specs.declared.link.Peer.{Peer}
 use Rattle.node_io.specs.declared.link.Arrival.{Arrival}
 use Rattle.node_io.specs.Links.{Heard, has_peer, next_heard}
 use Rattle.node_core_spec.specs.State.{NodeState}
-use Rattle.node_log.specs.Runs.{acts_of, node_by, entries_at, played_entries, node_after, Running, opened_run, with_entry, marked_running, holding, with_sent, Action, then_do, is_refused, make, tick, inject_one, inject_to, arrival, hear, first_on, queued_on, come_back, take_back, loop_back, send_taken, take_send, repeat_send, flush_device, flush_to, release, flush, begin_turn, end_turn, turn, turns, node_run, peers_of, time_at}
+use Rattle.node_log.specs.Runs.{acts_of, node_by, entries_at, played_entries, node_after, Running, opened_run, with_entry, marked_running, holding, with_sent, Action, then_do, is_refused, make, tick}
+use Rattle.node_log.specs.Runs.{inject_one, inject_to, arrival, hear, first_on, queued_on, come_back, take_back, loop_back, send_taken, take_send, repeat_send, flush_device, flush_to, release, flush}
+use Rattle.node_log.specs.Runs.{begin_turn, end_turn, turn, turns, node_run, peers_of, time_at}
 use Rattle.node_log.specs.Follow.{Ext, Grows}
 
 -- ---- what entries of a log give
@@ -56,7 +59,9 @@ appends_compose a b c more later x y = trans y (trans (ap (λ l. l ++ later) x) 
 pub ext_trans : (a b c : Running) → Ext a b → Ext b c → Ext a c
 ext_trans a b c x y =
     let count : length b.events ≡ length a.events + length x.events = trans (ap length x.log) (length-append a.events x.events) in
-    let later : played_entries (length b.events) b.node y.events ≡ played_entries (length a.events + length x.events) (node_after a.node x.events) y.events = trans (ap (λ n. played_entries n b.node y.events) count) (ap (λ node. played_entries (length a.events + length x.events) node y.events) x.node) in
+    let later : played_entries (length b.events) b.node y.events ≡ played_entries (length a.events + length x.events) (node_after a.node x.events) y.events = trans
+    (ap (λ n. played_entries n b.node y.events) count)
+    (ap (λ node. played_entries (length a.events + length x.events) node y.events) x.node) in
     let lines = appends_compose a.entries b.entries c.entries (played_entries (length a.events) a.node x.events) (played_entries (length b.events) b.node y.events) x.lines y.lines in
     let first = played_entries (length a.events) a.node x.events in
     record {
@@ -179,7 +184,9 @@ turn_grows cfg i t h = grows_then (begin_turn cfg i t) (then_do (hear h) (end_tu
 -- the turns up to a number go on from those up to a lower one
 pub turns_more : (cfg : ServeConfig) (script : List Arrival) (last : ℕ) (answers : List ℕ) (refused : List ℕ) (r : Running) (n more : ℕ) → Ext (turns cfg script last answers n refused r) (turns cfg script last answers (n + more) refused r)
 unfolding turns
-turns_more cfg script last answers refused r n zero = let same : n ≡ n + 0 = omega arith in subst (λ k. Ext (turns cfg script last answers n refused r) (turns cfg script last answers k refused r)) same (ext_refl (turns cfg script last answers n refused r))
+turns_more cfg script last answers refused r n zero =
+    let same : n ≡ n + 0 = omega arith in
+    subst (λ k. Ext (turns cfg script last answers n refused r) (turns cfg script last answers k refused r)) same (ext_refl (turns cfg script last answers n refused r))
 turns_more cfg script last answers refused r n (suc more) =
     let same : suc (n + more) ≡ n + suc more = omega arith in
     let before = turns cfg script last answers (n + more) refused r in
@@ -191,10 +198,13 @@ turns_more cfg script last answers refused r n (suc more) =
 pub turns_grows : (cfg : ServeConfig) (script : List Arrival) (last : ℕ) (answers : List ℕ) (n : ℕ) → Grows (turns cfg script last answers n)
 unfolding turns
 turns_grows cfg script last answers zero refused r = ext_refl r
-turns_grows cfg script last answers (suc n) refused r = grows_then (turns cfg script last answers n) (turn cfg (n + 1) (time_at last answers (n + 1)) (next_heard (peers_of cfg) (drop n script))) (turns_grows cfg script last answers n) (turn_grows cfg (n + 1) (time_at last answers (n + 1)) (next_heard (peers_of cfg) (drop n script))) refused r
+turns_grows cfg script last answers (suc n) refused r =
+    grows_then (turns cfg script last answers n) (turn cfg (n + 1) (time_at last answers (n + 1)) (next_heard (peers_of cfg) (drop n script))) (turns_grows cfg script last answers n)
+    (turn_grows cfg (n + 1) (time_at last answers (n + 1)) (next_heard (peers_of cfg) (drop n script))) refused r
 
 -- the lines of a run are those of its log
-pub lines_of_run : (cfg : ServeConfig) (node : NodeState) (script : List Arrival) (last : ℕ) (answers : List ℕ) (n : ℕ) (refused : List ℕ) → (node_run cfg node script last answers n refused).entries ≡ played_entries 0 node (node_run cfg node script last answers n refused).events
+pub lines_of_run : (cfg : ServeConfig) (node : NodeState) (script : List Arrival) (last : ℕ) (answers : List ℕ) (n : ℕ) (refused : List ℕ)
+    → (node_run cfg node script last answers n refused).entries ≡ played_entries 0 node (node_run cfg node script last answers n refused).events
 unfolding node_run
 lines_of_run cfg node script last answers n refused =
     let x = turns_grows cfg script last answers n refused (opened_run node) in

@@ -104,13 +104,17 @@ trace_begun here es a b f = fails_as a b _ (whole_trace here es) (whole_is here 
 
 module _ (here : Host) (es : List Entry) (a b c d : SinkState) (begun : Writes a b (codes "planet trace 1\n")) where
   pub trace_stopped : (fault : ReplayFault) → Stops fault (lines_text here es) b c → Stops fault (whole_trace here es) a c
-  trace_stopped fault p = stops_as fault a c _ (whole_trace here es) (whole_is here es) (stops_longer fault a c (codes "planet trace 1\n" ++ lines_text here es) (codes "end\n") (stops_more fault a b c (codes "planet trace 1\n") (lines_text here es) begun p))
+  trace_stopped fault p =
+      stops_as fault a c _ (whole_trace here es) (whole_is here es)
+      (stops_longer fault a c (codes "planet trace 1\n" ++ lines_text here es) (codes "end\n") (stops_more fault a b c (codes "planet trace 1\n") (lines_text here es) begun p))
 
   pub trace_cut : Writes b c (lines_text here es) → FailsIn c d (codes "end\n") → FailsIn a d (whole_trace here es)
   trace_cut w f = fails_as a d _ (whole_trace here es) (whole_is here es) (fails_more a c d (codes "planet trace 1\n" ++ lines_text here es) (codes "end\n") (writes_both a b c (codes "planet trace 1\n") (lines_text here es) begun w) f)
 
   pub trace_written : Writes b c (lines_text here es) → Writes c d (codes "end\n") → Writes a d (whole_trace here es)
-  trace_written w v = writes_as a d _ (whole_trace here es) (whole_is here es) (writes_both a c d (codes "planet trace 1\n" ++ lines_text here es) (codes "end\n") (writes_both a b c (codes "planet trace 1\n") (lines_text here es) begun w) v)
+  trace_written w v =
+      writes_as a d _ (whole_trace here es) (whole_is here es)
+      (writes_both a c d (codes "planet trace 1\n" ++ lines_text here es) (codes "end\n") (writes_both a b c (codes "planet trace 1\n") (lines_text here es) begun w) v)
 
 pub none_written : (here : Host) (s : NodeState) (a : SinkState) → Writes a a (lines_text here (played_entries 0 s []))
 none_written here s a = writes_as a a [] (lines_text here (played_entries 0 s [])) (sym (none_played here s)) (writes_none a)

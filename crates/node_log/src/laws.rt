@@ -1,3 +1,4 @@
+//! Laws: a log gives the lines of its run again.
 ghost use Rattle.std.specs.Prelude.{◌≡◌, ◌+◌, ℕ, List};
 ghost use Rattle.network_config.specs.declared.event.LogEvent.{LogEvent};
 ghost use Rattle.network_config.specs.declared.serve.ServeConfig.{ServeConfig};

@@ -1,3 +1,4 @@
+//! Writes the lines of a node's steps.
 ghost use Rattle.std.specs.Prelude.{◌≡◌, ◌++◌, ◌∷◌, [], IfOk, OnOk};
 ghost use Rattle.node_core_spec.specs.declared.acts.Act.TheVariants as act;
 ghost use Rattle.node_log.specs.Runs.{entries_at};

@@ -1,3 +1,4 @@
+//! Makes the entries of a log again, and writes their lines.
 ghost use Rattle.std.specs.Prelude.{◌≡◌, IfOk};
 ghost use Rattle.network_config.specs.declared.event.LogEvent.TheVariants as logged;
 ghost use Rattle.network_config.specs.NodeRules.{KeepsEntry, KeepsLog, KeepsNode, KeepsNodeEvent};

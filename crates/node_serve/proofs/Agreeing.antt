@@ -117,8 +117,10 @@ module _ (cfg : ServeConfig) (base : Start) (seen : Seen) where
       let before = run_trace cfg r in
       let next = next_lines cfg e r in
       let done = take count next in
-      let lines : (with_entry e r).entries ≡ played_entries 0 base.node (take (n + 1) es) = run_lines base.node (with_entry e r) (ext_trans (opened_run base.node) r (with_entry e r) x (ext_entry e r)) ∙ ap (played_entries 0 base.node) (sym all) in
-      let front : before ++ done ≡ take (length before + length done) (before ++ (next ++ codes "end\n")) = ap (λ l. before ++ l) (front_exact count next (codes "end\n")) ∙ sym (take-append-add before (next ++ codes "end\n") (length done)) in
+      let lines : (with_entry e r).entries ≡ played_entries 0 base.node (take (n + 1) es) = run_lines base.node (with_entry e r) (ext_trans (opened_run base.node) r (with_entry e r) x (ext_entry e r))
+      ∙ ap (played_entries 0 base.node) (sym all) in
+      let front : before ++ done ≡ take (length before + length done) (before ++ (next ++ codes "end\n")) = ap (λ l. before ++ l) (front_exact count next (codes "end\n"))
+      ∙ sym (take-append-add before (next ++ codes "end\n") (length done)) in
       let whole : before ++ (next ++ codes "end\n") ≡ whole_trace cfg.node.here (played_entries 0 base.node (take (n + 1) es)) =
       sym (append_assoc before next (codes "end\n")) ∙ ap (λ l. l ++ codes "end\n") (sym (trace_more cfg e r)) ∙ ap (whole_trace cfg.node.here) lines in
       let short : length before ≤ length before + length done = omega arith in

@@ -86,7 +86,8 @@ module _ (cfg : ServeConfig) (old new : Desk) where
       }
 
   -- the log was begun in part, or not at all
-  pub early_log : SavesFront old.files.held new.files.held cfg.log (head_text cfg.node cfg.missing) → new.out.taken ≡ old.out.taken → new.link.sent ≡ old.link.sent → MayBind cfg old.link new.link → new.link.script ≡ old.link.script → EndsEarly cfg old new
+  pub early_log : SavesFront old.files.held new.files.held cfg.log (head_text cfg.node cfg.missing) → new.out.taken ≡ old.out.taken → new.link.sent ≡ old.link.sent → MayBind cfg old.link new.link
+      → new.link.script ≡ old.link.script → EndsEarly cfg old new
   early_log log out sent binds script = record {
     log = log;
     out = record { count = 0; is = out ∙ sym (append-nil old.out.taken) };
@@ -227,5 +228,6 @@ unfolding node_run whole_trace
 whole_agrees cfg node n old new s =
     let run = run_in cfg node n old s.refused in
     let last = codes "end\n" in
-    agrees_all cfg (start_at (desk_of old) node) (seen_at (desk_of new)) run [] (length last) (turns_grows cfg old.link.script old.clock.last old.clock.answers n s.refused (opened_run node)) (frames_of_run cfg node old.link.script old.clock.last old.clock.answers n s.refused)
+    agrees_all cfg (start_at (desk_of old) node) (seen_at (desk_of new)) run [] (length last)
+    (turns_grows cfg old.link.script old.clock.last old.clock.answers n s.refused (opened_run node)) (frames_of_run cfg node old.link.script old.clock.last old.clock.answers n s.refused)
     (s.log.here ∙ ap Some (sym (append-nil (run_log cfg run)))) (s.out ∙ ap (λ l. old.out.taken ++ (run_trace cfg run ++ l)) (sym (take-length last))) s.sent

@@ -26,7 +26,8 @@ stopped_same cfg base seen r act g s = record { done = r; grows = ext_refl r; wi
 
 -- ---- one after the other
 
-pub reached_then : {before after : Running → Type 0} {cfg : ServeConfig} {base : Start} {mid seen : Seen} {r : Running} {f g : Action} (a : Reached before cfg base mid r f) → Reached after cfg base seen a.done g → Reached after cfg base seen r (then_do f g)
+pub reached_then : {before after : Running → Type 0} {cfg : ServeConfig} {base : Start} {mid seen : Seen} {r : Running} {f g : Action} (a : Reached before cfg base mid r f)
+    → Reached after cfg base seen a.done g → Reached after cfg base seen r (then_do f g)
 reached_then {r = r} {g = g} a b = record {
   done = b.done;
   grows = ext_trans r a.done b.done a.grows b.grows;
@@ -51,19 +52,23 @@ stopped_first {r = r} {f = f} g more a = record {
   shows = a.shows;
 }
 
-pub leaves_then : {T E : Type 0} {before : Running → Type 0} (after : Running → Type 0) {cfg : ServeConfig} {base : Start} {mid : Seen} (seen : Seen) {r : Running} {f : Action} (g : Action) (result : Result T E) (a : Reached before cfg base mid r f) → Leaves after cfg base seen a.done g result → Leaves after cfg base seen r (then_do f g) result
+pub leaves_then : {T E : Type 0} {before : Running → Type 0} (after : Running → Type 0) {cfg : ServeConfig} {base : Start} {mid : Seen} (seen : Seen) {r : Running} {f : Action} (g : Action)
+    (result : Result T E) (a : Reached before cfg base mid r f)
+    → Leaves after cfg base seen a.done g result → Leaves after cfg base seen r (then_do f g) result
 leaves_then after seen g (Ok x) a b = reached_then a b
 leaves_then after seen g (Err e) a b = stopped_then a b
 
 -- ---- the same action in other words
 
-pub reached_as : {stands : Running → Type 0} {cfg : ServeConfig} {base : Start} {seen : Seen} {r : Running} {f : Action} (g : Action) → ((refused : List ℕ) → f refused r ≡ g refused r) → Reached stands cfg base seen r f → Reached stands cfg base seen r g
+pub reached_as : {stands : Running → Type 0} {cfg : ServeConfig} {base : Start} {seen : Seen} {r : Running} {f : Action} (g : Action) → ((refused : List ℕ) → f refused r ≡ g refused r)
+    → Reached stands cfg base seen r f → Reached stands cfg base seen r g
 reached_as g same a = record { done = a.done; grows = a.grows; is = λ refused h. a.is refused h ∙ same refused; stands_for = a.stands_for; shows = a.shows }
 
 pub stopped_as : {cfg : ServeConfig} {base : Start} {seen : Seen} {r : Running} {f : Action} (g : Action) → ((refused : List ℕ) → f refused r ≡ g refused r) → Stopped cfg base seen r f → Stopped cfg base seen r g
 stopped_as g same a = record { done = a.done; grows = a.grows; within = λ refused h. subst (Ext a.done) (same refused) (a.within refused h); shows = a.shows }
 
-pub leaves_as : {T E : Type 0} (stands : Running → Type 0) (cfg : ServeConfig) (base : Start) (seen : Seen) (r : Running) (f g : Action) (result : Result T E) → ((refused : List ℕ) → f refused r ≡ g refused r) → Leaves stands cfg base seen r f result → Leaves stands cfg base seen r g result
+pub leaves_as : {T E : Type 0} (stands : Running → Type 0) (cfg : ServeConfig) (base : Start) (seen : Seen) (r : Running) (f g : Action) (result : Result T E)
+    → ((refused : List ℕ) → f refused r ≡ g refused r) → Leaves stands cfg base seen r f result → Leaves stands cfg base seen r g result
 leaves_as stands cfg base seen r f g (Ok x) same a = reached_as g same a
 leaves_as stands cfg base seen r f g (Err e) same a = stopped_as g same a
 
@@ -87,7 +92,8 @@ lost_of : (b : Bool) (e : Event) → is_lost (entry_of b e) ≡ b
 lost_of true e = refl
 lost_of false e = refl
 
-pub reached_make : (stands : Running → Type 0) (cfg : ServeConfig) (base : Start) (seen : Seen) (r : Running) (e : Event) (b : Bool) → stands (with_entry (entry_of b e) r) → Shows cfg base seen (with_entry (entry_of b e) r) → Reached stands cfg base seen r (make e)
+pub reached_make : (stands : Running → Type 0) (cfg : ServeConfig) (base : Start) (seen : Seen) (r : Running) (e : Event) (b : Bool) → stands (with_entry (entry_of b e) r)
+    → Shows cfg base seen (with_entry (entry_of b e) r) → Reached stands cfg base seen r (make e)
 reached_make stands cfg base seen r e b h s = record {
   done = with_entry (entry_of b e) r;
   grows = ext_entry (entry_of b e) r;
@@ -151,13 +157,15 @@ stopped_back cfg base seen r a = record {
   within = λ refused f. from refused (is_refused refused r) (a.within refused f);
   shows = a.shows;
 } where
-  from : (refused : List ℕ) (b : Bool) → Ext a.done (with_entry (if b then Lost else Step (Take (dev_of 0))) r) → Ext a.done (if b then with_entry Lost r else come_back (first_on r.node (dev_of 0)) refused (with_entry (Step (Take (dev_of 0))) r))
+  from : (refused : List ℕ) (b : Bool) → Ext a.done (with_entry (if b then Lost else Step (Take (dev_of 0))) r)
+      → Ext a.done (if b then with_entry Lost r else come_back (first_on r.node (dev_of 0)) refused (with_entry (Step (Take (dev_of 0))) r))
   from refused true x = x
   from refused false x = let taken = with_entry (Step (Take (dev_of 0))) r in ext_trans a.done taken (come_back (first_on r.node (dev_of 0)) refused taken) x (come_back_grows (first_on r.node (dev_of 0)) refused taken)
 
 -- ---- a tick
 
-pub tick_over : (stands after : Running → Type 0) (cfg : ServeConfig) (base : Start) (seen : Seen) (r : Running) (period t : ℕ) → nat_le (r.last + period) t ≡ true → (a : Reached stands cfg base seen r (make Tick)) → after (marked_running t a.done) → Reached after cfg base seen r (tick period t)
+pub tick_over : (stands after : Running → Type 0) (cfg : ServeConfig) (base : Start) (seen : Seen) (r : Running) (period t : ℕ) → nat_le (r.last + period) t ≡ true
+    → (a : Reached stands cfg base seen r (make Tick)) → after (marked_running t a.done) → Reached after cfg base seen r (tick period t)
 unfolding tick
 tick_over stands after cfg base seen r period t over a h = record {
   done = marked_running t a.done;
@@ -172,7 +180,8 @@ unfolding tick
 tick_stopped cfg base seen r period t over a = record {
   done = a.done;
   grows = a.grows;
-  within = λ refused f. subst (Ext a.done) (sym (if_true (nat_le (r.last + period) t) (marked_running t (make Tick refused r)) r over)) (ext_trans a.done (make Tick refused r) (marked_running t (make Tick refused r)) (a.within refused f) (ext_marked t (make Tick refused r)));
+  within = λ refused f. subst (Ext a.done) (sym (if_true (nat_le (r.last + period) t) (marked_running t (make Tick refused r)) r over))
+      (ext_trans a.done (make Tick refused r) (marked_running t (make Tick refused r)) (a.within refused f) (ext_marked t (make Tick refused r)));
   shows = a.shows;
 }
 
@@ -196,7 +205,8 @@ unfolding take_send
 free_is d r h refused = if_false r.held r (if is_refused refused r then holding true (with_entry Lost r) else send_taken d (first_on r.node d) (with_entry (Step (Take d)) r)) h
 
 -- the taking is refused
-pub send_lost : (stands : Running → Type 0) (cfg : ServeConfig) (base : Start) (seen : Seen) (r : Running) (d : Dev) → r.held ≡ false → stands (holding true (with_entry Lost r)) → Shows cfg base seen (with_entry Lost r) → Reached stands cfg base seen r (take_send d)
+pub send_lost : (stands : Running → Type 0) (cfg : ServeConfig) (base : Start) (seen : Seen) (r : Running) (d : Dev) → r.held ≡ false → stands (holding true (with_entry Lost r))
+    → Shows cfg base seen (with_entry Lost r) → Reached stands cfg base seen r (take_send d)
 send_lost stands cfg base seen r d h st s = record {
   done = holding true (with_entry Lost r);
   grows = ext_trans r (with_entry Lost r) (holding true (with_entry Lost r)) (ext_entry Lost r) (ext_holding true (with_entry Lost r));
@@ -257,7 +267,8 @@ match_err Q P X (Ok x) h a = absurd h
 match_err Q P X (Err e) h a = a
 
 -- an action after a turn's sendings were let free again
-pub leaves_released : {T E : Type 0} (after : Running → Type 0) (cfg : ServeConfig) (base : Start) (seen : Seen) (r : Running) (g : Action) (result : Result T E) → Leaves after cfg base seen (holding false r) g result → Leaves after cfg base seen r (then_do release g) result
+pub leaves_released : {T E : Type 0} (after : Running → Type 0) (cfg : ServeConfig) (base : Start) (seen : Seen) (r : Running) (g : Action) (result : Result T E)
+    → Leaves after cfg base seen (holding false r) g result → Leaves after cfg base seen r (then_do release g) result
 leaves_released after cfg base seen r g (Ok x) a = record {
   done = a.done;
   grows = ext_trans r (holding false r) a.done (ext_holding false r) a.grows;
@@ -272,6 +283,7 @@ leaves_released after cfg base seen r g (Err e) a = record {
   shows = a.shows;
 }
 
-pub leaves_err : {T E : Type 0} (Q : E → Type 0) (stands : Running → Type 0) (cfg : ServeConfig) (base : Start) (seen : Seen) (r : Running) (act : Action) (result : Result T E) → IsErrAnd result Q → Stopped cfg base seen r act → Leaves stands cfg base seen r act result
+pub leaves_err : {T E : Type 0} (Q : E → Type 0) (stands : Running → Type 0) (cfg : ServeConfig) (base : Start) (seen : Seen) (r : Running) (act : Action) (result : Result T E) → IsErrAnd result Q
+    → Stopped cfg base seen r act → Leaves stands cfg base seen r act result
 leaves_err Q stands cfg base seen r act (Ok x) h a = absurd h
 leaves_err Q stands cfg base seen r act (Err e) h a = a

@@ -15,7 +15,9 @@ use Rattle.node_io.specs.declared.link.Peer.{Peer}
 use Rattle.node_io.specs.declared.link.Arrival.{Arrival}
 use Rattle.node_io.specs.Links.{Heard, has_peer, next_heard}
 use Rattle.node_core_spec.specs.State.{NodeState}
-use Rattle.node_log.specs.Runs.{node_by, node_after, Running, opened_run, with_entry, marked_running, holding, with_sent, Action, then_do, is_refused, make, tick, inject_one, inject_to, arrival, hear, first_on, queued_on, come_back, take_back, loop_back, send_taken, take_send, repeat_send, flush_device, flush_to, release, flush, begin_turn, end_turn, turn, turns, node_run, peers_of, time_at}
+use Rattle.node_log.specs.Runs.{node_by, node_after, Running, opened_run, with_entry, marked_running, holding, with_sent, Action, then_do, is_refused, make, tick, inject_one, inject_to, arrival, hear}
+use Rattle.node_log.specs.Runs.{first_on, queued_on, come_back, take_back, loop_back, send_taken, take_send, repeat_send, flush_device, flush_to, release, flush, begin_turn, end_turn, turn, turns}
+use Rattle.node_log.specs.Runs.{node_run, peers_of, time_at}
 use Rattle.node_serve.specs.Sendings.{sending, sent_at, frames_of, SendsNone}
 
 -- what arrives sends nothing

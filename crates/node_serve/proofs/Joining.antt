@@ -110,7 +110,8 @@ module _ {S T : Type 0} (stands : S → ServiceState) (cfg : ServeConfig) where
 
 module _ {S T U : Type 0} (stands : S → ServiceState) (cfg : ServeConfig) where
   -- one after the other
-  pub goes_then : (f g : Action) (first mid last : Server S) (a b c : Desk) (x : T) (result : Result U ServeFault) → Goes {T = T} stands cfg f first mid a b (Ok x) → Goes stands cfg g mid last b c result → Goes stands cfg (then_do f g) first last a c result
+  pub goes_then : (f g : Action) (first mid last : Server S) (a b c : Desk) (x : T) (result : Result U ServeFault) → Goes {T = T} stands cfg f first mid a b (Ok x)
+      → Goes stands cfg g mid last b c result → Goes stands cfg (then_do f g) first last a c result
   goes_then f g first mid last a b c x result u v = record {
     keeps = keeps_both a b c u.keeps v.keeps;
     faults = faults_from a b c result u.keeps.only v.faults;
@@ -136,7 +137,8 @@ module _ {S T U : Type 0} (stands : S → ServiceState) (cfg : ServeConfig) (A :
   goes_next x y u v = goes_as stands cfg (then_do (A i) f) (A (i + 1)) first last a c (Ok y) (λ seen r st refused. next r refused) (goes_then stands cfg (A i) f first mid last a b c x (Ok y) u v)
 
   -- a step that stopped stops all
-  pub goes_no_more : GoesUp A → (m : ℕ) → i < m → (x : T) (fault : ServeFault) → Goes {T = T} stands cfg (A i) first mid a b (Ok x) → Goes {T = U} stands cfg f mid last b c (Err fault) → Goes {T = U} stands cfg (A m) first last a c (Err fault)
+  pub goes_no_more : GoesUp A → (m : ℕ) → i < m → (x : T) (fault : ServeFault) → Goes {T = T} stands cfg (A i) first mid a b (Ok x) → Goes {T = U} stands cfg f mid last b c (Err fault)
+      → Goes {T = U} stands cfg (A m) first last a c (Err fault)
   goes_no_more up m h x fault u v = record {
     keeps = keeps_both a b c u.keeps v.keeps;
     faults = faults_from {T = U} a b c (Err fault) u.keeps.only v.faults;
@@ -150,14 +152,16 @@ pub no_link : LinkState
 no_link = record { observable = true; script = []; sent = []; binds = []; bound = []; faults = 0 }
 
 -- a step, with what it gave or without
-pub goes_made : {S T : Type 0} (stands : S → ServiceState) (cfg : ServeConfig) (e : Event) (first after : Server S) (a b : Desk) (made : StepOutcome) (x : T) → SendsNone e → MakesStep stands cfg e first after a b (Ok made) → Goes {T = T} stands cfg (make e) first after a b (Ok x)
+pub goes_made : {S T : Type 0} (stands : S → ServiceState) (cfg : ServeConfig) (e : Event) (first after : Server S) (a b : Desk) (made : StepOutcome) (x : T) → SendsNone e
+    → MakesStep stands cfg e first after a b (Ok made) → Goes {T = T} stands cfg (make e) first after a b (Ok x)
 goes_made stands cfg e first after a b made x none m = record {
   keeps = m.keeps;
   faults = tt;
   run = λ seen base r st sh. made_reached stands cfg base (seen_at a) (seen_at b) r e made after none sh (m.run seen base r st sh);
 }
 
-pub goes_unmade : {S T : Type 0} (stands : S → ServiceState) (cfg : ServeConfig) (e : Event) (first after : Server S) (a b : Desk) (fault : ServeFault) → MakesStep stands cfg e first after a b (Err fault) → Goes {T = T} stands cfg (make e) first after a b (Err fault)
+pub goes_unmade : {S T : Type 0} (stands : S → ServiceState) (cfg : ServeConfig) (e : Event) (first after : Server S) (a b : Desk) (fault : ServeFault)
+    → MakesStep stands cfg e first after a b (Err fault) → Goes {T = T} stands cfg (make e) first after a b (Err fault)
 goes_unmade stands cfg e first after a b fault m = record { keeps = m.keeps; faults = m.faults; run = m.run }
 
 -- no step was made, by running out of memory

@@ -43,7 +43,8 @@ pub loop_next : {before after : Running → Type 0} {cfg : ServeConfig} {base : 
 loop_next A f i next a b = reached_as (A (i + 1)) next (reached_then a b)
 
 -- a step that stopped stops all
-pub loop_stops : {before : Running → Type 0} {cfg : ServeConfig} {base : Start} {mid seen : Seen} {r : Running} (A : ℕ → Action) → GoesUp A → (f : Action) (i m : ℕ) → i < m → ((refused : List ℕ) → then_do (A i) f refused r ≡ A (i + 1) refused r)
+pub loop_stops : {before : Running → Type 0} {cfg : ServeConfig} {base : Start} {mid seen : Seen} {r : Running} (A : ℕ → Action) → GoesUp A → (f : Action) (i m : ℕ) → i < m
+    → ((refused : List ℕ) → then_do (A i) f refused r ≡ A (i + 1) refused r)
     → (a : Reached before cfg base mid r (A i)) → Stopped cfg base seen a.done f → Stopped cfg base seen r (A m)
 loop_stops {r = r} A up f i m h next a b = stopped_more (A (i + 1)) (A m) (λ refused. goes_to A up (i + 1) m (omega (arith, h)) refused r) (stopped_as (A (i + 1)) next (stopped_then a b))
 

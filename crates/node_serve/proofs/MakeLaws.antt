@@ -1,5 +1,6 @@
 -- A step that was made and written, or not.
-use Rattle.std.proofs.Common.{◌≡◌, ◌≢◌, ℕ, suc, ◌+◌, ◌<◌, ◌==◌, ◌⊎◌, inl, inr, get_or, Bool, true, false, if◌then◌else◌, nat_le, List, [], ◌∷◌, ◌++◌, length, drop, slice_get, Option, Some, None, Result, Ok, Err, MatchResult, refl, sym, ◌∙◌, ap, subst, arith, length-append, append-nil}
+use Rattle.std.proofs.Common.{◌≡◌, ◌≢◌, ℕ, suc, ◌+◌, ◌<◌, ◌==◌, ◌⊎◌, inl, inr, get_or, Bool, true, false, if◌then◌else◌, nat_le, List, [], ◌∷◌, ◌++◌, length, drop, slice_get, Option, Some, None}
+use Rattle.std.proofs.Common.{Result, Ok, Err, MatchResult, refl, sym, ◌∙◌, ap, subst, arith, length-append, append-nil}
 use Rattle.std.proofs.lemmas.Bool.Decides.{nat_tests}
 use Rattle.plan_base.specs.declared.ids.Dev.{Dev}
 use Rattle.plan_base.specs.declared.ids.Host.{Host}
@@ -23,7 +24,8 @@ use Rattle.node_core_spec.specs.State.{NodeState}
 use Rattle.node_core.specs.declared.node.Node.{Node}
 use Rattle.node_core.specs.Stands.{NodeStands}
 use Rattle.node_core_parts.specs.Queued.{queued_at}
-use Rattle.node_log.specs.Runs.{Running, acts_of, node_by, entries_at, with_entry, holding, marked_running, then_do, make, first_on, inject_one, inject_to, hear, frames_in, queued_on, come_back, take_back, loop_back, send_taken, take_send, repeat_send, flush_device, flush_to, turn, time_at, turns, peers_of}
+use Rattle.node_log.specs.Runs.{Running, acts_of, node_by, entries_at, with_entry, holding, marked_running, then_do, make, first_on, inject_one, inject_to, hear, frames_in, queued_on, come_back}
+use Rattle.node_log.specs.Runs.{take_back, loop_back, send_taken, take_send, repeat_send, flush_device, flush_to, turn, time_at, turns, peers_of}
 use Rattle.node_log.specs.Texts.{lines_text}
 use Rattle.node_log.specs.Follow.{entry_of}
 use Rattle.node_serve.specs.Sendings.{sending, sent_at, frames_of, SendsNone}
@@ -84,22 +86,28 @@ module _ {S : Type 0} (stands : S → ServiceState) (cfg : ServeConfig) (base : 
 
 -- ---- parts of a server
 
-pub stands_marked : {S : Type 0} (stands : S → ServiceState) (server after : Server S) (r : Running) (t : ℕ) → StandsFor stands server r → after.node ≡ server.node → after.last ≡ t → after.held ≡ server.held → after.steps ≡ server.steps → StandsFor stands after (marked_running t r)
+pub stands_marked : {S : Type 0} (stands : S → ServiceState) (server after : Server S) (r : Running) (t : ℕ) → StandsFor stands server r → after.node ≡ server.node → after.last ≡ t
+    → after.held ≡ server.held → after.steps ≡ server.steps → StandsFor stands after (marked_running t r)
 stands_marked stands server after r t st n l h k = record { node = subst (λ x. NodeStands stands x r.node) (sym n) st.node; last = l; held = h ∙ st.held; steps = k ∙ st.steps }
 
-pub stands_holding : {S : Type 0} (stands : S → ServiceState) (server after : Server S) (r : Running) (b : Bool) → StandsFor stands server r → after.node ≡ server.node → after.last ≡ server.last → after.held ≡ b → after.steps ≡ server.steps → StandsFor stands after (holding b r)
+pub stands_holding : {S : Type 0} (stands : S → ServiceState) (server after : Server S) (r : Running) (b : Bool) → StandsFor stands server r → after.node ≡ server.node → after.last ≡ server.last
+    → after.held ≡ b → after.steps ≡ server.steps → StandsFor stands after (holding b r)
 stands_holding stands server after r b st n l h k = record { node = subst (λ x. NodeStands stands x r.node) (sym n) st.node; last = l ∙ st.last; held = h; steps = k ∙ st.steps }
 
 -- ---- what a step gave
 
 -- a refused taking for the node itself
-pub back_refused : {S : Type 0} (stands : S → ServiceState) (cfg : ServeConfig) (base : Start) (old seen : Seen) (r : Running) (server : Server S) → Shows cfg base old r → Makes stands cfg base seen r (Take (dev_of 0)) Lost server → Reached (StandsFor stands server) cfg base seen r take_back
+pub back_refused : {S : Type 0} (stands : S → ServiceState) (cfg : ServeConfig) (base : Start) (old seen : Seen) (r : Running) (server : Server S) → Shows cfg base old r
+    → Makes stands cfg base seen r (Take (dev_of 0)) Lost server → Reached (StandsFor stands server) cfg base seen r take_back
 back_refused stands cfg base old seen r server sh m = back_lost (StandsFor stands server) cfg base seen r m.stands_for (shows_unsent cfg base old seen entry.Lost r sh refl m.sees)
 
 -- a refused taking for a neighbour
-pub send_refused : {S : Type 0} (stands : S → ServiceState) (cfg : ServeConfig) (base : Start) (old seen : Seen) (r : Running) (d : Dev) (server after : Server S) → r.held ≡ false → Shows cfg base old r → Makes stands cfg base seen r (Take d) Lost server
+pub send_refused : {S : Type 0} (stands : S → ServiceState) (cfg : ServeConfig) (base : Start) (old seen : Seen) (r : Running) (d : Dev) (server after : Server S) → r.held ≡ false
+    → Shows cfg base old r → Makes stands cfg base seen r (Take d) Lost server
     → after.node ≡ server.node → after.last ≡ server.last → after.held ≡ true → after.steps ≡ server.steps → Reached (StandsFor stands after) cfg base seen r (take_send d)
-send_refused stands cfg base old seen r d server after h sh m n l k s = send_lost (StandsFor stands after) cfg base seen r d h (stands_holding stands server after (with_entry entry.Lost r) true m.stands_for n l k s) (shows_unsent cfg base old seen entry.Lost r sh refl m.sees)
+send_refused stands cfg base old seen r d server after h sh m n l k s =
+    send_lost (StandsFor stands after) cfg base seen r d h
+    (stands_holding stands server after (with_entry entry.Lost r) true m.stands_for n l k s) (shows_unsent cfg base old seen entry.Lost r sh refl m.sees)
 
 sent_by : (d : Dev) (x : Option PlainStamped) (r : Running) → (send_taken d x r).sent ≡ r.sent ++ sending d x
 sent_by d None r = sym (append-nil r.sent)
@@ -109,7 +117,8 @@ stands_sent : {S : Type 0} (stands : S → ServiceState) (server : Server S) (d 
 stands_sent stands server d None r st = st
 stands_sent stands server d (Some x) r st = record { node = st.node; last = st.last; held = st.held; steps = st.steps }
 
-sees_taken : (cfg : ServeConfig) (base : Start) (old new : Seen) (d : Dev) (x : Option PlainStamped) (r : Running) → Sees cfg base old r → new.files ≡ old.files → new.target ≡ old.target → new.taken ≡ old.taken → new.sent ≡ old.sent ++ sending d x → Sees cfg base new (send_taken d x r)
+sees_taken : (cfg : ServeConfig) (base : Start) (old new : Seen) (d : Dev) (x : Option PlainStamped) (r : Running) → Sees cfg base old r → new.files ≡ old.files → new.target ≡ old.target
+    → new.taken ≡ old.taken → new.sent ≡ old.sent ++ sending d x → Sees cfg base new (send_taken d x r)
 sees_taken cfg base old new d None r h f t k s = record {
   grows = h.grows;
   log = subst (λ y. ChangesOnly base.files y cfg.log (run_log cfg r)) (sym f) h.log;
@@ -129,7 +138,9 @@ frames_taken cfg base old r d x h there e =
     ∙ sym (frames_next base.node (entry.Step (Take d)) r h.sees.grows) ∙ ap (frames_of base.node) (sym (sent_events d x taken))
 
 -- a frame that was taken, and sent or not
-pub send_result : {S T E : Type 0} (stands : S → ServiceState) (cfg : ServeConfig) (base : Start) (before old new : Seen) (r : Running) (d : Dev) (x : Option PlainStamped) (server : Server S) (result : Result T E) → r.held ≡ false → 0 < d.0 → Shows cfg base before r → Makes stands cfg base old r (Take d) (Took x) server
+pub send_result : {S T E : Type 0} (stands : S → ServiceState) (cfg : ServeConfig) (base : Start) (before old new : Seen) (r : Running) (d : Dev) (x : Option PlainStamped) (server : Server S)
+    (result : Result T E)
+    → r.held ≡ false → 0 < d.0 → Shows cfg base before r → Makes stands cfg base old r (Take d) (Took x) server
     → MatchResult result (λ _. new.sent ≡ old.sent ++ sending d x) (λ _. new.sent ≡ old.sent) → new.files ≡ old.files → new.target ≡ old.target → new.taken ≡ old.taken → Leaves (StandsFor stands server) cfg base new r (take_send d) result
 send_result stands cfg base before old new r d x server (Ok y) h there sh m s f t k =
     let taken = with_entry (entry.Step (Take d)) r in
@@ -164,7 +175,8 @@ pub inject_makes : (turn : ℕ) (x : Injection) (r : Running) → (x.turn == tur
 inject_makes turn x r h refused = sym (if_is (x.turn == turn) true (make (Inject x.chunk x.bound x.handler) refused r) r h)
 
 -- one more injection
-pub inject_next : (turn : ℕ) (at : List Injection) (i : ℕ) (x : Injection) (r : Running) → slice_get at i ≡ Some x → (refused : List ℕ) → then_do (inject_to turn at i) (inject_one turn (Some x)) refused r ≡ inject_to turn at (i + 1) refused r
+pub inject_next : (turn : ℕ) (at : List Injection) (i : ℕ) (x : Injection) (r : Running) → slice_get at i ≡ Some x → (refused : List ℕ)
+    → then_do (inject_to turn at i) (inject_one turn (Some x)) refused r ≡ inject_to turn at (i + 1) refused r
 unfolding inject_to
 inject_next turn at i x r h refused = ap (λ o. inject_one turn o refused (inject_to turn at i refused r)) (sym h) ∙ ap (λ n. inject_to turn at n refused r) (add_one i)
 
@@ -184,7 +196,8 @@ same_count None = refl
 same_count (Some lane) = refl
 
 -- the frames queued on a device
-pub count_is : {S : Type 0} (stands : S → ServiceState) (server : Server S) (r : Running) (d : Dev) (n : ℕ) → StandsFor stands server r → ((s : NodeState) → NodeStands stands server.node s → n ≡ queued_at (slice_get s.queues d.0)) → n ≡ queued_on r.node d
+pub count_is : {S : Type 0} (stands : S → ServiceState) (server : Server S) (r : Running) (d : Dev) (n : ℕ) → StandsFor stands server r
+    → ((s : NodeState) → NodeStands stands server.node s → n ≡ queued_at (slice_get s.queues d.0)) → n ≡ queued_on r.node d
 count_is stands server r d n st h = h r.node st.node ∙ same_count (slice_get r.node.queues d.0)
 
 pub no_back : (r : Running) (n : ℕ) → n ≡ queued_on r.node (dev_of 0) → n ≡ 0 → (refused : List ℕ) → loop_back refused r ≡ r
@@ -232,7 +245,8 @@ pub shows_held : (cfg : ServeConfig) (base : Start) (seen : Seen) (r : Running) 
 shows_held cfg base seen r s = shows_holding cfg base seen false r s
 
 -- what a step gave, by its case
-pub made_as : {S : Type 0} (stands : S → ServiceState) (cfg : ServeConfig) (base : Start) (seen : Seen) (r : Running) (e : Event) (made now : StepOutcome) (server : Server S) → made ≡ now → Makes stands cfg base seen r e made server → Makes stands cfg base seen r e now server
+pub made_as : {S : Type 0} (stands : S → ServiceState) (cfg : ServeConfig) (base : Start) (seen : Seen) (r : Running) (e : Event) (made now : StepOutcome) (server : Server S) → made ≡ now
+    → Makes stands cfg base seen r e made server → Makes stands cfg base seen r e now server
 made_as stands cfg base seen r e made now server same m = subst (λ x. Makes stands cfg base seen r e x server) same m
 
 -- no frame was queued for the node itself

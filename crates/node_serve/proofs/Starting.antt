@@ -218,7 +218,8 @@ serves_none cfg node n a = record {
 }
 
 -- the opening failed
-pub serves_unopened : (cfg : ServeConfig) (node : NodeState) (n : ℕ) (a b : Desk) (clock : ClockState) (fault : ServeFault) → Opens {T = Unit {0}} cfg a b (Err fault) → Serves {T = Unit {0}} cfg node n (with_clock a clock) (with_clock b clock) (Err fault)
+pub serves_unopened : (cfg : ServeConfig) (node : NodeState) (n : ℕ) (a b : Desk) (clock : ClockState) (fault : ServeFault) → Opens {T = Unit {0}} cfg a b (Err fault)
+    → Serves {T = Unit {0}} cfg node n (with_clock a clock) (with_clock b clock) (Err fault)
 serves_unopened cfg node n a b clock fault u = record {
   only = u.only.files;
   out_later = u.only.out_later;
@@ -240,7 +241,9 @@ bound_then cfg a b c (Ok y) h same = λ seen. same ∙ h seen
 bound_then cfg a b c (Err e) h same = λ seen. inr (same ∙ h seen)
 
 -- the node was opened, and served
-pub serves_opened : {S : Type 0} (stands : S → ServiceState) (cfg : ServeConfig) (node : NodeState) (n : ℕ) (server : Server S) (a b : Desk) (clock : ClockState) (c : Serving) (result : Result (Unit {0}) ServeFault) → StandsFor stands server (opened_run node)
+pub serves_opened : {S : Type 0} (stands : S → ServiceState) (cfg : ServeConfig) (node : NodeState) (n : ℕ) (server : Server S) (a b : Desk) (clock : ClockState) (c : Serving)
+    (result : Result (Unit {0}) ServeFault)
+    → StandsFor stands server (opened_run node)
     → Opens {T = Unit {0}} cfg a b (Ok tt) → Finishes stands cfg n server (with_clock b clock) c result → Serves cfg node n (with_clock a clock) c result
 serves_opened stands cfg node n server a b clock c result st u f = record {
   only = only_both a.files b.files c.files u.only.files f.keeps.only.files;

@@ -69,7 +69,8 @@ sends_none d x l is = record {
 }
 
 -- it was sent
-pub sends_one : {T E : Type 0} (d : Dev) (x : Option PlainStamped) (p : PlainStamped) (bytes : List ℕ) (old new : LinkState) (y : T) → x ≡ Some p → bytes ≡ stamped_bytes p → Sends {T = T} {E = E} (d, bytes) old new (Ok y) → SendsTaken {T = Unit {0}} d x old new (Ok tt)
+pub sends_one : {T E : Type 0} (d : Dev) (x : Option PlainStamped) (p : PlainStamped) (bytes : List ℕ) (old new : LinkState) (y : T) → x ≡ Some p → bytes ≡ stamped_bytes p
+    → Sends {T = T} {E = E} (d, bytes) old new (Ok y) → SendsTaken {T = Unit {0}} d x old new (Ok tt)
 sends_one d x p bytes old new y is spelled s = record {
   observable = s.observable;
   script = s.script;

@@ -83,7 +83,8 @@ used_one (Err e) old new h = inr h
 -- ---- the sendings of a turn
 
 -- sendings are let free again
-pub goes_released : {S T : Type 0} (stands : S → ServiceState) (cfg : ServeConfig) (act : Action) (server free after : Server S) (a b : Desk) (result : Result T ServeFault) → free.node ≡ server.node → free.last ≡ server.last → free.held ≡ false → free.steps ≡ server.steps
+pub goes_released : {S T : Type 0} (stands : S → ServiceState) (cfg : ServeConfig) (act : Action) (server free after : Server S) (a b : Desk) (result : Result T ServeFault) → free.node ≡ server.node
+    → free.last ≡ server.last → free.held ≡ false → free.steps ≡ server.steps
     → Goes stands cfg act free after a b result → Goes stands cfg (then_do release act) server after a b result
 goes_released stands cfg act server free after a b result n l h k u = record {
   keeps = u.keeps;
@@ -118,7 +119,8 @@ module _ {S T : Type 0} (stands : S → ServiceState) (cfg : ServeConfig) (i : �
   clock_kept = u.told.observable ∙ g.clock
 
 -- one more turn
-pub turns_more : {S T : Type 0} (stands : S → ServiceState) (cfg : ServeConfig) (i : ℕ) (first mid last : Server S) (a b c : Serving) (x y : T) (g : GoesTurns {T = T} stands cfg i first mid a b (Ok x)) (u : GoesTurn {T = T} stands cfg (i + 1) mid last b c (Ok y))
+pub turns_more : {S T : Type 0} (stands : S → ServiceState) (cfg : ServeConfig) (i : ℕ) (first mid last : Server S) (a b c : Serving) (x y : T)
+    (g : GoesTurns {T = T} stands cfg i first mid a b (Ok x)) (u : GoesTurn {T = T} stands cfg (i + 1) mid last b c (Ok y))
     → (IsTrue a.clock.observable → b.clock.last ≡ time_at a.clock.last a.clock.answers i) → GoesTurns {T = T} stands cfg (i + 1) first last a c (Ok y)
 turns_more stands cfg i first mid last a b c x y g u last_is = record {
   keeps = keeps_both (desk_of a) (desk_of b) (desk_of c) g.keeps u.goes.keeps;
@@ -131,14 +133,16 @@ turns_more stands cfg i first mid last a b c x y g u last_is = record {
 }
 
 -- a turn that failed
-pub turns_stop : {S T : Type 0} (stands : S → ServiceState) (cfg : ServeConfig) (i n : ℕ) (first mid last : Server S) (a b c : Serving) (x : T) (fault : ServeFault) → i < n → (g : GoesTurns {T = T} stands cfg i first mid a b (Ok x)) (u : GoesTurn {T = T} stands cfg (i + 1) mid last b c (Err fault))
+pub turns_stop : {S T : Type 0} (stands : S → ServiceState) (cfg : ServeConfig) (i n : ℕ) (first mid last : Server S) (a b c : Serving) (x : T) (fault : ServeFault) → i < n
+    → (g : GoesTurns {T = T} stands cfg i first mid a b (Ok x)) (u : GoesTurn {T = T} stands cfg (i + 1) mid last b c (Err fault))
     → (IsTrue a.clock.observable → b.clock.last ≡ time_at a.clock.last a.clock.answers i) → GoesTurns {T = T} stands cfg n first last a c (Err fault)
 turns_stop {T = T} stands cfg i n first mid last a b c x fault within g u last_is = record {
   keeps = keeps_both (desk_of a) (desk_of b) (desk_of c) g.keeps u.goes.keeps;
   faults = faults_from {T = T} (desk_of a) (desk_of b) (desk_of c) (Err fault) g.keeps.only u.goes.faults;
   clock = clock_kept stands cfg i first mid last a b c (Err fault) x g u last_is;
   goes = λ seen. goes_no_more stands cfg (turns cfg a.link.script a.clock.last a.clock.answers) (the_turn stands cfg i first mid last a b c (Err fault) x g u last_is) i first mid last (desk_of a) (desk_of b) (desk_of c)
-      (next_is stands cfg i first mid last a b c (Err fault) x g u last_is) (turns_up cfg a.link.script a.clock.last a.clock.answers) n within x fault (g.goes seen) (turn_goes stands cfg i first mid last a b c (Err fault) x g u last_is seen);
+      (next_is stands cfg i first mid last a b c (Err fault) x g u last_is) (turns_up cfg a.link.script a.clock.last a.clock.answers) n within x fault (g.goes seen)
+      (turn_goes stands cfg i first mid last a b c (Err fault) x g u last_is seen);
   script = λ seen. used_more i n a.link.script b.link.script c.link.script within (g.script seen) (u.script (subst IsTrue (sym g.keeps.only.link) seen));
   answers = λ seen. used_more i n a.clock.answers b.clock.answers c.clock.answers within (g.answers seen) (inr (u.told.answers (subst IsTrue (sym g.clock) seen)));
 }

@@ -20,7 +20,8 @@ pub record StandsFor {S : Type 0} (stands : S → ServiceState) (server : Server
   pub steps : server.steps ≡ length r.events
 
 -- a step was made and written: it was refused, or gave this frame, which isn't sent yet
-pub record Makes {S : Type 0} (stands : S → ServiceState) (cfg : ServeConfig) (base : Start) (seen : Seen) (r : Running) (e : Event) (made : StepOutcome) (server : Server S) : Type 0 where
+pub record Makes {S : Type 0} (stands : S → ServiceState) (cfg : ServeConfig) (base : Start) (seen : Seen) (r : Running) (e : Event)
+    (made : StepOutcome) (server : Server S) : Type 0 where
   pub stands_for : StandsFor stands server (with_entry (entry_of (was_lost made) e) r)
   pub sees : Sees cfg base seen (with_entry (entry_of (was_lost made) e) r)
   pub frame : was_lost made ≡ false → frame_of made ≡ (node_step r.node e).frame

@@ -61,7 +61,8 @@ pub record TookTexts (config : NodeConfig) (number : ℕ) (e : Event) (acts : Ac
   pub made : texts.made ≡ Took acts.frame
 
 -- a step with this number of a node that began so: its log line, its lines, the node afterwards, and the frame that it took
-pub record Written {S : Type 0} (stands : S → ServiceState) (config : NodeConfig) (number : ℕ) (s : NodeState) (e : Event) (texts : StepTexts) (new : Node S) : Type 0 where
+pub record Written {S : Type 0} (stands : S → ServiceState) (config : NodeConfig) (number : ℕ) (s : NodeState) (e : Event)
+    (texts : StepTexts) (new : Node S) : Type 0 where
   pub line : texts.line ≡ entry_text (entry_of (was_lost texts.made) e)
   pub lines : texts.lines ≡ lines_text config.here (entries_at number (acts_of s (entry_of (was_lost texts.made) e)))
   pub node : NodeStands stands new (node_by s (entry_of (was_lost texts.made) e))

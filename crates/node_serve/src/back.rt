@@ -1,3 +1,4 @@
+//! Frames that a node sends to itself.
 ghost use Rattle.plan_base.specs.declared.stamp.Version.{Version};
 ghost use Rattle.std.specs.Prelude.{◌≡◌, IsTrue};
 ghost use Rattle.network_config.specs.NodeRules.{KeepsNodeEvent};

@@ -1,3 +1,4 @@
+//! Sends what is queued over the link.
 ghost use Rattle.std.specs.Prelude.{◌≡◌, ◌==◌};
 ghost use Rattle.std.specs.List.{list_any};
 ghost use Rattle.node_io.specs.Links.{has_peer, HasPeer};

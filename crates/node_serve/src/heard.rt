@@ -1,3 +1,4 @@
+//! What the link hears arrives at the node.
 ghost use Rattle.plan_base.specs.declared.stamp.Version.{Version};
 ghost use Rattle.std.specs.Prelude.{◌≡◌, Some, IsTrue, IfSome};
 ghost use Rattle.network_config.specs.NodeRules.{KeepsNodeEvent};

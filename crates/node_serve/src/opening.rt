@@ -1,3 +1,4 @@
+//! How serving begins: peers, room, the link and the head of the log.
 ghost use Rattle.std.specs.Prelude.{◌≡◌, ◌∷◌, map, IfOk, length};
 ghost use Rattle.network_config.specs.NodeRules.{KeepsServe};
 ghost use Rattle.network_config.specs.Hosts.{dev_of};

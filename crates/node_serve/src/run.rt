@@ -1,3 +1,4 @@
+//! Runs turns.
 ghost use Rattle.std.specs.Prelude.{◌≡◌, length};
 ghost use Rattle.node_serve.specs.Desks.{desk, serving};
 ghost use Rattle.node_serve.specs.Goes.{CanTurn, GoesTurn, GoesTurns};

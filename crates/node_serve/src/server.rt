@@ -1,3 +1,4 @@
+//! A serving node: it makes steps, and writes log and trace.
 ghost use Rattle.std.specs.Prelude.{◌≡◌, ◌+◌, ◌≤◌, IsTrue, IfSome, IfOk};
 ghost use Rattle.network_config.specs.declared.event.Event.{Event as EventOf};
 ghost use Rattle.network_config.specs.declared.event.Event.TheVariants as event;

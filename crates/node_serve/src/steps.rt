@@ -1,3 +1,4 @@
+//! A step of a serving node with its texts.
 ghost use Rattle.plan_base.specs.declared.stamp.Version.{Version};
 ghost use Rattle.std.specs.Prelude.{◌≡◌, ◌∷◌, [], IfOk, IfSome, OnOk};
 ghost use Rattle.network_config.specs.declared.event.Event.{Event as EventOf};

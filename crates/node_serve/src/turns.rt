@@ -1,3 +1,4 @@
+//! What a turn does: ticks, injections, hearing and sending.
 ghost use Rattle.plan_base.specs.declared.stamp.Version.{Version as VersionOf};
 ghost use Rattle.std.specs.Prelude.{◌≡◌, ◌+◌, Some, IsTrue, IfSome, length, nat_le};
 ghost use Rattle.network_config.specs.NodeRules.{KeepsNodeEvent, KeepsServe, KeepsInject};

@@ -24,7 +24,8 @@ use Rattle.service_api.specs.declared.advert.AdvertRow.{AdvertRow}
 use Rattle.packet_frame.specs.Bytes.{row_bytes}
 use Rattle.packet_frame.specs.Faults.{of_spelling, of_number}
 use Rattle.packet_frame.specs.Fields.{told_fault, judged_field, number, bound_at, route_at, carried_at, count_at, row_host_at, cost_at, rows_from, rows_at}
-use Rattle.packet_frame.specs.Forms.{FrameItem, a_host, a_serial, a_bound, a_route, a_carried_chunk, some_rows, rows_behind, a_cost, Field, Fields, done, ◌&◌, FieldValues, reads, bytes_of_fields, AllFit, items_of_fields, host_field, serial_field, bound_field, route_field, chunk_field, rows_field}
+use Rattle.packet_frame.specs.Forms.{FrameItem, a_host, a_serial, a_bound, a_route, a_carried_chunk, some_rows, rows_behind, a_cost, Field, Fields, done, ◌&◌, FieldValues, reads, bytes_of_fields}
+use Rattle.packet_frame.specs.Forms.{AllFit, items_of_fields, host_field, serial_field, bound_field, route_field, chunk_field, rows_field}
 use Rattle.service_api.specs.Adverts.{is_above, RowsFit}
 use Rattle.packet_frame.specs.Frames.{frame_step}
 

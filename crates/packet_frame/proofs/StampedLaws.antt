@@ -144,7 +144,11 @@ spelled_is Form.Packet xs =
 spelled_is Form.Handled xs =
     let s : Stamp = record { boot = xs.0; link = xs.1.0 } in
     let y = xs.1.1 in
-    ap (λ l. stamped_head 4 s ++ (to_be_bytes w32 y.0 ++ (to_be_bytes w64 y.1.0 ++ (to_be_bytes w32 y.1.1.0 ++ (to_be_bytes w32 y.1.1.1.0 ++ ((length y.1.1.1.1.0 ∷ y.1.1.1.1.0) ++ ((length y.1.1.1.1.1.0 ∷ y.1.1.1.1.1.0) ++ l))))))) (sym (append-nil _))
+    ap (λ l.
+    stamped_head 4 s
+    ++ (to_be_bytes w32 y.0 ++
+    (to_be_bytes w64 y.1.0 ++
+    (to_be_bytes w32 y.1.1.0 ++ (to_be_bytes w32 y.1.1.1.0 ++ ((length y.1.1.1.1.0 ∷ y.1.1.1.1.0) ++ ((length y.1.1.1.1.1.0 ∷ y.1.1.1.1.1.0) ++ l))))))) (sym (append-nil _))
 spelled_is Form.Advert xs =
     let s : Stamp = record { boot = xs.0; link = xs.1.0 } in
     ap (λ l. stamped_head 2 s ++ (to_be_bytes w32 xs.1.1.0 ++ l)) (sym (append-nil _))

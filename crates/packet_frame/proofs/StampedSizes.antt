@@ -58,7 +58,11 @@ handled_spelled s p n bound family dest route chunk bytes f h m a d r c source s
     let P : PlainFrame → Type 0 = λ x. SpellsStamped bytes (record { stamp = Some s; frame = x }) in
     let q : Packet = record { family = family; dest = dest; bound = bound; route = route; chunk = chunk; handler = Some n } in
     let is : bytes ≡ stamped_bytes (record { stamp = Some s; frame = PlainFrame.Packet q }) =
-    e ∙ ap (λ l. stamped_head 4 s ++ (to_be_bytes w32 family.source.0 ++ (to_be_bytes w64 family.serial ++ (to_be_bytes w32 dest.0 ++ (to_be_bytes w32 bound ++ (length route ∷ l)))))) (append_assoc route (name_bytes n) (chunk_bytes chunk)) in
+    e
+    ∙ ap (λ l.
+    stamped_head 4 s
+    ++ (to_be_bytes w32 family.source.0 ++
+    (to_be_bytes w64 family.serial ++ (to_be_bytes w32 dest.0 ++ (to_be_bytes w32 bound ++ (length route ∷ l)))))) (append_assoc route (name_bytes n) (chunk_bytes chunk)) in
     let size = ap length is in
     let one = route_short route name in
     let three = route_short n m in

@@ -25,7 +25,9 @@ head_bytes kind = to_be_bytes w32 letters ++ (1 ∷ kind ∷ [])
 
 abbrev pub packet_bytes : Packet → List ℕ
 packet_bytes p =
-    to_be_bytes w32 p.family.source.0 ++ (to_be_bytes w64 p.family.serial ++ (to_be_bytes w32 p.dest.0 ++ (to_be_bytes w32 p.bound ++ (name_bytes p.route ++ chunk_bytes p.chunk))))
+    to_be_bytes w32 p.family.source.0
+    ++ (to_be_bytes w64 p.family.serial ++
+    (to_be_bytes w32 p.dest.0 ++ (to_be_bytes w32 p.bound ++ (name_bytes p.route ++ chunk_bytes p.chunk))))
 
 -- the spelling of a frame
 unfoldable pub frame_bytes : PlainFrame → List ℕ

@@ -9,7 +9,9 @@ use Rattle.packet_frame.specs.declared.fault.FrameFault.{FrameFault}
 use Rattle.packet_frame.specs.declared.frame.PlainFrame.{PlainFrame}
 use Rattle.packet_frame.specs.Bytes.{frame_bytes}
 use Rattle.packet_frame.specs.Fields.{number, magic_at, version_at, kind_at, bound_at, route_at, carried_at, count_at, row_host_at, cost_at}
-use Rattle.packet_frame.specs.Forms.{FrameItem, the_magic, the_version, the_kind, a_host, a_serial, a_bound, a_route, a_carried_chunk, some_rows, rows_behind, a_cost, the_end, either_version, the_form, items_of_fields, forms, FrameFits, IsPlain}
+use Rattle.packet_frame.specs.Forms.{FrameItem, the_magic, the_version, the_kind, a_host, a_serial, a_bound, a_route, a_carried_chunk}
+use Rattle.packet_frame.specs.Forms.{some_rows, rows_behind, a_cost, the_end, either_version, the_form, items_of_fields, forms, FrameFits}
+use Rattle.packet_frame.specs.Forms.{IsPlain}
 use Rattle.packet_frame.specs.Versions.{either_version_at, form_at, stamped_forms}
 
 -- the item was a field of its own

@@ -29,7 +29,9 @@ stamped_head kind s = (to_be_bytes w32 letters ++ (2 ∷ kind ∷ [])) ++ (to_be
 -- what a packet with this handler has behind its stamp
 abbrev pub handled_bytes : Packet → Name → List ℕ
 handled_bytes p n =
-    to_be_bytes w32 p.family.source.0 ++ (to_be_bytes w64 p.family.serial ++ (to_be_bytes w32 p.dest.0 ++ (to_be_bytes w32 p.bound ++ (name_bytes p.route ++ (name_bytes n ++ chunk_bytes p.chunk)))))
+    to_be_bytes w32 p.family.source.0
+    ++ (to_be_bytes w64 p.family.serial ++
+    (to_be_bytes w32 p.dest.0 ++ (to_be_bytes w32 p.bound ++ (name_bytes p.route ++ (name_bytes n ++ chunk_bytes p.chunk)))))
 
 -- a packet is of kind 1 without a handler, and of kind 4 with one
 abbrev pub packet_with : Stamp → Packet → Option Name → List ℕ

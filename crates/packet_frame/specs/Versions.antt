@@ -9,7 +9,8 @@ use Rattle.packet_frame.specs.declared.frame.PlainStamped.{PlainStamped}
 use Rattle.packet_frame.specs.declared.kind.Kind.{Kind}
 use Rattle.packet_frame.specs.declared.kind.Form.{Form}
 use Rattle.packet_frame.specs.Fields.{Reader, number, judged_field, magic_at}
-use Rattle.packet_frame.specs.Forms.{Fields, done, ◌&◌, host_field, bound_field, route_field, chunk_field, Fields, ◌&◌, FieldValues, reads, serial_field, forms, frame_of_fields}
+use Rattle.packet_frame.specs.Forms.{Fields, done, ◌&◌, host_field, bound_field, route_field, chunk_field, Fields, ◌&◌, FieldValues, reads}
+use Rattle.packet_frame.specs.Forms.{serial_field, forms, frame_of_fields}
 
 -- ---- what a node of version 2 reads
 
@@ -21,7 +22,9 @@ either_version_at s = do
 
 -- the form of a version and a kind
 abbrev pub form_of : ℕ → ℕ → Option Form
-form_of v n = if v == 1 then (if n == 3 then Some Form.Ask else None) else if n == 1 then Some Form.Packet else if n == 2 then Some Form.Advert else if n == 4 then Some Form.Handled else None
+form_of v n =
+    if v == 1 then (if n == 3 then Some Form.Ask else None) else if n == 1 then Some Form.Packet else if n == 2 then Some Form.Advert else
+    if n == 4 then Some Form.Handled else None
 
 abbrev pub known_form : Option Form → Scan → Result (Form × Scan) FrameFault
 known_form (Some k) s = Ok (k, s)

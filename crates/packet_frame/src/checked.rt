@@ -1,3 +1,4 @@
+//! Frames whose chunk is typed, and how they are read.
 ghost use Rattle.plan_types_spec.specs.Handlers.{is_handler as handles_by, MayHandle};
 ghost use Rattle.std.specs.Prelude.{◌≡◌, ◌⊎◌, ◌≤◌, true, None, Some, IfOk, IfErr, MatchResult};
 ghost use Rattle.plan_types_spec.specs.Typing.{IsTypedChunk};

@@ -1,3 +1,4 @@
+//! Why bytes are no frame whose chunk is typed.
 ghost use Rattle.std.specs.Prelude.{◌≡◌};
 ghost use Rattle.packet_frame.specs.Faults.{of_spelling};
 ghost use Rattle.packet_frame.specs.declared.fault.FrameFault.TheVariants.{Truncated as CutOff, NoMemory};

@@ -1,3 +1,4 @@
+//! What frames spell, before their chunk is checked.
 use plan_base::{Chunk, Packet, Stamp};
 use service_api::Advert;
 

@@ -1,3 +1,4 @@
+//! Reads the fields of frames of version 1.
 ghost use Rattle.std.specs.Prelude.{◌≡◌, ◌⊎◌, ◌≤◌, length, IfOk, IfErr, MatchResult};
 ghost use Rattle.std.specs.Int.{w32, w64};
 ghost use Rattle.wire_bytes.specs.Fields.{IsBytes};

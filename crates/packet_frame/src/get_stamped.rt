@@ -1,3 +1,4 @@
+//! Reads the fields of frames of either version, with their stamps.
 ghost use Rattle.std.specs.Prelude.{◌≡◌, ◌⊎◌, ◌≤◌, length, Some, IfOk, IfErr, MatchResult};
 ghost use Rattle.chunk_codec_spec.specs.Spelling.{from_front};
 ghost use Rattle.packet_frame.specs.Reading.{Gives};

@@ -1,3 +1,4 @@
+//! Laws of frames: each has one spelling, and bytes have one answer.
 ghost use Rattle.std.specs.Prelude.{◌≡◌, ◌++◌, ◌⊎◌, List, ℕ, Ok, Err};
 ghost use Rattle.wire_bytes.specs.Fields.{IsBytes};
 ghost use Rattle.packet_frame.specs.Frames.{SpellsFrame, SpellingFault};

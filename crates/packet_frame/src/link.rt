@@ -1,3 +1,4 @@
+//! Gives a whole frame another number.
 ghost use Rattle.std.specs.Prelude.{◌≡◌, ◌≤◌, ◌++◌, length, take, drop, Some};
 ghost use Rattle.std.specs.Int.{w64, to_be_bytes};
 ghost use Rattle.plan_base.specs.declared.stamp.Stamp.{Stamp};

@@ -1,3 +1,4 @@
+//! Writes frames of version 2.
 ghost use Rattle.std.specs.Prelude.{◌≡◌, ◌++◌, ◌+◌, ◌≤◌, ◌<◌, ◌∷◌, [], length, None, Some, IfOk};
 ghost use Rattle.std.specs.Int.{w16, w32, w64, to_be_bytes};
 ghost use Rattle.packet_frame.specs.Forms.{FrameFits};

@@ -1,3 +1,4 @@
+//! A frame on its way: its bytes, with what need not be read again.
 ghost use Rattle.std.specs.Prelude.{◌≡◌, ◌≤◌, IsTrue, IfOk, IfSome, None};
 ghost use Rattle.plan_types_spec.specs.Handlers.{MayHandle};
 ghost use Rattle.service_api.specs.Adverts.{AdvertFits};

@@ -19,7 +19,10 @@ chunk_text c = codes "|" ++ c.entry ++ codes "|(" ++ commas value_text c.args ++
 -- what a packet's line says before its routing function: its family, its destination and its bound
 unfoldable pub packet_head : ℕ → ℕ → ℕ → ℕ → List ℕ
 packet_head source serial dest bound =
-    codes "packet " ++ (decimal source ++ (codes "." ++ (decimal serial ++ (codes " dest @" ++ (decimal dest ++ (codes " bound " ++ (decimal bound ++ codes " route ")))))))
+    codes "packet "
+    ++ (decimal source ++
+    (codes "." ++
+    (decimal serial ++ (codes " dest @" ++ (decimal dest ++ (codes " bound " ++ (decimal bound ++ codes " route ")))))))
 
 -- what the first line says of a stamp, if the frame bears one
 abbrev pub stamp_text : Option Stamp → List ℕ

@@ -1,3 +1,4 @@
+//! Writes why bytes are no frame.
 ghost use Rattle.std.specs.Prelude.{◌≡◌, ◌++◌, codes, IfOk, OnOk, OnErr};
 ghost use Rattle.std.specs.String.{string_bytes};
 ghost use Rattle.packet_frame.specs.Reasons.{spelling_text, ill_text, reason_text};

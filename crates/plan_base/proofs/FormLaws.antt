@@ -10,7 +10,8 @@ use Rattle.plan_base.specs.declared.tree.Clause.{Clause, out-Clause, roll-out-Cl
 use Rattle.plan_base.specs.declared.tree.Value.{Value, Value-F, out-Value, roll-out-Value, map-Value, fold_out-Value, para-roll-Value}
 use Rattle.plan_base.specs.declared.tree.Chunk.{Chunk, out-Chunk, roll-out-Chunk, fold-Chunk, fold_out-Chunk, para-Chunk, para-roll-Chunk}
 use Rattle.plan_base.specs.Sizes.{value_depth, type_depth}
-use Rattle.plan_base.specs.WellFormed.{formed_type_level, formed_type, formed_expr_level, formed_expr, formed_value_level, formed_chunk_level, formed_value, formed_chunk, well_formed_program, typed_expr_level, typed_clause_level, has_types, typed_value_level, typed_chunk_level, value_has_types, chunk_has_types, program_has_types}
+use Rattle.plan_base.specs.WellFormed.{formed_type_level, formed_type, formed_expr_level, formed_expr, formed_value_level, formed_chunk_level, formed_value, formed_chunk, well_formed_program}
+use Rattle.plan_base.specs.WellFormed.{typed_expr_level, typed_clause_level, has_types, typed_value_level, typed_chunk_level, value_has_types, chunk_has_types, program_has_types}
 
 formed_type_step : (f : Ty → Bool) (x : Ty-F Ty) → formed_type_level (λ b. b) (map-Ty Ty Bool f x) ≡ formed_type_level f x
 formed_type_step f (Ty-F.Tuple ts) = (λ i. (nat_le 2 (length-map ts f i) && nat_le (length-map ts f i) 8) && list_all-map (λ b. b) f ts i)
@@ -68,7 +69,12 @@ formed_expr_step f g h e (Expr-F.Tuple es) = (λ i. (nat_le 2 (length-map es (pa
 formed_expr_step f g h e (Expr-F.Call x es) = (λ i. nat_le (length-map es (paired_with_test f) i) 8 && list_all-map (λ e. e.1) (paired_with_test f) es i)
 formed_expr_step f g h e (Expr-F.ChunkOf x es) = (λ i. nat_le (length-map es (paired_with_test f) i) 8 && list_all-map (λ e. e.1) (paired_with_test f) es i)
 formed_expr_step f g h e (Expr-F.Try a cs) =
-    (λ i. f a && (((nat_le 1 (length-map cs (paired_with_test g) i) && nat_le (length-map cs (paired_with_test g) i) 8) && list_all (λ c. is_some c.0.name) (take (length-map cs (paired_with_test g) i - 1) (map (paired_with_test g) cs))) && list_all-map (λ c. c.1) (paired_with_test g) cs i))
+    (λ i.
+    f a
+    && (
+    ((nat_le 1 (length-map cs (paired_with_test g) i) && nat_le (length-map cs (paired_with_test g) i) 8) && list_all (λ c. is_some c.0.name)
+    (take (length-map cs (paired_with_test g) i - 1) (map (paired_with_test g) cs)))
+    && list_all-map (λ c. c.1) (paired_with_test g) cs i))
     ∙ (λ i. f a && (((nat_le 1 (length cs) && nat_le (length cs) 8) && list_all (λ c. is_some c.0.name) (take-map (paired_with_test g) (length cs - 1) cs i)) && list_all (λ c. e c i) cs))
     ∙ (λ i. f a && (((nat_le 1 (length cs) && nat_le (length cs) 8) && list_all-map (λ c. is_some c.0.name) (paired_with_test g) (take (length cs - 1) cs) i) && list_all h cs))
 formed_expr_step f g h e _ = refl

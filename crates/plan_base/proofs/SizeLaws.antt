@@ -9,7 +9,9 @@ use Rattle.plan_base.specs.declared.tree.Expr.{Expr, Expr-F, out-Expr, map-Expr,
 use Rattle.plan_base.specs.declared.tree.Clause.{Clause, fold-Clause, fold_out-Clause}
 use Rattle.plan_base.specs.declared.tree.Value.{Value, Value-F, out-Value, map-Value, fold_out-Value}
 use Rattle.plan_base.specs.declared.tree.Chunk.{Chunk, fold-Chunk, fold_out-Chunk}
-use Rattle.plan_base.specs.Sizes.{largest_by, name_size, type_size_level, type_size, expr_size_level, expr_size, clause_size_level, clause_size, code_size, weight_level, weight, chunk_weight_level, chunk_weight, type_depth_level, type_depth, expr_depth_level, expr_depth, clause_depth_level, clause_depth, expr_nodes_level, expr_nodes, clause_nodes_level, clause_nodes, nesting_level, nesting, chunk_nesting_level, chunk_nesting, value_depth_level, value_depth}
+use Rattle.plan_base.specs.Sizes.{largest_by, name_size, type_size_level, type_size, expr_size_level, expr_size, clause_size_level, clause_size, code_size, weight_level, weight, chunk_weight_level}
+use Rattle.plan_base.specs.Sizes.{chunk_weight, type_depth_level, type_depth, expr_depth_level, expr_depth, clause_depth_level, clause_depth, expr_nodes_level, expr_nodes, clause_nodes_level}
+use Rattle.plan_base.specs.Sizes.{clause_nodes, nesting_level, nesting, chunk_nesting_level, chunk_nesting, value_depth_level, value_depth}
 
 pub largest_by-map : {X : Type 0} (f : X → ℕ) (xs : List X) → largest_by (λ n. n) (map f xs) ≡ largest_by f xs
 largest_by-map f xs = fold-map (λ m n. max m n) f 0 xs

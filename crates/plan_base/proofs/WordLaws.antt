@@ -139,4 +139,17 @@ pub is_name-defaultRoute : IsName (codes "defaultRoute")
 unfolding is_name is_word is_reserved
 is_name-defaultRoute = refl
 
-pub ruleset known_names = (is_name-Overflow, is_name-DivByZero, is_name-Empty, is_name-BadIndex, is_name-TooLarge, is_name-NoBound, is_name-NoService, is_name-NoRoute, is_name-NotNeighbor, is_name-TableFull, is_name-NotFound, is_name-defaultRoute)
+pub ruleset known_names = (
+  is_name-Overflow,
+  is_name-DivByZero,
+  is_name-Empty,
+  is_name-BadIndex,
+  is_name-TooLarge,
+  is_name-NoBound,
+  is_name-NoService,
+  is_name-NoRoute,
+  is_name-NotNeighbor,
+  is_name-TableFull,
+  is_name-NotFound,
+  is_name-defaultRoute,
+)

@@ -1,3 +1,4 @@
+//! Bytes, as a list of numbers below 256.
 ghost use Rattle.std.specs.Prelude.{◌≡◌, ◌↔◌, IsTrue, [], ◌∷◌, ◌++◌, ◌<◌, length, get_or, IfOk, OnOk, OnErr};
 
 use crate::memory::NoMemory;

@@ -1,3 +1,4 @@
+//! The limits that refusals name.
 ghost use Rattle.std.specs.Prelude.{◌≡◌};
 ghost use Rattle.plan_base.specs.Limits.{word_of};
 

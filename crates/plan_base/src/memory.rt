@@ -1,3 +1,4 @@
+//! The answer of a call that found no memory.
 ghost use Rattle.std.specs.Prelude.{◌≡◌};
 
 use std::alloc::AllocError;

@@ -1,3 +1,4 @@
+//! The trees of PLAN: types, expressions, programs, values, chunks and packets.
 use crate::bytes::Bytes;
 use crate::ids::{Dev, Family, Host};
 use crate::name::{Name, Names};

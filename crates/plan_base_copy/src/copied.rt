@@ -1,3 +1,4 @@
+//! What can be copied whole.
 ghost use Rattle.std.specs.Prelude.{◌≡◌, IfOk};
 
 use containers::Items;

@@ -1,3 +1,4 @@
+//! Copies of each kind of tree.
 ghost use Rattle.std.specs.Prelude.{◌≡◌, true, [], ◌∷◌, ◌++◌, IfOk, OnOk};
 ghost use Rattle.plan_base.specs.declared.tree.Expr.{Expr, out-Expr};
 ghost use Rattle.plan_base.specs.Groups.{is_leaf, is_pair, is_row};

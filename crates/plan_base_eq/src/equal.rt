@@ -1,3 +1,4 @@
+//! What can be compared whole.
 ghost use Rattle.std.specs.Prelude.{◌≡◌, ◌↔◌, IsTrue};
 
 /// Trees that can be compared whole.

@@ -1,3 +1,4 @@
+//! Whether two trees of a kind are the same.
 ghost use Rattle.std.specs.Prelude.{◌≡◌, ◌↔◌, IsTrue, true};
 ghost use Rattle.plan_base.specs.SameTypes as spec;
 ghost use Rattle.plan_base.specs.declared.tree.Expr.{out-Expr};

@@ -1,3 +1,4 @@
+//! Depths and numbers of nodes of trees.
 ghost use Rattle.std.specs.Prelude.{◌≡◌, min};
 ghost use Rattle.std.specs.List.{sum_by};
 ghost use Rattle.plan_base.specs.Sizes.{largest_by, type_depth, expr_depth, clause_depth, expr_nodes, clause_nodes, program_nodes, nesting, chunk_nesting};

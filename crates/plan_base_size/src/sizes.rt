@@ -1,3 +1,4 @@
+//! Sizes of trees in marshalled form.
 ghost use Rattle.std.specs.Prelude.{◌≡◌, ◌+◌, length, min};
 ghost use Rattle.std.specs.List.{sum_by};
 ghost use Rattle.plan_base.specs.declared.tree.Expr.{out-Expr};

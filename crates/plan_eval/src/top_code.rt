@@ -13,7 +13,8 @@ use plan_meaning::EvalStop;
 #[tactic(auto, using(crate::proofs::Idle::idle_wrong, crate::proofs::Idle::idle_memory))]
 pub fn top_code(codes: &Codes, top: &Activation) -> Result<Shared<Program>, EvalStop>
     ensures found { IfOk result (λ code. slice_get codes.now top.now.code ≡ Some code) }
-    ensures lost { IfErr result (λ stop. stop ≢ NoMemory → slice_get codes.now top.now.code ≡ None) }
+    ensures lost { IfErr result
+        (λ stop. stop ≢ NoMemory → slice_get codes.now top.now.code ≡ None) }
     ensures idle { IfErr result (λ stop. (task : Task) (work : ℕ)
         → Performs task work (Err stop) work) }
 {

@@ -46,7 +46,9 @@ key_text key.Val = codes "val"
 
 -- every key
 abbrev pub keys : List Key
-keys = key.And ∷ key.Blob ∷ key.Bool ∷ key.Char ∷ key.Chunk ∷ key.Dev ∷ key.Else ∷ key.End ∷ key.Eval ∷ key.Exception ∷ key.False ∷ key.Foldl ∷ key.Foldr ∷ key.Fun ∷ key.Handle ∷ key.Host ∷ key.If ∷ key.In ∷ key.Int ∷ key.Let ∷ key.List ∷ key.Mod ∷ key.Not ∷ key.OnNeighbor ∷ key.OnRemote ∷ key.Or ∷ key.Raise ∷ key.Str ∷ key.Svc ∷ key.Then ∷ key.True ∷ key.Try ∷ key.Unit ∷ key.Val ∷ []
+keys = key.And ∷ key.Blob ∷ key.Bool ∷ key.Char ∷ key.Chunk ∷ key.Dev ∷ key.Else ∷ key.End ∷ key.Eval ∷ key.Exception ∷ key.False ∷
+    key.Foldl ∷ key.Foldr ∷ key.Fun ∷ key.Handle ∷ key.Host ∷ key.If ∷ key.In ∷ key.Int ∷ key.Let ∷ key.List ∷ key.Mod ∷ key.Not ∷
+    key.OnNeighbor ∷ key.OnRemote ∷ key.Or ∷ key.Raise ∷ key.Str ∷ key.Svc ∷ key.Then ∷ key.True ∷ key.Try ∷ key.Unit ∷ key.Val ∷ []
 
 -- the key of a reserved word
 unfoldable pub key_of : List ℕ → Option Key
@@ -80,7 +82,10 @@ symbol_text symbol.Underscore = codes "_"
 
 -- every symbol, those of two bytes first
 abbrev pub symbols : List Symbol
-symbols = symbol.DoubleColon ∷ symbol.NotEqual ∷ symbol.LessEqual ∷ symbol.GreaterEqual ∷ symbol.Arrow ∷ symbol.FatArrow ∷ symbol.ParenOpen ∷ symbol.ParenClose ∷ symbol.BracketOpen ∷ symbol.BracketClose ∷ symbol.Comma ∷ symbol.Semicolon ∷ symbol.Colon ∷ symbol.Equal ∷ symbol.Less ∷ symbol.Greater ∷ symbol.Plus ∷ symbol.Minus ∷ symbol.Star ∷ symbol.Slash ∷ symbol.Caret ∷ symbol.Bar ∷ symbol.Underscore ∷ []
+symbols = symbol.DoubleColon ∷ symbol.NotEqual ∷ symbol.LessEqual ∷ symbol.GreaterEqual ∷ symbol.Arrow ∷ symbol.FatArrow ∷ symbol.ParenOpen
+    ∷ symbol.ParenClose ∷ symbol.BracketOpen ∷ symbol.BracketClose ∷ symbol.Comma ∷ symbol.Semicolon ∷ symbol.Colon ∷ symbol.Equal ∷
+    symbol.Less ∷ symbol.Greater ∷ symbol.Plus ∷ symbol.Minus ∷ symbol.Star ∷ symbol.Slash ∷ symbol.Caret ∷ symbol.Bar ∷
+    symbol.Underscore ∷ []
 
 -- the longest symbol that a text begins with
 unfoldable pub symbol_at : List ℕ → Option Symbol

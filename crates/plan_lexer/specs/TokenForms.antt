@@ -1,5 +1,6 @@
 -- What a token of each kind is, apart from how one is found in a text.
-use Rattle.std.specs.Prelude.{◌≡◌, ◌≢◌, ℕ, ◌+◌, ◌*◌, ◌^◌, ◌<◌, ◌≤◌, ◌⊎◌, true, false, List, [], ◌∷◌, ◌++◌, length, get_or, Some, Result, Ok, Err, pos, neg_ℤ, IsTrue, encode_utf8}
+use Rattle.std.specs.Prelude.{◌≡◌, ◌≢◌, ℕ, ◌+◌, ◌*◌, ◌^◌, ◌<◌, ◌≤◌, ◌⊎◌, true, false, List, [], ◌∷◌, ◌++◌, length, get_or, Some, Result, Ok}
+use Rattle.std.specs.Prelude.{Err, pos, neg_ℤ, IsTrue, encode_utf8}
 use Rattle.std.specs.Char.{IsScalar, is_ascii_digit}
 use Rattle.std.specs.List.{list_all}
 use Rattle.plan_base.specs.Words.{is_word_byte, is_word, IsName}
@@ -28,7 +29,8 @@ pub data SpellsItem (quote : ℕ) : List ℕ → ℕ → Type 0 where
 -- bytes that stand for a text between such quotes
 pub data SpellsItems (quote : ℕ) : List ℕ → List ℕ → Type 0 where
   no_items : SpellsItems quote [] []
-  an_item : (front rest : List ℕ) (c : ℕ) (bytes : List ℕ) → SpellsItem quote front c → SpellsItems quote rest bytes → SpellsItems quote (front ++ rest) (encode_utf8 c ++ bytes)
+  an_item : (front rest : List ℕ) (c : ℕ) (bytes : List ℕ) → SpellsItem quote front c → SpellsItems quote rest bytes
+      → SpellsItems quote (front ++ rest) (encode_utf8 c ++ bytes)
 
 -- pairs of hex digits that stand for bytes
 pub data SpellsPairs : List ℕ → List ℕ → Type 0 where

@@ -1,3 +1,4 @@
+//! Why a text has no list of tokens.
 use plan_base::NoMemory;
 use std::alloc::AllocError;
 use thiserror::Error;

@@ -1,3 +1,4 @@
+//! Blanks and comments between tokens.
 ghost use Rattle.std.specs.Prelude.{◌≡◌, ℕ, ◌+◌, ◌^◌, ◌≤◌, ◌<◌, ◌&&◌, ◌==◌, length, get_or, IfOk};
 ghost use Rattle.plan_lexer.specs.Gaps.{is_blank, left_by, opens, closes, comment_at, gap_at};
 

@@ -1,3 +1,4 @@
+//! Reads blobs.
 ghost use Rattle.std.specs.Prelude.{◌≡◌, ℕ, ◌+◌, ◌*◌, ◌^◌, ◌≤◌, ◌<◌, length, IfOk};
 ghost use Rattle.plan_lexer.specs.Faults.{Gives};
 ghost use Rattle.plan_lexer.specs.CharItems.{pair_value};
@@ -89,7 +90,8 @@ fn blob_on(front: Bytes, start: u32, from: u32, text: &[u8]) -> Result<(Bytes, u
 pub(crate) fn blob_at(alloc: Global, start: u32, text: &[u8]) -> Result<(Bytes, u32), LexFault>
     requires { start + length text.now < 2 ^ 31 }
     ensures value { Gives (λ read. read) result (blob_at start text.now) }
-    ensures within { IfOk result (λ read. (start < read.1) × (read.1 ≤ start + 2 + length text.now)) }
+    ensures within { IfOk result
+        (λ read. (start < read.1) × (read.1 ≤ start + 2 + length text.now)) }
 {
     let front = front_of(alloc, text, room_for(text))?;
     let passed = 2 * front.len();

@@ -1,3 +1,4 @@
+//! Reads what stands in strings and chars.
 ghost use Rattle.std.specs.Prelude.{◌≡◌, length, ◌≤◌, ◌<◌, IfSome, OnSome};
 ghost use Rattle.plan_lexer.specs.CharItems.{continuation, shortest, two_bytes, three_bytes, four_bytes, wide_at, hex_value, escaped_character, hex_escape, escape_at, code_at, item_at, ItemFits};
 

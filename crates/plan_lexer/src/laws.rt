@@ -1,3 +1,4 @@
+//! Laws of tokens: what spells one is read as it, and a text has one answer.
 ghost use Rattle.std.specs.Prelude.{◌≡◌, ℕ, ℤ, ◌+◌, ◌<◌, ◌≤◌, ◌^◌, List, ◌++◌, length, get_or, Ok, Err, ◌⊎◌, FitsSigned};
 ghost use Rattle.std.specs.Int.{w64};
 ghost use Rattle.std.specs.Char.{IsScalar};

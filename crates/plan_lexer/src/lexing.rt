@@ -1,3 +1,4 @@
+//! The public call: the tokens of a text.
 ghost use Rattle.std.specs.Prelude.{◌≡◌, ℕ, ◌≤◌, ◌⊎◌, List, [], length, IfOk, IfErr, OnOk, MatchResult};
 ghost use Rattle.plan_lexer.specs.Scanning.{Toks, Refuses, with_move};
 ghost use Rattle.plan_lexer.specs.TokenRules.{AreTokens};

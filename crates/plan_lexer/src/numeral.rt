@@ -1,3 +1,4 @@
+//! Reads numbers.
 ghost use Rattle.std.specs.Prelude.{◌≡◌, ℕ, ◌+◌, ◌-◌, ◌*◌, ◌^◌, ◌≤◌, ◌<◌, length, take, get_or, MatchOption, IfOk, IsTrue};
 ghost use Rattle.std.specs.Char.{is_ascii_digit};
 ghost use Rattle.plan_lexer.specs.Numerals.{number_of, digits_len, number_at, number_behind};

@@ -1,3 +1,4 @@
+//! Reads strings and chars.
 ghost use Rattle.std.specs.Prelude.{◌≡◌, ℕ, ◌+◌, ◌^◌, ◌≤◌, ◌<◌, length, IfOk};
 ghost use Rattle.plan_lexer.specs.Faults.{Gives};
 ghost use Rattle.plan_lexer.specs.Quoted.{string_at, char_at};
@@ -13,7 +14,8 @@ use std::alloc::Global;
 pub(crate) fn string_at(alloc: Global, start: u32, text: &[u8]) -> Result<(Text, u32), LexFault>
     requires { start + length text.now < 2 ^ 31 }
     ensures value { Gives (λ read. read) result (string_at start text.now) }
-    ensures within { IfOk result (λ read. (start < read.1) × (read.1 ≤ start + 1 + length text.now)) }
+    ensures within { IfOk result
+        (λ read. (start < read.1) × (read.1 ≤ start + 1 + length text.now)) }
 {
     let mut string = String::new(alloc);
     let mut rest = text;
@@ -37,7 +39,8 @@ pub(crate) fn string_at(alloc: Global, start: u32, text: &[u8]) -> Result<(Text,
 pub(crate) fn char_at(start: u32, text: &[u8]) -> Result<(u32, u32), LexFault>
     requires { start + length text.now < 2 ^ 31 }
     ensures value { result ≡ char_at start text.now }
-    ensures within { IfOk result (λ read. (start < read.1) × (read.1 ≤ start + 1 + length text.now)) }
+    ensures within { IfOk result
+        (λ read. (start < read.1) × (read.1 ≤ start + 1 + length text.now)) }
 {
     match item_at(b'\'', text) {
         CharItem::Code(code, width) => {

@@ -1,3 +1,4 @@
+//! One move of the lexer: the longest token at the front.
 ghost use Rattle.std.specs.Prelude.{◌≡◌, ℕ, ◌+◌, ◌^◌, ◌≤◌, ◌<◌, length, get_or, IfOk, IsTrue, pos, neg_ℤ};
 ghost use Rattle.std.specs.Char.{is_ascii_digit};
 ghost use Rattle.plan_lexer.specs.Faults.{Gives};

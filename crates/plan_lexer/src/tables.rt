@@ -1,3 +1,4 @@
+//! The spellings of reserved words and symbols.
 ghost use Rattle.std.specs.Prelude.{◌≡◌, ◌≤◌, length, IfSome};
 ghost use Rattle.plan_lexer.specs.Tables.{key_text, key_of, symbol_text, symbol_at, single, symbol_of};
 

@@ -1,3 +1,4 @@
+//! A text from a place on.
 ghost use Rattle.std.specs.Prelude.{◌≡◌, ◌<◌, ◌≤◌, get_or, length, drop};
 
 /// The byte at place `i` of a text, or 0 at the end and past it.

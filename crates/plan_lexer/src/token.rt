@@ -1,3 +1,4 @@
+//! Tokens, with what they stand for and their places.
 use containers::Items;
 use plan_base::{Bytes, Name, Text};
 

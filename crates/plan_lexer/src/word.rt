@@ -1,3 +1,4 @@
+//! Reads words.
 ghost use Rattle.std.specs.Prelude.{◌≡◌, ℕ, ◌+◌, ◌^◌, ◌≤◌, ◌<◌, length, get_or, IfOk, IsTrue, Ok};
 ghost use Rattle.std.specs.Char.{is_ascii_alphabetic};
 ghost use Rattle.plan_lexer.specs.Faults.{Gives};

@@ -16,7 +16,8 @@ use Rattle.plan_base.specs.declared.tree.Program.{Program}
 use Rattle.plan_base.specs.Trees.{ExprLayer, ValueLayer}
 use Rattle.plan_base.specs.Sizes.{weight, weight_level, chunk_weight, nesting, chunk_nesting, type_depth, type_depth_level, value_depth, value_depth_level, expr_depth, largest_by}
 use Rattle.plan_base.proofs.SizeLaws.{weight_out, value_depth_out, type_depth_out, chunk_nesting_is}
-use Rattle.plan_base.specs.WellFormed.{has_from_to, formed_type, well_formed_type, well_formed_svc, well_formed_fun, formed_expr, formed_expr_level, well_formed_expr, formed_value, formed_value_level, formed_chunk, well_formed_text, well_formed_value, well_formed_chunk, well_formed_program, IsWellFormedValue, IsWellFormedChunk}
+use Rattle.plan_base.specs.WellFormed.{has_from_to, formed_type, well_formed_type, well_formed_svc, well_formed_fun, formed_expr, formed_expr_level, well_formed_expr, formed_value, formed_value_level}
+use Rattle.plan_base.specs.WellFormed.{formed_chunk, well_formed_text, well_formed_value, well_formed_chunk, well_formed_program, IsWellFormedValue, IsWellFormedChunk}
 use Rattle.plan_base.proofs.FormLaws.{formed_value_out, formed_chunk_is, formed_expr_out}
 use Rattle.plan_types_spec.specs.Typing.{IsSmall, HasType, unit, bool, int, char, str, blob, host, dev, list, tuple, chunk, HaveTypes, and_value, AllHaveType, and_item}
 use Rattle.containers.proofs.Bools.{and_left, and_right, and_both}
@@ -250,7 +251,8 @@ item_depth v u t h e s = let a = depth_by_type h in let b = item_type_depth u t 
 pub empty_list : (u t : Ty) → t ≡ ty.List u → type_depth t ≤ 8 → well_formed_type u ≡ true → IsFormed (value.List u [])
 unfolding well_formed_type
 empty_list u t e s w =
-    a_list (value.List u []) u [] (value.outs-List u []) (and_both (formed_type u) (nat_le (type_depth u) 7) (and_left (formed_type u) (nat_le (type_depth u) 8) w) (at_most (type_depth u) 7 (item_type_depth u t e s))) (lit≤ tt) refl (lit≤ tt)
+    a_list (value.List u []) u [] (value.outs-List u [])
+    (and_both (formed_type u) (nat_le (type_depth u) 7) (and_left (formed_type u) (nat_le (type_depth u) 8) w) (at_most (type_depth u) 7 (item_type_depth u t e s))) (lit≤ tt) refl (lit≤ tt)
 
 -- ---- well-formed code
 

@@ -105,7 +105,9 @@ pays s = choose HasGrown s (s.ctx.purse == 0) (quiet (stopped (Raised no_bound) 
 
 remotes : (k : Chunk) (h : Host) (n : ℤ) (r : Name) → Growing (Unit {0}) (send_remote k h n r) (send_remote k h n r)
 unfolding send_remote
-remotes k h n r s = choose HasGrown s (is_paid n s.ctx.purse) (sent_by (hop s.ctx.router r s.ctx.here h) k h (bound_of n) r s) (quiet (stopped (Raised no_bound) s)) (sent_by_grown s (hop s.ctx.router r s.ctx.here h) k h (bound_of n) r) (grown_itself s)
+remotes k h n r s =
+    choose HasGrown s (is_paid n s.ctx.purse) (sent_by (hop s.ctx.router r s.ctx.here h) k h (bound_of n) r s) (quiet (stopped (Raised no_bound) s))
+    (sent_by_grown s (hop s.ctx.router r s.ctx.here h) k h (bound_of n) r) (grown_itself s)
 
 neighbours : (k : Chunk) (h : Host) (n : ℤ) (d : Dev) → Growing (Unit {0}) (send_neighbour k h n d) (send_neighbour k h n d)
 unfolding send_neighbour

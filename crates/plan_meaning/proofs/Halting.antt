@@ -21,7 +21,8 @@ use Rattle.service_api.specs.Routes.{hop, default_route}
 use Rattle.service_api.specs.Services.{served_call, IsGoodChunk, AreGoodValues}
 use Rattle.plan_meaning.specs.declared.stop.EvalStop.TheVariants.{Raised, WorkSpent, Wrong, NoMemory}
 use Rattle.plan_meaning.specs.State.{VisitState}
-use Rattle.plan_meaning.specs.Run.{After, gave, stopped, RunStep, nothing, both, Run, «next», and_then, ◌>>=◌, ◌>>◌, quiet, pure, raise, or_wrong, given_value, otherwise, rescued_step, rescue, spend, is_too_large, weighed_value, whole, serve, answered_call}
+use Rattle.plan_meaning.specs.Run.{After, gave, stopped, RunStep, nothing, both, Run, «next», and_then, ◌>>=◌, ◌>>◌, quiet, pure, raise, or_wrong, given_value, otherwise, rescued_step, rescue, spend}
+use Rattle.plan_meaning.specs.Run.{is_too_large, weighed_value, whole, serve, answered_call}
 use Rattle.plan_meaning.specs.Meaning.{pay_eval, no_bound, is_paid, bound_of, sent_packet, sent_by, send_remote, is_next, not_neighbour, send_neighbour}
 use Rattle.plan_meaning.specs.Safe.{IsGoodState, Holds, IsRight, Yields}
 use Rattle.plan_meaning.specs.Laws.{left_by, IsSpent, more, after_more, step_more, at_work, EndsFrom}
@@ -244,7 +245,11 @@ module _ (b : ℕ) where
 
   remote_ends : (k : Chunk) (h : Host) (n : ℤ) (r : Name) (s : VisitState) → EndsFrom (send_remote k h n r) s
   unfolding send_remote
-  remote_ends k h n r s = (0, choose_lasts (is_paid n s.ctx.purse) (sent_by (hop s.ctx.router r s.ctx.here h) k h (bound_of n) r (at_work 0 s)) (raise no_bound (at_work 0 s)) (sent_by_lasts (at_work 0 s) (hop s.ctx.router r s.ctx.here h) k h (bound_of n) r) (λ x. x))
+  remote_ends k h n r s = (
+    0,
+    choose_lasts (is_paid n s.ctx.purse) (sent_by (hop s.ctx.router r s.ctx.here h) k h (bound_of n) r (at_work 0 s)) (raise no_bound (at_work 0 s))
+        (sent_by_lasts (at_work 0 s) (hop s.ctx.router r s.ctx.here h) k h (bound_of n) r) (λ x. x),
+  )
 
   pub remote_halts : (k : Chunk) (h : Host) (n : ℤ) (r : Name) → IsGoodChunk k → Halts b {A = Unit {0}} (λ _. Unit {0}) (send_remote k h n r)
   remote_halts k h n r g = from_yields (λ _. Unit {0}) (send_remote k h n r) (remote_yields k h n r g) (growing_kept.remotes k h n r) (λ m. (longer_kept m).remotes k h n r) (remote_ends k h n r)

@@ -1,5 +1,6 @@
 -- What operators, parts and primitives give of well-formed values is well formed.
-use Rattle.std.proofs.Common.{◌≡◌, ℕ, zero, suc, ◌+◌, ◌-◌, ◌/◌, ◌%◌, ◌≤◌, ◌<◌, Bool, true, false, if◌then◌else◌, ◌==◌, nat_lt, nat_le, ℤ, pos, negsuc, List, [], ◌∷◌, ◌++◌, length, Some, slice_get, decimal, IsAscii, refl, sym, ap, ◌∙◌, subst, lit≤, arith}
+use Rattle.std.proofs.Common.{◌≡◌, ℕ, zero, suc, ◌+◌, ◌-◌, ◌/◌, ◌%◌, ◌≤◌, ◌<◌, Bool, true, false, if◌then◌else◌, ◌==◌, nat_lt, nat_le, ℤ, pos, negsuc, List, [], ◌∷◌, ◌++◌, length, Some, slice_get}
+use Rattle.std.proofs.Common.{decimal, IsAscii, refl, sym, ap, ◌∙◌, subst, lit≤, arith}
 use Rattle.std.specs.Str.{is_utf8}
 use Rattle.std.specs.Fmt.{digits, digits_onto, digit_glyph}
 use Rattle.std.proofs.lemmas.Bool.{lt-ltb}
@@ -93,7 +94,8 @@ small_text s u small =
 joined_texts : (a b : List ℕ) → is_utf8 a ≡ true → is_utf8 b ≡ true → is_utf8 (a ++ b) ≡ true
 joined_texts a b h k = is_utf8-from_IsUtf8 (a ++ b) (IsUtf8-append a b (IsUtf8-from_is_utf8 a h) (IsUtf8-from_is_utf8 b k))
 
-joined_keeps : (t : Ty) (l : Ty-F Ty) (a b : Value) → out-Ty t ≡ l → is_joined_at l ≡ true → Shape l (out-Value a) → Shape l (out-Value b) → IsFormed a → IsFormed b → Fits t (joined_values (out-Value a) (out-Value b)) → Keeps (joined_values (out-Value a) (out-Value b))
+joined_keeps : (t : Ty) (l : Ty-F Ty) (a b : Value) → out-Ty t ≡ l → is_joined_at l ≡ true → Shape l (out-Value a) → Shape l (out-Value b) → IsFormed a → IsFormed b
+    → Fits t (joined_values (out-Value a) (out-Value b)) → Keeps (joined_values (out-Value a) (out-Value b))
 joined_keeps t Ty-F.Str a b o e (s, d) (r, f) h k fits =
     subst (λ x. Keeps (joined_values x (out-Value b))) (sym d) (subst (λ x. Keeps (joined_values (Value-F.Str s) x)) (sym f)
     (limited_keeps (value.Str (s ++ r)) (small_text (s ++ r) (joined_texts s r (text_valid s (shape_level a (Value-F.Str s) d h)) (text_valid r (shape_level b (Value-F.Str r) f k))))))

@@ -1,6 +1,7 @@
 -- A typed expression gives a value of its type, asks services well, never is without a case, and ends with some allowance: by the
 -- purse, since each eval pays; then by the place of the function, since each call is of an earlier one; then by the typing.
-use Rattle.std.proofs.Common.{◌≡◌, ℕ, zero, suc, ◌+◌, ◌<◌, ◌≤◌, cond, Bool, true, false, not, ◌&&◌, if◌then◌else◌, nat_le, nat_lt, is_some, ℤ, List, [], ◌∷◌, ◌++◌, length, take, reverse, Option, Some, None, slice_get, refl, sym, ap, ◌∙◌, subst, arith, append_assoc}
+use Rattle.std.proofs.Common.{◌≡◌, ℕ, zero, suc, ◌+◌, ◌<◌, ◌≤◌, cond, Bool, true, false, not, ◌&&◌, if◌then◌else◌, nat_le, nat_lt, is_some, ℤ, List, [], ◌∷◌, ◌++◌, length, take, reverse, Option, Some}
+use Rattle.std.proofs.Common.{None, slice_get, refl, sym, ap, ◌∙◌, subst, arith, append_assoc}
 use Rattle.std.specs.List.{list_all, sum_by, position_or_len}
 use Rattle.std.proofs.Math.Nat.{not-suc-le-zero}
 use Rattle.std.specs.Option.{option_or}
@@ -29,7 +30,10 @@ use Rattle.plan_base.specs.declared.tree.Chunk.{Chunk}
 use Rattle.plan_base.specs.Trees.{ExprLayer}
 use Rattle.plan_base.specs.Sizes.{weight, weight_level, chunk_weight, nesting, nesting_level, chunk_nesting, largest_by}
 use Rattle.plan_base.proofs.SizeLaws.{weight_out, nesting_out, chunk_weight_is, chunk_nesting_is}
-use Rattle.plan_types_spec.specs.Typing.{IsSmall, literal_type, HasTy, literal, variable, empty, raising, tuple, part, of_items, primitive, serving, call, choice, binder, sequence, both, either, negation, calculation, join, comparison, order, prefix, handling, fold_left, fold_right, packing, evaluation, remote, neighbour, HaveTys, no_parts, and_part, ClausesHaveTy, no_clauses, and_clause, Typed, HasType, unit, bool, int, char, str, blob, host, dev, list, chunk, HaveTypes, no_values, and_value, AllHaveType, no_items, and_item, IsTypedChunk, within, IsShallow}
+use Rattle.plan_types_spec.specs.Typing.{IsSmall, literal_type, HasTy, literal, variable, empty, raising, tuple, part, of_items, primitive, serving, call, choice, binder, sequence, both, either}
+use Rattle.plan_types_spec.specs.Typing.{negation, calculation, join, comparison, order, prefix, handling, fold_left, fold_right, packing, evaluation, remote, neighbour, HaveTys, no_parts, and_part}
+use Rattle.plan_types_spec.specs.Typing.{ClausesHaveTy, no_clauses, and_clause, Typed, HasType, unit, bool, int, char, str, blob, host, dev, list, chunk, HaveTypes, no_values, and_value, AllHaveType}
+use Rattle.plan_types_spec.specs.Typing.{no_items, and_item, IsTypedChunk, within, IsShallow}
 use Rattle.plan_base.specs.WellFormed.{has_from_to, names_all_but_last, well_formed_type, formed_expr, formed_chunk, well_formed_program, IsWellFormedProgram, IsWellFormedExpr}
 use Rattle.plan_types_spec.specs.Typing as typing
 use Rattle.plan_types_spec.specs.TypingNames.{place_of, service_of, prim_of, binding, param_types, part_of, of_list, makes}
@@ -38,7 +42,9 @@ use Rattle.service_api.specs.Services.{IsGoodChunk, AreGoodValues}
 use Rattle.plan_meaning.specs.State.{VisitState}
 use Rattle.plan_meaning.specs.Run.{Run, ◌>>◌, pure}
 use Rattle.plan_meaning.specs.Meaning as m
-use Rattle.plan_meaning.specs.Meaning.{Env, as_bool, bool_at, as_int, int_at, as_host, host_at, as_dev, dev_at, as_chunk, chunk_at, as_items, items_at, value_of, bound_behind, bound, values_behind, values, entered_function, applied_at, applied_function, served_or, called_by, called_name, left_along, right_along, handled_exception, visited_chunk, opened_at, opened_expression, node, meaning, catches}
+use Rattle.plan_meaning.specs.Meaning.{Env, as_bool, bool_at, as_int, int_at, as_host, host_at, as_dev, dev_at, as_chunk, chunk_at, as_items, items_at, value_of, bound_behind, bound, values_behind}
+use Rattle.plan_meaning.specs.Meaning.{values, entered_function, applied_at, applied_function, served_or, called_by, called_name, left_along, right_along, handled_exception, visited_chunk, opened_at}
+use Rattle.plan_meaning.specs.Meaning.{opened_expression, node, meaning, catches}
 use Rattle.plan_meaning.specs.Safe.{HasEnv, IsGoodState, Yields}
 use Rattle.containers.proofs.Bools.{and_left, and_right, both_true}
 use Rattle.plan_types_spec.proofs.Shapes.{shape_at}
@@ -408,11 +414,13 @@ module _ (limit : ℕ) where
               (subst (λ x. (nat_le 2 x && nat_le x 8) ≡ true) (z ∙ values_count ts vs g) n) (form.shapes vs (formed_all ts vs g)) (form.tuple_depth vs ts (typed_all ts vs g) s),
         )))
 
-    call_good : (t : Ty) (f : Name) (es : List Expr) (ts : List Ty) → PartsHalt code seen env es ts → ((vs : List Value) → AreGoodValues ts vs → Halts limit (Mild t) (called_name meaning code seen f vs)) → Halts limit (Mild t) (m.call meaning code seen env f es)
+    call_good : (t : Ty) (f : Name) (es : List Expr) (ts : List Ty) → PartsHalt code seen env es ts
+        → ((vs : List Value) → AreGoodValues ts vs → Halts limit (Mild t) (called_name meaning code seen f vs)) → Halts limit (Mild t) (m.call meaning code seen env f es)
     unfolding m.call
     call_good t f es ts i k = then_halts limit (AreGoodValues ts) (Mild t) _ _ (values_good code seen env es ts i) k
 
-    packed_good : (f : Name) (es : List Expr) (at : ℕ) (d : Fun) → length es ≡ length (param_types d.params) → place_of f code.funs ≡ Some at → slice_get code.funs at ≡ Some d → PartsHalt code seen env es (param_types d.params) → nat_le (length es) 8 ≡ true → Halts limit (Mild ty.Chunk) (m.packed_chunk meaning code seen env f es)
+    packed_good : (f : Name) (es : List Expr) (at : ℕ) (d : Fun) → length es ≡ length (param_types d.params) → place_of f code.funs ≡ Some at → slice_get code.funs at ≡ Some d
+        → PartsHalt code seen env es (param_types d.params) → nat_le (length es) 8 ≡ true → Halts limit (Mild ty.Chunk) (m.packed_chunk meaning code seen env f es)
     unfolding m.packed_chunk
     packed_good f es at d z p g i n =
         then_halts limit (AreGoodValues (param_types d.params)) (Mild ty.Chunk) _ _ (values_good code seen env es _ i) (λ vs k.
@@ -493,7 +501,10 @@ module _ (limit : ℕ) where
       expr_halts {seen = seen} {e = e} {t = t} (raising x o i s) w q env h = halts_by_level code seen env e _ t o (raise_halts limit (Mild t) (m.named_exception x))
       expr_halts {seen = seen} {e = e} {t = t} (tuple es ts o k n s) w q env h =
           let z = level_formed e (Expr-F.Tuple es) o w in
-          halts_by_level code seen env e _ t o (at_type t _ _ n (tuple_good code seen env y es ts (types_count k) (parts_halt k (and_right (has_from_to 2 8 es) (list_all formed_expr es) z) q env h) (and_left (has_from_to 2 8 es) (list_all formed_expr es) z) (subst IsShallow n s)))
+          halts_by_level code seen env e _ t o
+          (at_type t _ _ n
+          (tuple_good code seen env y es ts (types_count k) (parts_halt k (and_right (has_from_to 2 8 es) (list_all formed_expr es) z) q env h)
+          (and_left (has_from_to 2 8 es) (list_all formed_expr es) z) (subst IsShallow n s)))
       expr_halts {seen = seen} {e = e} {t = t} (part i a ts o k n) w q env h =
           halts_by_level code seen env e _ t o (selection_good code seen env y t i a ts (expr_halts k (and_right (nat_le 1 i && nat_le i 8) (formed_expr a) (level_formed e (Expr-F.Part i a) o w)) q env h) n)
       expr_halts {seen = seen} {e = e} {t = t} (of_items f a p u o i k n) w q env h =
@@ -555,7 +566,10 @@ module _ (limit : ℕ) where
           halts_by_level code seen env e _ t o (fold_right_good code seen env y t u f a l at d q p g k r (expr_halts i n.0 q env h) (expr_halts j n.1 q env h))
       expr_halts {seen = seen} {e = e} {t = t} (packing f es at d o p g k r) w q env h =
           let z = level_formed e (Expr-F.ChunkOf f es) o w in
-          halts_by_level code seen env e _ t o (at_type t _ _ r (packed_good code seen env y f es at d (types_count k) p g (parts_halt k (and_right (nat_le (length es) 8) (list_all formed_expr es) z) q env h) (and_left (nat_le (length es) 8) (list_all formed_expr es) z)))
+          halts_by_level code seen env e _ t o
+          (at_type t _ _ r
+          (packed_good code seen env y f es at d (types_count k) p g (parts_halt k (and_right (nat_le (length es) 8) (list_all formed_expr es) z) q env h)
+          (and_left (nat_le (length es) 8) (list_all formed_expr es) z)))
       expr_halts {seen = seen} {e = e} {t = t} (evaluation a o i k) w q env h =
           halts_by_level code seen env e _ t o (at_type t _ _ k (evaluation_good code seen env y a evals (expr_halts i (level_formed e (Expr-F.Eval a) o w) q env h)))
       expr_halts {seen = seen} {e = e} {t = t} (remote a x z r o i j k l) w q env h =
@@ -573,7 +587,10 @@ module _ (limit : ℕ) where
 
       clauses_halt : {seen : ℕ} {c : List Param} {ks : List Clause} {t : Ty} → ClausesHaveTy code seen c ks t → list_all (λ k. formed_expr k.body) ks ≡ true → CallsHalt code seen → (env : Env) → HasEnv c env → ClausesHalt code seen env t ks
       clauses_halt no_clauses w q env h = tt
-      clauses_halt (and_clause {k = k} {ks = ks} a d l) w q env h = (expr_halts d (and_left (formed_expr k.body) (list_all (λ j. formed_expr j.body) ks) w) q env h, clauses_halt l (and_right (formed_expr k.body) (list_all (λ j. formed_expr j.body) ks) w) q env h)
+      clauses_halt (and_clause {k = k} {ks = ks} a d l) w q env h = (
+        expr_halts d (and_left (formed_expr k.body) (list_all (λ j. formed_expr j.body) ks) w) q env h,
+        clauses_halt l (and_right (formed_expr k.body) (list_all (λ j. formed_expr j.body) ks) w) q env h,
+      )
 
     entered_halts : (at : ℕ) (d : Fun) (args : List Value) → slice_get code.funs at ≡ Some d → AreGoodValues (param_types d.params) args → CallsHalt code at → Halts limit (Good d.result) (entered_function meaning code at args)
     unfolding entered_function bound
@@ -608,7 +625,8 @@ evals_halt : (n : ℕ) → EvalsHalt n
 evals_halt zero c l k g = absurd (not-suc-le-zero l)
 evals_halt (suc n) c l k g = entry_halts c (λ c' l'. evals_halt n c' (omega arith)) k g.typed (form.formed_of_chunk k g.formed)
 
-means_halt : (b : ℕ) (code : Program) (seen : ℕ) (c : List Param) (env : Env) (e : Expr) (t : Ty) → Typed code → IsWellFormedProgram code → HasTy code seen c e t → IsWellFormedExpr e → HasEnv c env → Halts b (Good t) (meaning code seen env e)
+means_halt : (b : ℕ) (code : Program) (seen : ℕ) (c : List Param) (env : Env) (e : Expr) (t : Ty) → Typed code → IsWellFormedProgram code → HasTy code seen c e t → IsWellFormedExpr e → HasEnv c env
+    → Halts b (Good t) (meaning code seen env e)
 means_halt b code seen c env e t y f k w h =
     let good : GoodCode code = record { typed = y; formed = f } in
     expr_halts b code good (evals_halt b) k (form.expr_formed e w) (calls_halt b code good (evals_halt b) seen) env h
@@ -625,7 +643,8 @@ soundness code seen c env e t y f k w h s g = (means_halt s.ctx.purse code seen 
 pub visit_soundness : (k : Chunk) (at : ℕ) (d : Fun) → IsGoodChunk k → place_of k.entry k.code.funs ≡ Some at → slice_get k.code.funs at ≡ Some d → Yields (Good d.result) (visited_chunk meaning k)
 visit_soundness k at d g p l s i = (visit_halts s.ctx.purse k at d g p l s (at_purse s i)).right
 
-pub ends : (code : Program) (seen : ℕ) (c : List Param) (env : Env) (e : Expr) (t : Ty) → Typed code → IsWellFormedProgram code → HasTy code seen c e t → IsWellFormedExpr e → HasEnv c env → (s : VisitState) → IsGoodState s → EndsFrom (meaning code seen env e) s
+pub ends : (code : Program) (seen : ℕ) (c : List Param) (env : Env) (e : Expr) (t : Ty) → Typed code → IsWellFormedProgram code → HasTy code seen c e t → IsWellFormedExpr e → HasEnv c env
+    → (s : VisitState) → IsGoodState s → EndsFrom (meaning code seen env e) s
 ends code seen c env e t y f k w h s g = (means_halt s.ctx.purse code seen c env e t y f k w h s (at_purse s g)).ends
 
 entry_ends : (k : Chunk) → IsTypedChunk k → formed_chunk k ≡ true → (s : VisitState) → IsGoodState s → EndsFrom (visited_chunk meaning k) s

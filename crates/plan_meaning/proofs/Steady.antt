@@ -63,11 +63,15 @@ spends n s = choose IsSteady s (nat_lt s.work n) (quiet (stopped WorkSpent s)) (
 
 pays : Steady (Unit {0}) pay_eval pay_eval
 unfolding pay_eval
-pays s = choose IsSteady s (s.ctx.purse == 0) (quiet (stopped (Raised no_bound) s)) (quiet (gave tt (record s { ctx = record s.ctx { purse = s.ctx.purse - 1 }; evals = s.evals + 1 }))) (same_steady s) (record { ctx = refl; family = refl; offer = refl; begun = refl })
+pays s =
+    choose IsSteady s (s.ctx.purse == 0) (quiet (stopped (Raised no_bound) s))
+    (quiet (gave tt (record s { ctx = record s.ctx { purse = s.ctx.purse - 1 }; evals = s.evals + 1 }))) (same_steady s) (record { ctx = refl; family = refl; offer = refl; begun = refl })
 
 remotes : (k : Chunk) (h : Host) (n : ℤ) (r : Name) → Steady (Unit {0}) (send_remote k h n r) (send_remote k h n r)
 unfolding send_remote
-remotes k h n r s = choose IsSteady s (is_paid n s.ctx.purse) (sent_by (hop s.ctx.router r s.ctx.here h) k h (bound_of n) r s) (quiet (stopped (Raised no_bound) s)) (sent_by_steady s (hop s.ctx.router r s.ctx.here h) k h (bound_of n) r) (same_steady s)
+remotes k h n r s =
+    choose IsSteady s (is_paid n s.ctx.purse) (sent_by (hop s.ctx.router r s.ctx.here h) k h (bound_of n) r s) (quiet (stopped (Raised no_bound) s))
+    (sent_by_steady s (hop s.ctx.router r s.ctx.here h) k h (bound_of n) r) (same_steady s)
 
 neighbours : (k : Chunk) (h : Host) (n : ℤ) (d : Dev) → Steady (Unit {0}) (send_neighbour k h n d) (send_neighbour k h n d)
 unfolding send_neighbour

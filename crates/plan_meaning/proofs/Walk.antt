@@ -21,7 +21,10 @@ use Rattle.plan_types_spec.specs.Rules.{Given, gives, raises, unfit, too_large, 
 use Rattle.plan_meaning.specs.declared.stop.EvalStop.{EvalStop}
 use Rattle.plan_meaning.specs.declared.stop.EvalStop.TheVariants.{Raised, WorkSpent}
 use Rattle.plan_meaning.specs.Run.{RunStep, Run, ◌>>=◌, pure, stop, wrong, or_wrong, given_value, rescue, spend, weighed_value, is_too_large, whole, serve}
-use Rattle.plan_meaning.specs.Meaning.{Env, Runs, binds, bound, as_bool, as_int, as_host, as_dev, as_chunk, as_items, value_of, pay_eval, send_remote, send_neighbour, catches, named_exception, values_behind, values, entered_function, applied_at, applied_function, served_or, called_by, called_name, call, tuple, packed_chunk, choice, binding, sequence, conjunction, disjunction, negation, operation, selection, handled_exception, attempt, left_along, fold_left, right_along, fold_right, visited_chunk, evaluation, remote, neighbour, empty_of, opened_at, opened_expression, node, run_to}
+use Rattle.plan_meaning.specs.Meaning.{Env, Runs, binds, bound, as_bool, as_int, as_host, as_dev, as_chunk, as_items, value_of, pay_eval, send_remote, send_neighbour, catches, named_exception}
+use Rattle.plan_meaning.specs.Meaning.{values_behind, values, entered_function, applied_at, applied_function, served_or, called_by, called_name, call, tuple, packed_chunk, choice, binding, sequence}
+use Rattle.plan_meaning.specs.Meaning.{conjunction, disjunction, negation, operation, selection, handled_exception, attempt, left_along, fold_left, right_along, fold_right, visited_chunk, evaluation}
+use Rattle.plan_meaning.specs.Meaning.{remote, neighbour, empty_of, opened_at, opened_expression, node, run_to}
 use Rattle.plan_meaning.specs.State.{VisitState}
 use Rattle.plan_meaning.specs.Laws.{left_by}
 

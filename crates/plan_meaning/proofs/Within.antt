@@ -87,7 +87,9 @@ module _ (w : ℕ) where
 
   remotes : (k : Chunk) (h : Host) (n : ℤ) (r : Name) → Within w (Unit {0}) (send_remote k h n r) (send_remote k h n r)
   unfolding send_remote
-  remotes k h n r s l = itself s _ (choose s (is_paid n s.ctx.purse) (sent_by (hop s.ctx.router r s.ctx.here h) k h (bound_of n) r s) (quiet (stopped (Raised no_bound) s)) (sent_by_falls s (hop s.ctx.router r s.ctx.here h) k h (bound_of n) r) (same_work s.work))
+  remotes k h n r s l =
+      itself s _ (choose s (is_paid n s.ctx.purse) (sent_by (hop s.ctx.router r s.ctx.here h) k h (bound_of n) r s) (quiet (stopped (Raised no_bound) s))
+      (sent_by_falls s (hop s.ctx.router r s.ctx.here h) k h (bound_of n) r) (same_work s.work))
 
   neighbours : (k : Chunk) (h : Host) (n : ℤ) (d : Dev) → Within w (Unit {0}) (send_neighbour k h n d) (send_neighbour k h n d)
   unfolding send_neighbour

@@ -1,5 +1,6 @@
 -- What an expression gives and does, a case for each form.
-use Rattle.std.specs.Prelude.{ℕ, zero, suc, ◌+◌, ◌-◌, Bool, true, false, not, ◌&&◌, if◌then◌else◌, ◌==◌, nat_le, ℤ, pos, negsuc, List, [], ◌∷◌, ◌++◌, take, reverse, slice_get, codes, Option, Some, None}
+use Rattle.std.specs.Prelude.{ℕ, zero, suc, ◌+◌, ◌-◌, Bool, true, false, not, ◌&&◌, if◌then◌else◌, ◌==◌, nat_le, ℤ, pos, negsuc, List, []}
+use Rattle.std.specs.Prelude.{◌∷◌, ◌++◌, take, reverse, slice_get, codes, Option, Some, None}
 use Rattle.std.specs.Option.{option_or}
 use Rattle.std.specs.Str.{bytes_eq}
 use Rattle.plan_base.specs.declared.name.Name.{Name}
@@ -111,7 +112,8 @@ not_neighbour = exception (codes "NotNeighbor")
 
 -- an eval pays 1 of the purse
 unfoldable pub pay_eval : Run (Unit {0})
-pay_eval = λ s. if s.ctx.purse == 0 then raise no_bound s else quiet (gave tt (record s { ctx = record s.ctx { purse = s.ctx.purse - 1 }; evals = s.evals + 1 }))
+pay_eval = λ s. if s.ctx.purse == 0 then raise no_bound s else quiet
+    (gave tt (record s { ctx = record s.ctx { purse = s.ctx.purse - 1 }; evals = s.evals + 1 }))
 
 -- whether a bound is at least 1 and at most the purse
 abbrev pub is_paid : ℤ → ℕ → Bool
@@ -150,7 +152,9 @@ unfoldable pub is_next : VisitState → Dev → Host → Bool
 is_next s d h = if d.0 == 0 then s.ctx.here.0 == h.0 else leads_to s.ctx.neighbours d h
 
 unfoldable pub send_neighbour : Chunk → Host → ℤ → Dev → Run (Unit {0})
-send_neighbour k h n d = λ s. if is_paid n s.ctx.purse then (if is_next s d h then sent_packet d k h (bound_of n) default_route s else raise not_neighbour s) else raise no_bound s
+send_neighbour k h n d =
+    λ s. if is_paid n s.ctx.purse then
+    (if is_next s d h then sent_packet d k h (bound_of n) default_route s else raise not_neighbour s) else raise no_bound s
 
 -- ---- exceptions
 

@@ -1,3 +1,4 @@
+//! A name with its value.
 use containers::Items;
 use plan_base::{Name, Value};
 

@@ -1,3 +1,4 @@
+//! How a visit ended, and what it did.
 use crate::sent::Outbox;
 use plan_base::{Exn, Value};
 use service_api::Notes;

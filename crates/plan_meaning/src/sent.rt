@@ -1,3 +1,4 @@
+//! A packet that a visit sends.
 use checked_chunks::CheckedPacket;
 use containers::Items;
 use plan_base::Dev;

@@ -1,3 +1,4 @@
+//! Why an evaluation gave no value.
 ghost use Rattle.std.specs.Prelude.{◌≡◌};
 ghost use Rattle.plan_meaning.specs.declared.stop.EvalStop.TheVariants as stop;
 

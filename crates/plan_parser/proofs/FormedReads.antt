@@ -38,10 +38,15 @@ use Rattle.plan_parser_exprs.specs.Ahead.{Front, Reader, place, behind, kind_in,
 use Rattle.plan_parser_exprs.specs.Begins.{begins_operand, begins_expr}
 use Rattle.plan_parser_exprs.specs.Joints.{joint_of}
 use Rattle.plan_parser_exprs.specs.Nodes.{leaf, joined_nodes, clauses_of}
-use Rattle.plan_parser_exprs.specs.Exprs.{literal_key, literal, literal_from, opens_at, need_open, chain_step, chain_from, catch_at, clause_follows, items_from, arguments_behind, arguments, call, name_operand, chunk, tuple, single, grouped_expression, parens_behind, parens, typed_nil, listing, brackets_behind, brackets, binding, bindings_from, let_form, clause, clauses_from, try_form, raise_typed, raise_plain, raise_form, before_comma, before_close, fold_parts, foldl_form, foldr_form, eval_form, send_parts, remote_form, neighbor_form, key_form, symbol_form, picked_part, operand_kind, operand, chained_operands, product, addition, before_list, listed_operands, compared_operands, comparison, negation, negated_operand, conjunction, disjunction, condition, low, before_next, whole, at_level, expr_to}
+use Rattle.plan_parser_exprs.specs.Exprs.{literal_key, literal, literal_from, opens_at, need_open, chain_step, chain_from, catch_at, clause_follows, items_from, arguments_behind, arguments, call}
+use Rattle.plan_parser_exprs.specs.Exprs.{name_operand, chunk, tuple, single, grouped_expression, parens_behind, parens, typed_nil, listing, brackets_behind, brackets, binding, bindings_from}
+use Rattle.plan_parser_exprs.specs.Exprs.{let_form, clause, clauses_from, try_form, raise_typed, raise_plain, raise_form, before_comma, before_close, fold_parts, foldl_form, foldr_form, eval_form}
+use Rattle.plan_parser_exprs.specs.Exprs.{send_parts, remote_form, neighbor_form, key_form, symbol_form, picked_part, operand_kind, operand, chained_operands, product, addition, before_list}
+use Rattle.plan_parser_exprs.specs.Exprs.{listed_operands, compared_operands, comparison, negation, negated_operand, conjunction, disjunction, condition, low, before_next, whole, at_level, expr_to}
 use Rattle.plan_parser_exprs.proofs.Builds.{clauses_last}
 use Rattle.plan_parser.proofs.FormedTypes.{Kinds, Holds, Any, step, choose, weaken, behind_kinds, symbol_holds, opens_holds, Each, each_last, Between, more_holds, more_some, Good, type_holds}
-use Rattle.plan_parser.proofs.FormedNodes.{Sound, leaf_sound, joined_sound, then_sound, foldl_sound, foldr_sound, not_sound, eval_sound, part_sound, if_sound, remote_sound, neighbor_sound, call_sound, chunk_sound, tuple_sound, bracketed_sound, SoundBound, let_sound, SoundCaught, SoundClauses, try_sound}
+use Rattle.plan_parser.proofs.FormedNodes.{Sound, leaf_sound, joined_sound, then_sound, foldl_sound, foldr_sound, not_sound, eval_sound, part_sound, if_sound, remote_sound, neighbor_sound, call_sound}
+use Rattle.plan_parser.proofs.FormedNodes.{chunk_sound, tuple_sound, bracketed_sound, SoundBound, let_sound, SoundCaught, SoundClauses, try_sound}
 
 -- what the next token stands for keeps the limits of its kind
 abbrev pub KindOf : Option TokenKind → Type 0

@@ -1,3 +1,4 @@
+//! A law: tokens have one answer.
 ghost use Rattle.std.specs.Prelude.{◌≡◌, ℕ, List, Ok, Err};
 ghost use Rattle.plan_base.specs.declared.tree.Draft.{Draft};
 ghost use Rattle.plan_lexer.specs.declared.token.Token.{Token};

@@ -1,3 +1,4 @@
+//! The public call: the program that tokens are.
 ghost use Rattle.std.specs.Prelude.{◌≡◌, ◌≤◌, ◌⊎◌, length, Result, Ok, Err, IfOk, IfErr, MatchResult};
 ghost use Rattle.plan_base.specs.declared.tree.Draft.{Draft};
 ghost use Rattle.plan_base.specs.WellFormed.{IsWellFormedProgram};

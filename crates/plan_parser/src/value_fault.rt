@@ -1,3 +1,4 @@
+//! Why a text is no value.
 use plan_base::NoMemory;
 use plan_lexer::LexFault;
 use plan_parser_exprs::ParseFault;

@@ -1,3 +1,4 @@
+//! The public calls for texts of values and arguments.
 ghost use Rattle.std.specs.Prelude.{◌≡◌, ◌≤◌, ◌⊎◌, ◌-◌, ◌∷◌, [], List, length, Result, Ok, Err, IfOk, IfErr, IsTrue, MatchResult};
 ghost use Rattle.std.specs.List.{list_all};
 ghost use Rattle.plan_base.specs.declared.tree.Value.{Value};

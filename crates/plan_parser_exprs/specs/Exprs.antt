@@ -1,5 +1,6 @@
 -- How an expression is read, with its first refusal.
-use Rattle.std.specs.Prelude.{◌&&◌, ◌||◌, ℕ, zero, suc, Bool, true, false, List, [], ◌∷◌, ◌++◌, length, Option, Some, None, is_some, Result, Ok, Err, if◌then◌else◌}
+use Rattle.std.specs.Prelude.{◌&&◌, ◌||◌, ℕ, zero, suc, Bool, true, false, List, [], ◌∷◌, ◌++◌, length, Option, Some, None, is_some, Result}
+use Rattle.std.specs.Prelude.{Ok, Err, if◌then◌else◌}
 use Rattle.plan_base.specs.declared.limit.Limit.{Limit}
 use Rattle.plan_base.specs.declared.limit.Limit.TheVariants as limits
 use Rattle.plan_base.specs.declared.name.Name.{Name}
@@ -29,7 +30,8 @@ use Rattle.plan_parser_exprs.specs.Ahead.{Front, Reader, ◌>>=◌, place, behin
 use Rattle.plan_parser_exprs.specs.Begins.{begins_operand, begins_expr}
 use Rattle.plan_parser_exprs.specs.Types.{opens, past, more, type_to}
 use Rattle.plan_parser_exprs.specs.Joints.{joint_of}
-use Rattle.plan_parser_exprs.specs.Nodes.{trees, leaf, over_one, over_two, over_three, over_four, over_list, joined_nodes, consed_nodes, bracketed_nodes, let_of, try_of}
+use Rattle.plan_parser_exprs.specs.Nodes.{trees, leaf, over_one, over_two, over_three, over_four, over_list, joined_nodes, consed_nodes}
+use Rattle.plan_parser_exprs.specs.Nodes.{bracketed_nodes, let_of, try_of}
 
 -- the expression that one token is
 abbrev pub literal_key : Key → Option Expr
@@ -57,7 +59,9 @@ opens_at begins room f = if begins f then opens room f else Err (Expected wanted
 
 -- an opening bracket that must stand here
 unfoldable pub need_open : ℕ → Reader (Unit {0})
-need_open room f = if is_symbol symbols.ParenOpen f then (opens room f >>= λ o. Ok (tt, behind f)) else Err (Expected (wanted.Symbol symbols.ParenOpen) (place f))
+need_open room f =
+    if is_symbol symbols.ParenOpen f then (opens room f >>= λ o. Ok (tt, behind f)) else Err
+    (Expected (wanted.Symbol symbols.ParenOpen) (place f))
 
 -- one more operand where a joint stands
 abbrev pub chain_step : Reader Node → (Node → Reader Node) → Node → Front → Option Joint → Result (Node × Front) ParseFault

@@ -11,7 +11,8 @@ use Rattle.plan_parser_exprs.specs.declared.start.Start.TheVariants as starts
 use Rattle.plan_parser_exprs.specs.declared.level.Level.{Level}
 use Rattle.plan_parser_exprs.specs.declared.node.Node.{Node}
 use Rattle.plan_parser_exprs.specs.Ahead.{Reader, next_kind}
-use Rattle.plan_parser_exprs.specs.Exprs.{literal, literal_from, name_operand, let_form, try_form, raise_form, foldl_form, foldr_form, eval_form, remote_form, neighbor_form, parens, brackets, chunk, picked_part}
+use Rattle.plan_parser_exprs.specs.Exprs.{literal, literal_from, name_operand, let_form, try_form, raise_form, foldl_form, foldr_form}
+use Rattle.plan_parser_exprs.specs.Exprs.{eval_form, remote_form, neighbor_form, parens, brackets, chunk, picked_part}
 
 -- what a reserved word begins
 abbrev pub key_start : Key → Start

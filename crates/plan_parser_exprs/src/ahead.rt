@@ -1,3 +1,4 @@
+//! The tokens that are left to read.
 ghost use Rattle.std.specs.Prelude.{◌≡◌, ◌≤◌, ◌<◌, length};
 ghost use Rattle.std.specs.Option.{option_copied};
 ghost use Rattle.plan_parser_exprs.specs.Ahead.{Gives, need_symbol, need_key, name_at, place, behind, next_kind, is_word, is_symbol, is_key};

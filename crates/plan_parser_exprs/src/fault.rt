@@ -1,3 +1,4 @@
+//! Why tokens are no program or no value.
 ghost use Rattle.std.specs.Prelude.{◌≡◌};
 ghost use Rattle.plan_parser_exprs.specs.Wants.{wanted_text};
 

@@ -27,7 +27,8 @@ use Rattle.checked_chunks.specs.Kept.{is_small_chunk}
 use Rattle.plan_types_chunks.specs.Chunks.{fits, sound, right, ill_from, ill_with, ill_call, ill_code, illness, as_fault, or_large, refusal_of}
 use Rattle.plan_types_chunks.proofs.Values.{value_law}
 use Rattle.plan_parser_laws.proofs.ProgramReadings.{first_is as first_of_code, one_refusal}
-use Rattle.plan_parser_laws.specs.ChunkConditions.{Condition, of_code, of_entry, of_count, of_argument, of_size, Keeps, Blames, for_code, for_entry, for_count, for_argument, for_size, arguments_from, of_call, conditions, call_conditions, FirstFailing, here, later}
+use Rattle.plan_parser_laws.specs.ChunkConditions.{Condition, of_code, of_entry, of_count, of_argument, of_size, Keeps, Blames, for_code, for_entry, for_count, for_argument, for_size, arguments_from}
+use Rattle.plan_parser_laws.specs.ChunkConditions.{of_call, conditions, call_conditions, FirstFailing, here, later}
 
 -- ---- answers of a list of conditions
 
@@ -117,7 +118,8 @@ module _ (c : Chunk) (d : Fun) (is : fun_of c.code c.entry ≡ Some d) where
   arguments_stand n (v ∷ vs) [] more o lv lt same g s = absurd (omega (arith, same))
   arguments_stand n (v ∷ vs) (t ∷ ts) more o lv lt same g s =
       by_right (right v t) refl
-      (arguments_stand (n + 1) vs ts more o (λ j. (let e : n + 1 + j ≡ n + suc j = omega arith in ap (slice_get c.args) e ∙ lv (suc j))) (λ j. (let e : n + 1 + j ≡ n + suc j = omega arith in ap (slice_get (param_types d.params)) e ∙ lt (suc j))) (omega (arith, same)) (rest_good v vs g) s)
+      (arguments_stand (n + 1) vs ts more o (λ j. (let e : n + 1 + j ≡ n + suc j = omega arith in ap (slice_get c.args) e ∙ lv (suc j)))
+      (λ j. (let e : n + 1 + j ≡ n + suc j = omega arith in ap (slice_get (param_types d.params)) e ∙ lt (suc j))) (omega (arith, same)) (rest_good v vs g) s)
     where
       value_at : slice_get c.args n ≡ Some v
       value_at = let e : n ≡ n + 0 = omega arith in ap (slice_get c.args) e ∙ lv 0

@@ -16,7 +16,8 @@ use Rattle.plan_parser_exprs.specs.declared.node.Caught.{Caught}
 use Rattle.plan_parser_exprs.specs.Ahead.{Front, Reader, place, behind, next_kind, is_symbol, is_key}
 use Rattle.plan_parser_exprs.specs.Begins.{begins_expr}
 use Rattle.plan_parser_exprs.specs.Types.{more}
-use Rattle.plan_parser_exprs.specs.Exprs.{clause_follows, arguments, binding, bindings_from, clause, clauses_from, operand, product, addition, listed_operands, comparison, negated_operand, conjunction, disjunction, low, whole, at_level, expr_to}
+use Rattle.plan_parser_exprs.specs.Exprs.{clause_follows, arguments, binding, bindings_from, clause, clauses_from, operand, product, addition, listed_operands, comparison, negated_operand}
+use Rattle.plan_parser_exprs.specs.Exprs.{conjunction, disjunction, low, whole, at_level, expr_to}
 use Rattle.plan_parser_laws.specs.Grammar as gram
 use Rattle.plan_parser_laws.specs.Grammar.{Sym, Word, ExprAt, LowAt, OrAt, AndAt, NotAt, CmpAt, ConsAt, AddAt, MulAt, PartAt, AtomAt, ArgsAt, MoreAt, ValAt, ValsAt, ClauseAt, ClausesAt}
 use Rattle.plan_parser_laws.specs.Follow.{symbol_level, key_level, level, EndsExpr}

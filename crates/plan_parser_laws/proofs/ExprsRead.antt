@@ -27,7 +27,11 @@ use Rattle.plan_parser_exprs.specs.Begins.{begins_operand, begins_expr}
 use Rattle.plan_parser_exprs.specs.Types.{more, type_to}
 use Rattle.plan_parser_exprs.specs.Joints.{joint_of}
 use Rattle.plan_parser_exprs.specs.Nodes.{trees, leaf, over_two, over_three, over_four, over_list, bracketed_nodes, let_of, try_of}
-use Rattle.plan_parser_exprs.specs.Exprs.{literal_key, literal, literal_from, clause_follows, items_from, arguments_behind, arguments, call, name_operand, chunk, tuple, single, grouped_expression, parens_behind, parens, typed_nil, listing, brackets_behind, brackets, binding, bindings_from, let_form, clause, clauses_from, try_form, raise_typed, raise_plain, raise_form, before_comma, before_close, fold_parts, foldl_form, foldr_form, eval_form, send_parts, remote_form, neighbor_form, key_form, symbol_form, picked_part, operand_kind, operand, product, addition, before_list, listed_operands, compared_operands, comparison, negation, negated_operand, conjunction, disjunction, condition, low, before_next, whole, at_level, expr_to}
+use Rattle.plan_parser_exprs.specs.Exprs.{literal_key, literal, literal_from, clause_follows, items_from, arguments_behind, arguments, call, name_operand, chunk, tuple, single, grouped_expression}
+use Rattle.plan_parser_exprs.specs.Exprs.{parens_behind, parens, typed_nil, listing, brackets_behind, brackets, binding, bindings_from, let_form, clause, clauses_from, try_form, raise_typed}
+use Rattle.plan_parser_exprs.specs.Exprs.{raise_plain, raise_form, before_comma, before_close, fold_parts, foldl_form, foldr_form, eval_form, send_parts, remote_form, neighbor_form, key_form}
+use Rattle.plan_parser_exprs.specs.Exprs.{symbol_form, picked_part, operand_kind, operand, product, addition, before_list, listed_operands, compared_operands, comparison, negation, negated_operand}
+use Rattle.plan_parser_exprs.specs.Exprs.{conjunction, disjunction, condition, low, before_next, whole, at_level, expr_to}
 use Rattle.plan_parser_laws.specs.Grammar as gram
 use Rattle.plan_parser_laws.specs.Grammar.{Sym, Word, Called, behind2, behind3, TypeAt, ExprAt, LowAt, OrAt, AndAt, NotAt, CmpAt, ConsAt, AddAt, MulAt, PartAt, AtomAt, ArgsAt, SomeAt, MoreAt, ValAt, ValsAt, ClauseAt, ClausesAt}
 use Rattle.plan_parser_laws.proofs.TokenFacts.{comma_is_no_bracket}

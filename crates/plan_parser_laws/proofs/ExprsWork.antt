@@ -25,7 +25,11 @@ use Rattle.plan_parser_exprs.specs.Begins.{begins_operand, begins_expr}
 use Rattle.plan_parser_exprs.specs.Types.{past, more, type_to}
 use Rattle.plan_parser_exprs.specs.Joints.{joint_of}
 use Rattle.plan_parser_exprs.specs.Nodes.{joined_nodes}
-use Rattle.plan_parser_exprs.specs.Exprs.{begins_clause, catch_at, clause_follows, chain_step, chain_from, items_from, arguments_behind, arguments, call, name_operand, chunk, tuple, single, grouped_expression, parens_behind, parens, typed_nil, listing, brackets_behind, brackets, binding, bindings_from, let_form, clause, clauses_from, try_form, raise_typed, raise_plain, raise_form, before_comma, before_close, fold_parts, foldl_form, foldr_form, eval_form, send_parts, remote_form, neighbor_form, key_form, symbol_form, picked_part, operand_kind, operand, chained_operands, product, addition, before_list, compared_operands, comparison, negation, conjunction, disjunction, condition, before_next, at_level, expr_to}
+use Rattle.plan_parser_exprs.specs.Exprs.{begins_clause, catch_at, clause_follows, chain_step, chain_from, items_from, arguments_behind, arguments, call, name_operand, chunk, tuple, single}
+use Rattle.plan_parser_exprs.specs.Exprs.{grouped_expression, parens_behind, parens, typed_nil, listing, brackets_behind, brackets, binding, bindings_from, let_form, clause, clauses_from, try_form}
+use Rattle.plan_parser_exprs.specs.Exprs.{raise_typed, raise_plain, raise_form, before_comma, before_close, fold_parts, foldl_form, foldr_form, eval_form, send_parts, remote_form, neighbor_form}
+use Rattle.plan_parser_exprs.specs.Exprs.{key_form, symbol_form, picked_part, operand_kind, operand, chained_operands, product, addition, before_list, compared_operands, comparison, negation}
+use Rattle.plan_parser_exprs.specs.Exprs.{conjunction, disjunction, condition, before_next, at_level, expr_to}
 use Rattle.plan_parser_exprs.specs.Exprs as read
 use Rattle.plan_parser_laws.specs.Grammar.{ValAt, NotAt, AndAt, MulAt, PartAt}
 use Rattle.plan_parser_laws.specs.Agenda as item

@@ -24,7 +24,11 @@ use Rattle.plan_parser_exprs.specs.Begins.{begins_operand, begins_expr}
 use Rattle.plan_parser_exprs.specs.Types.{opens, more, type_to}
 use Rattle.plan_parser_exprs.specs.Joints.{joint_of}
 use Rattle.plan_parser_exprs.specs.Nodes.{trees, leaf, over_one, over_two, over_three, over_four, over_list, joined_nodes, consed_nodes, bracketed_nodes, let_of, try_of}
-use Rattle.plan_parser_exprs.specs.Exprs.{literal, literal_from, opens_at, need_open, catch_at, items_from, arguments_behind, arguments, call, name_operand, chunk, tuple, single, grouped_expression, parens_behind, parens, typed_nil, listing, brackets_behind, brackets, binding, bindings_from, let_form, clause, clauses_from, try_form, raise_typed, raise_plain, raise_form, before_comma, before_close, fold_parts, foldl_form, foldr_form, eval_form, send_parts, remote_form, neighbor_form, key_form, symbol_form, picked_part, operand_kind, operand, before_list, listed_operands, addition, comparison, negation, negated_operand, disjunction, condition, low, before_next, whole}
+use Rattle.plan_parser_exprs.specs.Exprs.{literal, literal_from, opens_at, need_open, catch_at, items_from, arguments_behind, arguments, call, name_operand, chunk, tuple, single, grouped_expression}
+use Rattle.plan_parser_exprs.specs.Exprs.{parens_behind, parens, typed_nil, listing, brackets_behind, brackets, binding, bindings_from, let_form, clause, clauses_from, try_form, raise_typed}
+use Rattle.plan_parser_exprs.specs.Exprs.{raise_plain, raise_form, before_comma, before_close, fold_parts, foldl_form, foldr_form, eval_form, send_parts, remote_form, neighbor_form, key_form}
+use Rattle.plan_parser_exprs.specs.Exprs.{symbol_form, picked_part, operand_kind, operand, before_list, listed_operands, addition, comparison, negation, negated_operand, disjunction, condition, low}
+use Rattle.plan_parser_exprs.specs.Exprs.{before_next, whole}
 use Rattle.plan_parser_laws.specs.Grammar.{Sym, Word, Called, behind2, behind3}
 use Rattle.plan_parser_laws.proofs.TokenFacts.{room_open}
 use Rattle.plan_parser_laws.proofs.Follows.{starts_no_symbol, symbol_here}

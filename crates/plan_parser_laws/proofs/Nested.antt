@@ -223,7 +223,9 @@ later_on start at depth last (b ∷ more) next h =
   where
     by_byte : (p q z : Bool) → (comment_from start (at + 1) (depth + 1) (left_by 0) more ≡ Ok next → at + 1 < next) → (comment_from start (at + 1) (depth - 1) (left_by 0) more ≡ Ok next → at + 1 < next)
         → (comment_from start (at + 1) depth (left_by b) more ≡ Ok next → at + 1 < next)
-        → (if p then comment_from start (at + 1) (depth + 1) (left_by 0) more else (if q then (if z then Ok (at + 1) else comment_from start (at + 1) (depth - 1) (left_by 0) more) else comment_from start (at + 1) depth (left_by b) more)) ≡ Ok next
+        → (if p then comment_from start (at + 1) (depth + 1) (left_by 0) more else
+        (if q then (if z then Ok (at + 1) else comment_from start (at + 1) (depth - 1) (left_by 0) more) else comment_from start (at + 1) depth (left_by b) more))
+        ≡ Ok next
         → at < next
     by_byte true q z f g k r = let l = f r in omega (arith, l)
     by_byte false true true f g k r = let same : at + 1 ≡ next = cc in omega (arith, same)
@@ -242,7 +244,9 @@ refused_at start at depth last (b ∷ more) e h =
   where
     by_byte : (p q z : Bool) → (comment_from start (at + 1) (depth + 1) (left_by 0) more ≡ Err e → e ≡ OpenComment start) → (comment_from start (at + 1) (depth - 1) (left_by 0) more ≡ Err e → e ≡ OpenComment start)
         → (comment_from start (at + 1) depth (left_by b) more ≡ Err e → e ≡ OpenComment start)
-        → (if p then comment_from start (at + 1) (depth + 1) (left_by 0) more else (if q then (if z then Ok (at + 1) else comment_from start (at + 1) (depth - 1) (left_by 0) more) else comment_from start (at + 1) depth (left_by b) more)) ≡ Err e
+        → (if p then comment_from start (at + 1) (depth + 1) (left_by 0) more else
+        (if q then (if z then Ok (at + 1) else comment_from start (at + 1) (depth - 1) (left_by 0) more) else comment_from start (at + 1) depth (left_by b) more))
+        ≡ Err e
         → e ≡ OpenComment start
     by_byte true q z f g k r = f r
     by_byte false true true f g k r = cc

@@ -21,7 +21,10 @@ use Rattle.plan_parser_exprs.specs.Begins.{kind_type, begins_type, begins_operan
 use Rattle.plan_parser_exprs.specs.Types.{past}
 use Rattle.plan_parser_exprs.specs.Joints.{joint_of}
 use Rattle.plan_parser_exprs.specs.Exprs.{begins_clause}
-use Rattle.plan_parser_laws.specs.Agenda.{StepOf, expected_fault, GrammarItem, sym, word, a_name, a_type, lists, first_type, behind_first, next_type, behind_next, whole, maybe_next, low, chain, more_of, negated, compared, maybe_compared, listed, maybe_listed, operand, maybe_call, behind_paren, behind_bracket, behind_raise, open_bracket, args, more_items, more_vals, clauses, maybe_clause, types, more_types, params, more_params, declarations, declaration, body, judgement, Counted, enter, key_step, symbol_step, operand_step, name_step, type_step, right_side, body_size, judge, another, step}
+use Rattle.plan_parser_laws.specs.Agenda.{StepOf, expected_fault, GrammarItem, sym, word, a_name, a_type, lists, first_type, behind_first, next_type, behind_next, whole, maybe_next, low, chain}
+use Rattle.plan_parser_laws.specs.Agenda.{more_of, negated, compared, maybe_compared, listed, maybe_listed, operand, maybe_call, behind_paren, behind_bracket, behind_raise, open_bracket, args}
+use Rattle.plan_parser_laws.specs.Agenda.{more_items, more_vals, clauses, maybe_clause, types, more_types, params, more_params, declarations, declaration, body, judgement, Counted, enter, key_step}
+use Rattle.plan_parser_laws.specs.Agenda.{symbol_step, operand_step, name_step, type_step, right_side, body_size, judge, another, step}
 
 -- a step that goes on, or refuses for a reason of the tokens' own
 pub Own : {I : Type 0} → StepOf I → Type 0

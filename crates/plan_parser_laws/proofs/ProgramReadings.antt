@@ -19,7 +19,8 @@ use Rattle.plan_types_spec.specs.TypingFills.{Becomes, FunFills, Fills}
 use Rattle.plan_types_spec.proofs.Right.{becomes_suits}
 use Rattle.plan_types_spec.proofs.Programs.{annotated_sound, annotated_complete, depths_kept}
 use Rattle.plan_parser_laws.specs.Judgements.{behind, Refused}
-use Rattle.plan_parser_laws.specs.Conditions.{Condition, of_exception, of_function, of_body, of_size, nodes_before, Blames, for_service, for_exception, for_function, for_body, for_size, conditions_from, conditions, FirstUnkept, here, later, FirstRefusal, IsTypedOrRefused}
+use Rattle.plan_parser_laws.specs.Conditions.{Condition, of_exception, of_function, of_body, of_size, nodes_before, Blames, for_service, for_exception, for_function, for_body, for_size}
+use Rattle.plan_parser_laws.specs.Conditions.{conditions_from, conditions, FirstUnkept, here, later, FirstRefusal, IsTypedOrRefused}
 use Rattle.plan_parser_laws.proofs.Exprs.{Whole, whole, apart, one, one_filling}
 use Rattle.plan_parser_laws.proofs.Names.{AllKept, StandsFor, kept_first, none_kept, take_more, From, from_here, from_next, from_start, services_stand, exceptions_stand, functions_stand}
 
@@ -173,7 +174,10 @@ module _ (p : Program) where
         let exns : ℕ → Result ℕ TypeFault = λ n. then_by (exceptions_from built_in p.exns n) funs in
         subst (λ r. StandsFor p (conditions p) r) (then_turn (services_from [] p.svcs 0) exns last)
         (services_stand p p.svcs 0 0 [] _ (λ n. then_by (exns n) last) (from_start p.svcs) refl refl
-        (λ n e. subst (λ r. StandsFor p (conditions_from of_exception 0 (length p.exns) (conditions_from of_function 0 (length p.funs) (conditions_from of_body 0 (length p.funs) (of_size ∷ [])))) r) (then_turn (exceptions_from built_in p.exns n) funs last)
+        (λ n e.
+        subst (λ r.
+        StandsFor p (conditions_from of_exception 0 (length p.exns)
+        (conditions_from of_function 0 (length p.funs) (conditions_from of_body 0 (length p.funs) (of_size ∷ [])))) r) (then_turn (exceptions_from built_in p.exns n) funs last)
         (exceptions_stand p p.exns 0 n built_in _ (λ m. then_by (funs m) last) (from_start p.exns) (sym (append-nil built_in)) (omega (arith, e))
         (λ m k. functions_stand p p.funs 0 m (map (λ d. d.name) p.svcs) _ last (from_start p.funs) (sym (append-nil (map (λ d. d.name) p.svcs))) (omega (arith, k)) (λ _. bodies_and_size)))))
 

@@ -19,7 +19,8 @@ use Rattle.plan_types_spec.specs.TypingOrder.{Checking, Found, pure, refuse, aft
 use Rattle.plan_types_spec.specs.TypingOrder as order
 use Rattle.plan_types_spec.specs.TypingFills.{Becomes}
 use Rattle.plan_base.proofs.SameTypes.{same_type_true, same_type_of}
-use Rattle.plan_parser_laws.specs.Judgements.{Judgement, kept, test, same, part, there, stands_earlier, none_earlier, suits, shallow, parts, typed_part, arguments, clauses, behind, FirstFailing, fails, differ, refuses, passes, agree, becomes, Refused}
+use Rattle.plan_parser_laws.specs.Judgements.{Judgement, kept, test, same, part, there, stands_earlier, none_earlier, suits, shallow, parts, typed_part, arguments, clauses, behind, FirstFailing}
+use Rattle.plan_parser_laws.specs.Judgements.{fails, differ, refuses, passes, agree, becomes, Refused}
 use Rattle.plan_parser_laws.proofs.Named.{earlier_is, none_is}
 
 -- one part of the checking after two others

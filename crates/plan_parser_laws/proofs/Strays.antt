@@ -1,5 +1,6 @@
 -- Which fault a stray front has.
-use Rattle.std.proofs.Common.{◌≡◌, ℕ, zero, suc, ◌+◌, ◌-◌, ◌*◌, ◌<◌, ◌≤◌, ◌^◌, Bool, true, false, cond, List, [], ◌∷◌, ◌++◌, length, get_or, drop, take, Option, Some, None, Result, Ok, Err, nat_lt, ◌==◌, ◌&&◌, pos, neg_ℤ, refl, sym, ap, ◌∙◌, arith, inl, inr, ◌⊎◌}
+use Rattle.std.proofs.Common.{◌≡◌, ℕ, zero, suc, ◌+◌, ◌-◌, ◌*◌, ◌<◌, ◌≤◌, ◌^◌, Bool, true, false, cond, List, [], ◌∷◌, ◌++◌, length, get_or, drop, take, Option, Some, None, Result, Ok, Err, nat_lt}
+use Rattle.std.proofs.Common.{◌==◌, ◌&&◌, pos, neg_ℤ, refl, sym, ap, ◌∙◌, arith, inl, inr, ◌⊎◌}
 use Rattle.std.specs.Prelude.{◌↔◌, if◌then◌else◌, IsTrue}
 use Rattle.std.specs.Char.{is_ascii_digit, is_ascii_alphabetic}
 use Rattle.std.specs.List.{list_all, prefix_len}
@@ -259,7 +260,9 @@ module _ (at : ℕ) (text : List ℕ) (e : LexFault) (refused : token_at at text
       byte b q = grind (arith, nat_tests)
 
       go : (p : Bool) → is_ascii_alphabetic (get_or text 0 0) ≡ p → (q : Bool) → is_ascii_digit (get_or text 0 0) ≡ q → (r : Bool) → (get_or text 0 0 == 34) ≡ r → (s : Bool) → (get_or text 0 0 == 39) ≡ s
-          → cond p (word_at at text) (cond q (int_at at text) (cond r (string_at at (drop 1 text) >>= λ s. gave (kind.Str s.0, s.1)) (cond s (char_at at (drop 1 text) >>= λ c. gave (kind.Char c.0, c.1)) (signed_at at text)))) ≡ Err e → StrayFault e at text
+          → cond p (word_at at text) (cond q (int_at at text)
+          (cond r (string_at at (drop 1 text) >>= λ s. gave (kind.Str s.0, s.1)) (cond s (char_at at (drop 1 text) >>= λ c. gave (kind.Char c.0, c.1)) (signed_at at text))))
+          ≡ Err e → StrayFault e at text
       go true a q b r c s d i = of_word a i
       go false a true b r c s d i = of_int b i
       go false a false b true c s d i = absurd (stray.no_string (byte 34 c))

@@ -10,10 +10,14 @@ use Rattle.plan_parser_exprs.specs.Ahead.{is_symbol_kind, is_key_kind}
 use Rattle.plan_parser_exprs.specs.Codes.{key_code, symbol_code}
 
 symbols_by_code : List Symbol
-symbols_by_code = symbols.ParenOpen ∷ symbols.ParenClose ∷ symbols.BracketOpen ∷ symbols.BracketClose ∷ symbols.Comma ∷ symbols.Semicolon ∷ symbols.Colon ∷ symbols.DoubleColon ∷ symbols.Equal ∷ symbols.NotEqual ∷ symbols.Less ∷ symbols.LessEqual ∷ symbols.Greater ∷ symbols.GreaterEqual ∷ symbols.Plus ∷ symbols.Minus ∷ symbols.Star ∷ symbols.Slash ∷ symbols.Caret ∷ symbols.Arrow ∷ symbols.FatArrow ∷ symbols.Bar ∷ symbols.Underscore ∷ []
+symbols_by_code = symbols.ParenOpen ∷ symbols.ParenClose ∷ symbols.BracketOpen ∷ symbols.BracketClose ∷ symbols.Comma ∷ symbols.Semicolon ∷ symbols.Colon ∷ symbols.DoubleColon ∷ symbols.Equal ∷
+    symbols.NotEqual ∷ symbols.Less ∷ symbols.LessEqual ∷ symbols.Greater ∷ symbols.GreaterEqual ∷ symbols.Plus ∷ symbols.Minus ∷ symbols.Star ∷ symbols.Slash ∷ symbols.Caret ∷ symbols.Arrow ∷
+    symbols.FatArrow ∷ symbols.Bar ∷ symbols.Underscore ∷ []
 
 keys_by_code : List Key
-keys_by_code = keys.And ∷ keys.Blob ∷ keys.Bool ∷ keys.Char ∷ keys.Chunk ∷ keys.Dev ∷ keys.Else ∷ keys.End ∷ keys.Eval ∷ keys.Exception ∷ keys.False ∷ keys.Foldl ∷ keys.Foldr ∷ keys.Fun ∷ keys.Handle ∷ keys.Host ∷ keys.If ∷ keys.In ∷ keys.Int ∷ keys.Let ∷ keys.List ∷ keys.Mod ∷ keys.Not ∷ keys.OnNeighbor ∷ keys.OnRemote ∷ keys.Or ∷ keys.Raise ∷ keys.Str ∷ keys.Svc ∷ keys.Then ∷ keys.True ∷ keys.Try ∷ keys.Unit ∷ keys.Val ∷ []
+keys_by_code = keys.And ∷ keys.Blob ∷ keys.Bool ∷ keys.Char ∷ keys.Chunk ∷ keys.Dev ∷ keys.Else ∷ keys.End ∷ keys.Eval ∷ keys.Exception ∷ keys.False ∷ keys.Foldl ∷ keys.Foldr ∷ keys.Fun ∷ keys.Handle
+    ∷ keys.Host ∷ keys.If ∷ keys.In ∷ keys.Int ∷ keys.Let ∷ keys.List ∷ keys.Mod ∷ keys.Not ∷ keys.OnNeighbor ∷ keys.OnRemote ∷ keys.Or ∷ keys.Raise ∷ keys.Str ∷ keys.Svc ∷ keys.Then ∷ keys.True ∷
+    keys.Try ∷ keys.Unit ∷ keys.Val ∷ []
 
 symbol_back : (s : Symbol) → get_or symbols_by_code (symbol_code s) symbols.Underscore ≡ s
 unfolding symbols_by_code

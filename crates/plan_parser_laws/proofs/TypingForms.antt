@@ -24,7 +24,8 @@ use Rattle.plan_types_spec.specs.TypingOrder as order
 use Rattle.plan_parser_laws.specs.Judgements.{Judgement, kept, test, same, part, there, none_earlier, suits, shallow, parts, typed_part, arguments, clauses, behind}
 use Rattle.plan_parser_laws.specs.Judgements as spec
 use Rattle.plan_parser_laws.proofs.Named.{earlier_is, named_is, none_is}
-use Rattle.plan_parser_laws.proofs.Stands.{Stands, Good, AllGood, ClausesGood, end_stands, test_stands, there_stands, same_stands, suits_stands, shallow_stands, run_stands, typed_stands, parts_stand, arguments_stand, clauses_stand, folding_stands}
+use Rattle.plan_parser_laws.proofs.Stands.{Stands, Good, AllGood, ClausesGood, end_stands, test_stands, there_stands, same_stands, suits_stands, shallow_stands, run_stands, typed_stands, parts_stand}
+use Rattle.plan_parser_laws.proofs.Stands.{arguments_stand, clauses_stand, folding_stands}
 
 fold_above : {X : Type 0} (f : X → ℕ) (a : ℕ) (xs : List X) → a ≤ fold (λ m y. max m (f y)) a xs
 fold_above f a [] = omega arith
@@ -55,7 +56,9 @@ module _ (code : Program) (seen : ℕ) (run : Ctx → Option Ty → Expr → Che
       → Is n (expr_nodes a + 0) (part c None a (λ u. there (part_in i u) (fault.WrongShape (place.Node at)) (λ t. suits at want t))) (order.part code seen run c at want i a)
   unfolding order.part
   part_form n at c want i a low g =
-      run_stands code seen run n 0 c None a (λ r. or_refuse (part_in i r.1) (fault.WrongShape (place.Node at)) >>= (λ t. settled_type at want (x.Part i r.0) t)) (λ u. there (part_in i u) (fault.WrongShape (place.Node at)) (λ t. suits at want t)) g
+      run_stands code seen run n 0 c None a (λ r.
+      or_refuse (part_in i r.1) (fault.WrongShape (place.Node at))
+      >>= (λ t. settled_type at want (x.Part i r.0) t)) (λ u. there (part_in i u) (fault.WrongShape (place.Node at)) (λ t. suits at want t)) g
       (λ r. there_stands code seen (behind n (expr_nodes a)) 0 (part_in i r.1) (fault.WrongShape (place.Node at)) (λ t. settled_type at want (x.Part i r.0) t) (λ t. suits at want t)
       (λ t. suits_stands code seen (behind n (expr_nodes a)) at want (x.Part i r.0) t (omega arith)))
 
@@ -69,9 +72,13 @@ module _ (code : Program) (seen : ℕ) (run : Ctx → Option Ty → Expr → Che
       → Is n (sum_by expr_nodes es + 0) (spec.primitive code seen c at want p es None) (order.of_items code seen run c at want f p es)
   unfolding order.of_items
   of_items_stands n at c want f p es low g =
-      test_stands code seen n (sum_by expr_nodes es + 0) (length es == 1) (fault.Arity (place.Node at)) (order.parts code seen run c None es >>= (λ r. or_refuse (given_of p r.1) (fault.WrongShape (place.Node at)) >>= (λ t. settled_type at want (x.Call f r.0) t)))
+      test_stands code seen n (sum_by expr_nodes es + 0) (length es == 1) (fault.Arity (place.Node at))
+      (order.parts code seen run c None es >>= (λ r. or_refuse (given_of p r.1) (fault.WrongShape (place.Node at)) >>= (λ t. settled_type at want (x.Call f r.0) t)))
       (parts c None [] es (λ ts. there (given_of p ts) (fault.WrongShape (place.Node at)) (λ t. suits at want t)))
-      (λ _. parts_stand code seen run es n 0 [] [] c None (λ r. or_refuse (given_of p r.1) (fault.WrongShape (place.Node at)) >>= (λ t. settled_type at want (x.Call f r.0) t)) (λ ts. there (given_of p ts) (fault.WrongShape (place.Node at)) (λ t. suits at want t)) low g
+      (λ _.
+      parts_stand code seen run es n 0 [] [] c None (λ r.
+      or_refuse (given_of p r.1) (fault.WrongShape (place.Node at))
+      >>= (λ t. settled_type at want (x.Call f r.0) t)) (λ ts. there (given_of p ts) (fault.WrongShape (place.Node at)) (λ t. suits at want t)) low g
       (λ r m small. there_stands code seen m 0 (given_of p r.1) (fault.WrongShape (place.Node at)) (λ t. settled_type at want (x.Call f r.0) t) (λ t. suits at want t) (λ t. suits_stands code seen m at want (x.Call f r.0) t small)))
 
   primitive_stands : (n at : ℕ) (c : Ctx) (want : Option Ty) (f : Name) (p : Primitive) (es : List Expr) → n ≤ 4294967295 → AllGood code seen run es
@@ -121,7 +128,8 @@ module _ (code : Program) (seen : ℕ) (run : Ctx → Option Ty → Expr → Che
       → Is n (expr_nodes a + (expr_nodes b + (expr_nodes d + 0))) (typed_part c ty.Bool a (part c want b (λ t. typed_part c t d kept))) (order.choice code seen run c want a b d)
   unfolding order.choice
   choice_stands n at c want a b d low g h i =
-      typed_stands code seen run n (expr_nodes b + (expr_nodes d + 0)) c ty.Bool a (λ test. run c want b >>= (λ r. order.wanting code seen run c r.1 d >>= (λ other. pure (x.If test r.0 other, r.1)))) (part c want b (λ t. typed_part c t d kept)) g
+      typed_stands code seen run n (expr_nodes b + (expr_nodes d + 0)) c ty.Bool a (λ test.
+      run c want b >>= (λ r. order.wanting code seen run c r.1 d >>= (λ other. pure (x.If test r.0 other, r.1)))) (part c want b (λ t. typed_part c t d kept)) g
       (λ p. run_stands code seen run (behind n (expr_nodes a)) (expr_nodes d + 0) c want b (λ r. order.wanting code seen run c r.1 d >>= (λ other. pure (x.If p r.0 other, r.1))) (λ t. typed_part c t d kept) h
       (λ r. typed_stands code seen run (behind (behind n (expr_nodes a)) (expr_nodes b)) 0 c r.1 d (λ other. pure (x.If p r.0 other, r.1)) kept i
       (λ q. end_stands code seen {A = Found} (x.If p r.0 q, r.1) (behind (behind (behind n (expr_nodes a)) (expr_nodes b)) (expr_nodes d)) (omega arith))))
@@ -166,17 +174,21 @@ module _ (code : Program) (seen : ℕ) (run : Ctx → Option Ty → Expr → Che
       → Is n (expr_nodes a + (expr_nodes h + (expr_nodes k + 0))) (typed_part c ty.Chunk a (typed_part c ty.Host h (typed_part c ty.Int k (suits at want ty.Unit)))) (order.remote code seen run c at want a h k r)
   unfolding order.remote
   remote_stands n at c want a h k r ga gh gk =
-      typed_stands code seen run n (expr_nodes h + (expr_nodes k + 0)) c ty.Chunk a (λ p. order.wanting code seen run c ty.Host h >>= (λ q. order.wanting code seen run c ty.Int k >>= (λ s. settled_type at want (x.OnRemote p q s r) ty.Unit)))
+      typed_stands code seen run n (expr_nodes h + (expr_nodes k + 0)) c ty.Chunk a (λ p.
+      order.wanting code seen run c ty.Host h >>= (λ q. order.wanting code seen run c ty.Int k >>= (λ s. settled_type at want (x.OnRemote p q s r) ty.Unit)))
       (typed_part c ty.Host h (typed_part c ty.Int k (suits at want ty.Unit))) ga (λ p. two_stand (behind n (expr_nodes a)) at c want ty.Host ty.Int ty.Unit h k (λ q s. x.OnRemote p q s r) gh gk)
 
   neighbour_stands : (n at : ℕ) (c : Ctx) (want : Option Ty) (a h k d : Expr) → Good code seen run a → Good code seen run h → Good code seen run k → Good code seen run d
-      → Is n (expr_nodes a + (expr_nodes h + (expr_nodes k + (expr_nodes d + 0)))) (typed_part c ty.Chunk a (typed_part c ty.Host h (typed_part c ty.Int k (typed_part c ty.Dev d (suits at want ty.Unit))))) (order.neighbour code seen run c at want a h k d)
+      → Is n (expr_nodes a + (expr_nodes h + (expr_nodes k + (expr_nodes d + 0))))
+      (typed_part c ty.Chunk a (typed_part c ty.Host h (typed_part c ty.Int k (typed_part c ty.Dev d (suits at want ty.Unit))))) (order.neighbour code seen run c at want a h k d)
   unfolding order.neighbour
   neighbour_stands n at c want a h k d ga gh gk gd =
       typed_stands code seen run n (expr_nodes h + (expr_nodes k + (expr_nodes d + 0))) c ty.Chunk a
       (λ p. order.wanting code seen run c ty.Host h >>= (λ q. order.wanting code seen run c ty.Int k >>= (λ s. order.wanting code seen run c ty.Dev d >>= (λ u. settled_type at want (x.OnNeighbor p q s u) ty.Unit))))
       (typed_part c ty.Host h (typed_part c ty.Int k (typed_part c ty.Dev d (suits at want ty.Unit)))) ga
-      (λ p. typed_stands code seen run (behind n (expr_nodes a)) (expr_nodes k + (expr_nodes d + 0)) c ty.Host h (λ q. order.wanting code seen run c ty.Int k >>= (λ s. order.wanting code seen run c ty.Dev d >>= (λ u. settled_type at want (x.OnNeighbor p q s u) ty.Unit)))
+      (λ p.
+      typed_stands code seen run (behind n (expr_nodes a)) (expr_nodes k + (expr_nodes d + 0)) c ty.Host h (λ q.
+      order.wanting code seen run c ty.Int k >>= (λ s. order.wanting code seen run c ty.Dev d >>= (λ u. settled_type at want (x.OnNeighbor p q s u) ty.Unit)))
       (typed_part c ty.Int k (typed_part c ty.Dev d (suits at want ty.Unit))) gh
       (λ q. two_stand (behind (behind n (expr_nodes a)) (expr_nodes h)) at c want ty.Int ty.Dev ty.Unit k d (λ s u. x.OnNeighbor p q s u) gk gd))
 
@@ -191,7 +203,9 @@ module _ (code : Program) (seen : ℕ) (run : Ctx → Option Ty → Expr → Che
   join_stands n at c want o a b g h =
       run_stands code seen run n (expr_nodes b + 0) c None a (λ r. if is_joined r.1 then (order.wanting code seen run c r.1 b >>= (λ q. settled_type at want (x.Binary o r.0 q) r.1)) else refuse (fault.WrongShape (place.Node at)))
       (λ t. test (is_joined t) (fault.WrongShape (place.Node at)) (typed_part c t b (suits at want t))) g
-      (λ r. test_stands code seen (behind n (expr_nodes a)) (expr_nodes b + 0) (is_joined r.1) (fault.WrongShape (place.Node at)) (order.wanting code seen run c r.1 b >>= (λ q. settled_type at want (x.Binary o r.0 q) r.1)) (typed_part c r.1 b (suits at want r.1))
+      (λ r.
+      test_stands code seen (behind n (expr_nodes a)) (expr_nodes b + 0) (is_joined r.1) (fault.WrongShape (place.Node at))
+      (order.wanting code seen run c r.1 b >>= (λ q. settled_type at want (x.Binary o r.0 q) r.1)) (typed_part c r.1 b (suits at want r.1))
       (λ _. last_stands (behind n (expr_nodes a)) at c want r.1 r.1 b (λ q. x.Binary o r.0 q) h))
 
   comparison_stands : (n at : ℕ) (c : Ctx) (want : Option Ty) (o : Op) (a b : Expr) → Good code seen run a → Good code seen run b
@@ -207,14 +221,17 @@ module _ (code : Program) (seen : ℕ) (run : Ctx → Option Ty → Expr → Che
   order_stands n at c want o a b g h =
       run_stands code seen run n (expr_nodes b + 0) c None a (λ r. if is_ordered r.1 then (order.wanting code seen run c r.1 b >>= (λ q. settled_type at want (x.Binary o r.0 q) ty.Bool)) else refuse (fault.WrongShape (place.Node at)))
       (λ t. test (is_ordered t) (fault.WrongShape (place.Node at)) (typed_part c t b (suits at want ty.Bool))) g
-      (λ r. test_stands code seen (behind n (expr_nodes a)) (expr_nodes b + 0) (is_ordered r.1) (fault.WrongShape (place.Node at)) (order.wanting code seen run c r.1 b >>= (λ q. settled_type at want (x.Binary o r.0 q) ty.Bool)) (typed_part c r.1 b (suits at want ty.Bool))
+      (λ r.
+      test_stands code seen (behind n (expr_nodes a)) (expr_nodes b + 0) (is_ordered r.1) (fault.WrongShape (place.Node at))
+      (order.wanting code seen run c r.1 b >>= (λ q. settled_type at want (x.Binary o r.0 q) ty.Bool)) (typed_part c r.1 b (suits at want ty.Bool))
       (λ _. last_stands (behind n (expr_nodes a)) at c want r.1 ty.Bool b (λ q. x.Binary o r.0 q) h))
 
   prefix_stands : (n at : ℕ) (c : Ctx) (want : Option Ty) (o : Op) (a b : Expr) → Good code seen run a → Good code seen run b
       → Is n (expr_nodes a + (expr_nodes b + 0)) (spec.sides code seen c at want a b listing) (order.prefix code seen run c at want o a b)
   unfolding order.prefix
   prefix_stands n at c want o a b g h =
-      run_stands code seen run n (expr_nodes b + 0) c (option_and_then items_of want) a (λ r. order.wanting code seen run c (ty.List r.1) b >>= (λ q. order.shallow at want (x.Binary o r.0 q) (ty.List r.1))) (λ t. typed_part c (ty.List t) b (shallow at want (ty.List t))) g
+      run_stands code seen run n (expr_nodes b + 0) c (option_and_then items_of want) a (λ r.
+      order.wanting code seen run c (ty.List r.1) b >>= (λ q. order.shallow at want (x.Binary o r.0 q) (ty.List r.1))) (λ t. typed_part c (ty.List t) b (shallow at want (ty.List t))) g
       (λ r. typed_stands code seen run (behind n (expr_nodes a)) 0 c (ty.List r.1) b (λ q. order.shallow at want (x.Binary o r.0 q) (ty.List r.1)) (shallow at want (ty.List r.1)) h
       (λ q. shallow_stands code seen (behind (behind n (expr_nodes a)) (expr_nodes b)) at want (x.Binary o r.0 q) (ty.List r.1) (omega arith)))
 
@@ -267,17 +284,26 @@ module _ (code : Program) (seen : ℕ) (run : Ctx → Option Ty → Expr → Che
 
       go : (b : Bool) → Is n (expr_nodes a + sum_by clause_nodes ks) (test b (fault.UnknownName (place.Node at)) (part c want a (λ t. clauses c t ks)))
           (if not b then refuse (fault.UnknownName (place.Node at)) else (run c want a >>= (λ r. order.clauses_from code seen run [] c r.1 ks >>= (λ handlers. pure (x.Try r.0 handlers, r.1)))))
-      go true = test_stands code seen n (expr_nodes a + sum_by clause_nodes ks) true (fault.UnknownName (place.Node at)) (run c want a >>= (λ r. order.clauses_from code seen run [] c r.1 ks >>= (λ handlers. pure (x.Try r.0 handlers, r.1)))) (part c want a (λ t. clauses c t ks)) (λ _. rest)
-      go false = test_stands code seen n (expr_nodes a + sum_by clause_nodes ks) false (fault.UnknownName (place.Node at)) (run c want a >>= (λ r. order.clauses_from code seen run [] c r.1 ks >>= (λ handlers. pure (x.Try r.0 handlers, r.1)))) (part c want a (λ t. clauses c t ks)) (λ _. rest)
+      go true =
+          test_stands code seen n (expr_nodes a + sum_by clause_nodes ks) true (fault.UnknownName (place.Node at))
+          (run c want a >>= (λ r. order.clauses_from code seen run [] c r.1 ks >>= (λ handlers. pure (x.Try r.0 handlers, r.1)))) (part c want a (λ t. clauses c t ks)) (λ _. rest)
+      go false =
+          test_stands code seen n (expr_nodes a + sum_by clause_nodes ks) false (fault.UnknownName (place.Node at))
+          (run c want a >>= (λ r. order.clauses_from code seen run [] c r.1 ks >>= (λ handlers. pure (x.Try r.0 handlers, r.1)))) (part c want a (λ t. clauses c t ks)) (λ _. rest)
 
   fold_left_stands : (n at : ℕ) (c : Ctx) (want : Option Ty) (f : Name) (a l : Expr) → Good code seen run a → Good code seen run l
       → Is n (expr_nodes a + (expr_nodes l + 0)) (spec.judged_form code seen c at want (Expr-F.Foldl f a l)) (order.fold_left code seen run c at want f a l)
   unfolding order.fold_left
   fold_left_stands n at c want f a l g h =
       folding_stands code seen run n at (expr_nodes a + (expr_nodes l + 0)) f
-      (λ d. order.wanting code seen run c d.0 a >>= (λ start. order.wanting code seen run c (ty.List d.1) l >>= (λ items. if same_type d.2 d.0 then settled_type at want (x.Foldl f start items) d.0 else refuse (fault.WrongShape (place.Node at)))))
+      (λ d.
+      order.wanting code seen run c d.0 a
+      >>= (λ start.
+      order.wanting code seen run c (ty.List d.1) l >>= (λ items. if same_type d.2 d.0 then settled_type at want (x.Foldl f start items) d.0 else refuse (fault.WrongShape (place.Node at)))))
       (λ p r. typed_part c p.0 a (typed_part c (ty.List p.1) l (same r p.0 (fault.WrongShape (place.Node at)) (suits at want p.0))))
-      (λ p r. typed_stands code seen run n (expr_nodes l + 0) c p.0 a (λ start. order.wanting code seen run c (ty.List p.1) l >>= (λ items. if same_type r p.0 then settled_type at want (x.Foldl f start items) p.0 else refuse (fault.WrongShape (place.Node at))))
+      (λ p r.
+      typed_stands code seen run n (expr_nodes l + 0) c p.0 a (λ start.
+      order.wanting code seen run c (ty.List p.1) l >>= (λ items. if same_type r p.0 then settled_type at want (x.Foldl f start items) p.0 else refuse (fault.WrongShape (place.Node at))))
       (typed_part c (ty.List p.1) l (same r p.0 (fault.WrongShape (place.Node at)) (suits at want p.0))) g
       (λ s. typed_stands code seen run (behind n (expr_nodes a)) 0 c (ty.List p.1) l (λ items. if same_type r p.0 then settled_type at want (x.Foldl f s items) p.0 else refuse (fault.WrongShape (place.Node at)))
       (same r p.0 (fault.WrongShape (place.Node at)) (suits at want p.0)) h
@@ -289,9 +315,14 @@ module _ (code : Program) (seen : ℕ) (run : Ctx → Option Ty → Expr → Che
   unfolding order.fold_right
   fold_right_stands n at c want f a l g h =
       folding_stands code seen run n at (expr_nodes a + (expr_nodes l + 0)) f
-      (λ d. order.wanting code seen run c d.1 a >>= (λ start. order.wanting code seen run c (ty.List d.0) l >>= (λ items. if same_type d.2 d.1 then settled_type at want (x.Foldr f start items) d.1 else refuse (fault.WrongShape (place.Node at)))))
+      (λ d.
+      order.wanting code seen run c d.1 a
+      >>= (λ start.
+      order.wanting code seen run c (ty.List d.0) l >>= (λ items. if same_type d.2 d.1 then settled_type at want (x.Foldr f start items) d.1 else refuse (fault.WrongShape (place.Node at)))))
       (λ p r. typed_part c p.1 a (typed_part c (ty.List p.0) l (same r p.1 (fault.WrongShape (place.Node at)) (suits at want p.1))))
-      (λ p r. typed_stands code seen run n (expr_nodes l + 0) c p.1 a (λ start. order.wanting code seen run c (ty.List p.0) l >>= (λ items. if same_type r p.1 then settled_type at want (x.Foldr f start items) p.1 else refuse (fault.WrongShape (place.Node at))))
+      (λ p r.
+      typed_stands code seen run n (expr_nodes l + 0) c p.1 a (λ start.
+      order.wanting code seen run c (ty.List p.0) l >>= (λ items. if same_type r p.1 then settled_type at want (x.Foldr f start items) p.1 else refuse (fault.WrongShape (place.Node at))))
       (typed_part c (ty.List p.0) l (same r p.1 (fault.WrongShape (place.Node at)) (suits at want p.1))) g
       (λ s. typed_stands code seen run (behind n (expr_nodes a)) 0 c (ty.List p.0) l (λ items. if same_type r p.1 then settled_type at want (x.Foldr f s items) p.1 else refuse (fault.WrongShape (place.Node at)))
       (same r p.1 (fault.WrongShape (place.Node at)) (suits at want p.1)) h
@@ -303,7 +334,9 @@ module _ (code : Program) (seen : ℕ) (run : Ctx → Option Ty → Expr → Che
   unfolding order.packing
   packing_stands n at c want f es low g =
       subst (λ o. Is n (sum_by expr_nodes es + 0) (there o (fault.UnknownName (place.Node at)) (λ d. arguments c at (param_types d.params) es (suits at want ty.Chunk))) (order.packing code seen run c at want f es)) (named_is code f)
-      (there_stands code seen n (sum_by expr_nodes es + 0) (fun_of code f) (fault.UnknownName (place.Node at)) (λ d. order.arguments code seen run c at (param_types d.params) es >>= (λ given. settled_type at want (x.ChunkOf f given) ty.Chunk))
+      (
+      there_stands code seen n (sum_by expr_nodes es + 0) (fun_of code f) (fault.UnknownName (place.Node at)) (λ d.
+      order.arguments code seen run c at (param_types d.params) es >>= (λ given. settled_type at want (x.ChunkOf f given) ty.Chunk))
       (λ d. arguments c at (param_types d.params) es (suits at want ty.Chunk))
       (λ d. arguments_stand code seen run n at 0 c (param_types d.params) es (λ given. settled_type at want (x.ChunkOf f given) ty.Chunk) (suits at want ty.Chunk) low g
       (λ xs m small. suits_stands code seen m at want (x.ChunkOf f xs) ty.Chunk small)))

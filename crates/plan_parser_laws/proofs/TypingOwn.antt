@@ -18,9 +18,11 @@ use Rattle.plan_types_spec.specs.declared.type_fault.TypeFault.TheVariants.{Unkn
 use Rattle.plan_base.specs.Trees.{ExprLayer}
 use Rattle.plan_base.specs.Sizes.{type_depth, code_size}
 use Rattle.plan_types_spec.specs.Typing.{Ctx, param_names}
-use Rattle.plan_types_spec.specs.TypingNames.{place_of, binding, is_exception, is_joined, is_ordered, may_catch, prim_of, takes, service_of, OpKind, arithmetic, joining, equality, ordering, listing, kind_of, has_name, is_prim, built_in, are_new}
+use Rattle.plan_types_spec.specs.TypingNames.{place_of, binding, is_exception, is_joined, is_ordered, may_catch, prim_of, takes, service_of, OpKind, arithmetic, joining, equality, ordering, listing}
+use Rattle.plan_types_spec.specs.TypingNames.{kind_of, has_name, is_prim, built_in, are_new}
 use Rattle.plan_base.specs.SameTypes.{same_type}
-use Rattle.plan_types_spec.specs.TypingOrder.{Checking, Found, pure, refuse, after, ◌>>=◌, or_refuse, next, settled_type, shallow, variable, empty, not_earlier, checked_expression, bodies_from, then_by, services_from, exceptions_from, functions_from, declarations, sized_program, annotated_program}
+use Rattle.plan_types_spec.specs.TypingOrder.{Checking, Found, pure, refuse, after, ◌>>=◌, or_refuse, next, settled_type, shallow, variable, empty, not_earlier, checked_expression, bodies_from}
+use Rattle.plan_types_spec.specs.TypingOrder.{then_by, services_from, exceptions_from, functions_from, declarations, sized_program, annotated_program}
 use Rattle.plan_types_spec.specs.TypingOrder as order
 
 -- a refusal for a reason of the program's own
@@ -172,7 +174,9 @@ module _ (code : Program) where
         go arithmetic = one_clean c ty.Int a _ (λ p. one_clean c ty.Int b _ (λ q. settled_clean at want _ ty.Int))
         go joining = bind_clean (run c None a) _ (good c None a) (λ r. if_clean (is_joined r.1) _ (refuse (WrongShape (Node at))) (one_clean c r.1 b _ (λ q. settled_clean at want _ r.1)) (refuse_clean _ (WrongShape (Node at)) (λ h. cc)))
         go equality = bind_clean (run c None a) _ (good c None a) (λ r. one_clean c r.1 b _ (λ q. settled_clean at want _ ty.Bool))
-        go ordering = bind_clean (run c None a) _ (good c None a) (λ r. if_clean (is_ordered r.1) _ (refuse (WrongShape (Node at))) (one_clean c r.1 b _ (λ q. settled_clean at want _ ty.Bool)) (refuse_clean _ (WrongShape (Node at)) (λ h. cc)))
+        go ordering =
+            bind_clean (run c None a) _ (good c None a) (λ r.
+            if_clean (is_ordered r.1) _ (refuse (WrongShape (Node at))) (one_clean c r.1 b _ (λ q. settled_clean at want _ ty.Bool)) (refuse_clean _ (WrongShape (Node at)) (λ h. cc)))
         go listing = bind_clean (run c (option_and_then order.items_of want) a) _ (good c (option_and_then order.items_of want) a) (λ r. one_clean c (ty.List r.1) b _ (λ q. shallow_clean at want _ (ty.List r.1)))
 
     clauses_clean : (done : List Clause) (c : Ctx) (t : Ty) (ks : List Clause) → Clean (order.clauses_from code seen run done c t ks)
@@ -216,7 +220,9 @@ module _ (code : Program) where
     opened_clean c at want e (Expr-F.Dev _) = settled_clean at want e ty.Dev
     opened_clean c at want e (Expr-F.Nil u) = empty_clean at want e u
     opened_clean c at want e (Expr-F.Var v) = variable_clean c at want e v
-    opened_clean c at want e (Expr-F.Tuple es) = bind_clean (order.parts code seen run c (option_and_then (order.parts_of (length es)) want) es) _ (parts_clean [] [] c (option_and_then (order.parts_of (length es)) want) es) (λ r. shallow_clean at want _ (ty.Tuple r.1))
+    opened_clean c at want e (Expr-F.Tuple es) =
+        bind_clean (order.parts code seen run c (option_and_then (order.parts_of (length es)) want)
+        es) _ (parts_clean [] [] c (option_and_then (order.parts_of (length es)) want) es) (λ r. shallow_clean at want _ (ty.Tuple r.1))
     opened_clean c at want e (Expr-F.Call f es) = call_clean c at want f es
     opened_clean c at want e (Expr-F.If a b d) = one_clean c ty.Bool a _ (λ p. bind_clean (run c want b) _ (good c want b) (λ r. one_clean c r.1 d _ (λ q. pure_clean _ _)))
     opened_clean c at want e (Expr-F.Let n u a b) = one_clean c u a _ (λ p. bind_clean (run _ want b) _ (good _ want b) (λ r. pure_clean _ _))
@@ -225,12 +231,16 @@ module _ (code : Program) where
     opened_clean c at want e (Expr-F.Or a b) = one_clean c ty.Bool a _ (λ p. one_clean c ty.Bool b _ (λ q. settled_clean at want _ ty.Bool))
     opened_clean c at want e (Expr-F.Not a) = one_clean c ty.Bool a _ (λ p. settled_clean at want _ ty.Bool)
     opened_clean c at want e (Expr-F.Binary o a b) = operation_clean c at want o a b
-    opened_clean c at want e (Expr-F.Part i a) = bind_clean (run c None a) _ (good c None a) (λ r. bind_clean (or_refuse (order.part_in i r.1) (WrongShape (Node at))) _ (or_clean _ (WrongShape (Node at)) (λ h. cc)) (λ t. settled_clean at want _ t))
+    opened_clean c at want e (Expr-F.Part i a) =
+        bind_clean (run c None a) _ (good c None a) (λ r.
+        bind_clean (or_refuse (order.part_in i r.1) (WrongShape (Node at))) _ (or_clean _ (WrongShape (Node at)) (λ h. cc)) (λ t. settled_clean at want _ t))
     opened_clean c at want e (Expr-F.Raise n t) = raising_clean at want e n t
     opened_clean c at want e (Expr-F.Try a ks) = handling_clean c at want a ks
     opened_clean c at want e (Expr-F.Foldl f a l) = left_clean c at want f a l
     opened_clean c at want e (Expr-F.Foldr f a l) = right_clean c at want f a l
-    opened_clean c at want e (Expr-F.ChunkOf f es) = bind_clean (or_refuse (order.fun_of code f) (UnknownName (Node at))) _ (or_clean _ (UnknownName (Node at)) (λ h. cc)) (λ d. bind_clean (order.arguments code seen run c at _ es) _ (arguments_clean c at _ es) (λ given. settled_clean at want _ ty.Chunk))
+    opened_clean c at want e (Expr-F.ChunkOf f es) =
+        bind_clean (or_refuse (order.fun_of code f) (UnknownName (Node at))) _ (or_clean _ (UnknownName (Node at)) (λ h. cc)) (λ d.
+        bind_clean (order.arguments code seen run c at _ es) _ (arguments_clean c at _ es) (λ given. settled_clean at want _ ty.Chunk))
     opened_clean c at want e (Expr-F.Eval a) = one_clean c ty.Chunk a _ (λ p. settled_clean at want _ ty.Unit)
     opened_clean c at want e (Expr-F.OnRemote a h n r) = one_clean c ty.Chunk a _ (λ p. one_clean c ty.Host h _ (λ q. one_clean c ty.Int n _ (λ s. settled_clean at want _ ty.Unit)))
     opened_clean c at want e (Expr-F.OnNeighbor a h n d) = one_clean c ty.Chunk a _ (λ p. one_clean c ty.Host h _ (λ q. one_clean c ty.Int n _ (λ s. one_clean c ty.Dev d _ (λ u. settled_clean at want _ ty.Unit))))

@@ -19,7 +19,9 @@ use Rattle.plan_parser.specs.ReadTexts.{Fails, no_tokens, no_value}
 use Rattle.plan_parser.specs.declared.value_fault.ValueFault.{ValueFault}
 use Rattle.plan_parser.specs.declared.value_fault.ValueFault.TheVariants as faults
 use Rattle.plan_parser_laws.proofs.TokenOwn.{refused_own}
-use Rattle.plan_parser_laws.specs.ValueAgenda.{ValueItem, sym as a_symbol, a_type, lists, first_type, behind_first, next_type, behind_next, a_value, made, behind_paren, first_part, behind_part, next_part, behind_parts, behind_bracket, element, behind_element, first_item, next_item, behind_item, behind_items, args, more_args, the_end, enter, type_step, literal_type, literal_step, step}
+use Rattle.plan_parser_laws.specs.ValueAgenda.{ValueItem, sym as a_symbol, a_type, lists, first_type, behind_first, next_type, behind_next, a_value, made, behind_paren, first_part, behind_part}
+use Rattle.plan_parser_laws.specs.ValueAgenda.{next_part, behind_parts, behind_bracket, element, behind_element, first_item, next_item, behind_item, behind_items, args, more_args, the_end, enter}
+use Rattle.plan_parser_laws.specs.ValueAgenda.{type_step, literal_type, literal_step, step}
 use Rattle.plan_parser_laws.specs.ValueRefusals.{HoldsNoMemory}
 use Rattle.plan_parser_laws.proofs.ValueTexts.{value_refused, args_refused}
 

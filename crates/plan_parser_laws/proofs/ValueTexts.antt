@@ -56,7 +56,8 @@ module _ (tokens : List Token) (end : ℕ) where
   args_work : Works 1 (sym symbols.ParenOpen ∷ args ∷ the_end ∷ []) start None_left (to_end (args_of tokens end))
   unfolding args_of
   args_work =
-      subst (λ r. Works 1 (sym symbols.ParenOpen ∷ args ∷ the_end ∷ []) start (None_left {A = List Value}) r) (end_passes_bind (need_symbol symbols.ParenOpen start) (λ u. arguments_behind u.1 >>= λ xs. nothing_follows xs.1 >>= λ _. Ok xs.0))
+      subst (λ r. Works 1 (sym symbols.ParenOpen ∷ args ∷ the_end ∷ []) start (None_left {A = List Value}) r)
+      (end_passes_bind (need_symbol symbols.ParenOpen start) (λ u. arguments_behind u.1 >>= λ xs. nothing_follows xs.1 >>= λ _. Ok xs.0))
       (symbol_works 1 symbols.ParenOpen (args ∷ the_end ∷ []) start None_left (λ u. to_end (arguments_behind u.1 >>= λ xs. nothing_follows xs.1 >>= λ _. Ok xs.0))
       (subst (λ r. Works 1 (args ∷ the_end ∷ []) (behind start) (None_left {A = List Value}) r) (end_passes_bind (arguments_behind (behind start)) (λ xs. nothing_follows xs.1 >>= λ _. Ok xs.0))
       (after 1 (args ∷ the_end ∷ []) (behind start) (λ _. the_end ∷ []) None_left (arguments_behind (behind start)) (λ xs. to_end (nothing_follows xs.1 >>= λ _. Ok xs.0)) (arguments_work (the_end ∷ []) (behind start))

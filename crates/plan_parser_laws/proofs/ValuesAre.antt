@@ -20,7 +20,8 @@ use Rattle.plan_parser_laws.proofs.ExprsAre.{comma_shut, comma_shut_list}
 use Rattle.plan_parser_laws.proofs.Follows.{symbol_here}
 use Rattle.plan_parser_laws.proofs.TokenFacts.{room_open}
 use Rattle.plan_parser.specs.declared.item.TypedValue.{TypedValue}
-use Rattle.plan_parser.specs.Values.{typed_value, literal, begins_value, tuple_of, list_of, judged_item, fits, tuple_from, tuple, grouped_value, parens, like, listing, typed_nil, brackets, value_at, value_to, nothing_follows, argument_at, arguments_from, arguments_behind, value_of, args_of}
+use Rattle.plan_parser.specs.Values.{typed_value, literal, begins_value, tuple_of, list_of, judged_item, fits, tuple_from, tuple, grouped_value, parens, like, listing, typed_nil, brackets, value_at}
+use Rattle.plan_parser.specs.Values.{value_to, nothing_follows, argument_at, arguments_from, arguments_behind, value_of, args_of}
 use Rattle.plan_parser_laws.specs.ValueGrammar.{IsLiteral, ValueAt, MoreAt, LikeAt, IsValue, ArgsAt, AreArgs}
 use Rattle.plan_parser_laws.specs.ValueGrammar as gram
 use Rattle.plan_parser_laws.proofs.ValuesRead.{length_values}
@@ -130,7 +131,8 @@ mutual
   value_is {o} {f = f} (gram.no_items {r = q} {g = g} {t = t} a b d deep c) small =
       let same : suc (153 + q - o) ≡ 153 + suc q - o = omega (arith, small) in
       step o (suc q) f (list_of t [], behind g)
-      (nil_by o q (value_to o (suc q)) f g t (bracket_no_paren f a) (symbol_here f a) (symbol_here (behind f) b) (ap (λ n. type_to n (behind2 f)) (sym same) ∙ type_is d (symbol_ends_type g c)) (fits_ok (suc q) (place f) t deep) (symbol_here g c))
+      (nil_by o q (value_to o (suc q)) f g t (bracket_no_paren f a) (symbol_here f a) (symbol_here (behind f) b) (ap (λ n. type_to n (behind2 f)) (sym same) ∙ type_is d (symbol_ends_type g c))
+      (fits_ok (suc q) (place f) t deep) (symbol_here g c))
   value_is {o} {f = f} (gram.items {r = q} {g = g} {h = h} {i = i} {vs = vs} a d m few b) small =
       let s = starts d in
       step o (suc q) f (list_of i.ty (i.value ∷ vs), behind h)

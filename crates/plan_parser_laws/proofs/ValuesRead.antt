@@ -26,7 +26,8 @@ use Rattle.plan_parser_laws.proofs.ReadLists.{Added, more_reads}
 use Rattle.plan_parser_laws.proofs.TypesRead.{types_read}
 use Rattle.plan_parser_laws.proofs.TokenFacts.{comma_is_no_bracket, room_open}
 use Rattle.plan_parser.specs.declared.item.TypedValue.{TypedValue}
-use Rattle.plan_parser.specs.Values.{typed_value, literal, literal_from, begins_value, tuple_of, list_of, judged_item, fits, tuple_from, tuple, grouped_value, parens, like, listing, typed_nil, brackets, value_at, value_to, nothing_follows, argument_at, arguments_from, arguments_behind, value_of, args_of}
+use Rattle.plan_parser.specs.Values.{typed_value, literal, literal_from, begins_value, tuple_of, list_of, judged_item, fits, tuple_from, tuple, grouped_value, parens, like, listing, typed_nil}
+use Rattle.plan_parser.specs.Values.{brackets, value_at, value_to, nothing_follows, argument_at, arguments_from, arguments_behind, value_of, args_of}
 use Rattle.plan_parser_laws.specs.ValueGrammar.{IsLiteral, ValueAt, MoreAt, LikeAt, IsValue, ArgsAt, AreArgs}
 use Rattle.plan_parser_laws.specs.ValueGrammar as gram
 
@@ -100,7 +101,8 @@ module _ (o q room : ℕ) (inner : Reader TypedValue) (ir : Inside o q inner) wh
   listing_reads f here =
       after (ValueAt o q (behind f)) (ValueAt o (suc q) f) (inner (behind f)) _ (ir (behind f))
       (λ first g one. after (Added (LikeAt o q first.ty) 62 (first.value ∷ []) g) (ValueAt o (suc q) f) (more (like inner o room first.ty) begins_value symbols.Comma limits.Items wanted.AValue 62 (first.value ∷ []) g) _
-      (more_reads (like inner o room first.ty) begins_value symbols.Comma limits.Items wanted.AValue (λ h x k. IsLike first.ty h x k) (LikeAt o q first.ty) (λ h. gram.no_like) (like_next first.ty) (like_reads first.ty) 62 (first.value ∷ []) g)
+      (more_reads (like inner o room first.ty) begins_value symbols.Comma limits.Items wanted.AValue (λ h x k. IsLike first.ty h x k) (LikeAt o q first.ty) (λ h. gram.no_like) (like_next first.ty)
+      (like_reads first.ty) 62 (first.value ∷ []) g)
       (λ all h a. symbol_then (ValueAt o (suc q) f) symbols.BracketClose h _
       (λ shut. found_reads (ValueAt o (suc q) f) (list_of first.ty all) (behind h) (subst (λ vs. ValueAt o (suc q) f (list_of first.ty vs) (behind h)) (sym a.is) (gram.items here one a.many a.few shut)))))
 
@@ -265,6 +267,7 @@ args_written tokens end xs h = by_open (need_symbol symbols.ParenOpen (record { 
         let w = ended_is a.1 a.0 xs k in
         subst (AreArgs tokens end) w.1 (gram.arguments d w.0)
 
-    by_open : (s : Result (Unit {0} × Front) ParseFault) → need_symbol symbols.ParenOpen (record { tokens = tokens; end = end }) ≡ s → (s >>= λ o. arguments_behind o.1 >>= λ args. nothing_follows args.1 >>= λ all. Ok args.0) ≡ Ok xs → AreArgs tokens end xs
+    by_open : (s : Result (Unit {0} × Front) ParseFault) → need_symbol symbols.ParenOpen (record { tokens = tokens; end = end }) ≡ s
+        → (s >>= λ o. arguments_behind o.1 >>= λ args. nothing_follows args.1 >>= λ all. Ok args.0) ≡ Ok xs → AreArgs tokens end xs
     by_open (Err e) p k = cc
     by_open (Ok o) p k = by_args o p (arguments_behind o.1) refl k

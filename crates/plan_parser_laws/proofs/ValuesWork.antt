@@ -17,8 +17,10 @@ use Rattle.plan_parser_exprs.specs.declared.fault.Wanted.TheVariants as wanted
 use Rattle.plan_parser_exprs.specs.Ahead.{Front, Reader, ◌>>=◌, place, behind, next_kind, is_symbol}
 use Rattle.plan_parser_exprs.specs.Types.{more, type_to}
 use Rattle.plan_parser.specs.declared.item.TypedValue.{TypedValue as Read}
-use Rattle.plan_parser.specs.Values.{typed_value, literal, literal_from, begins_value, tuple_of, list_of, judged_item, fits, tuple_from, tuple, grouped_value, parens, like, listing, typed_nil, brackets, value_at, value_to, argument_at, arguments_from, arguments_behind}
-use Rattle.plan_parser_laws.specs.ValueAgenda.{ValueItem, sym, a_type, a_value, made, behind_paren, first_part, behind_part, next_part, behind_parts, behind_bracket, element, behind_element, first_item, next_item, behind_item, behind_items, args, more_args, enter, hand, literal_type, literal_step, step}
+use Rattle.plan_parser.specs.Values.{typed_value, literal, literal_from, begins_value, tuple_of, list_of, judged_item, fits, tuple_from, tuple, grouped_value, parens, like, listing, typed_nil}
+use Rattle.plan_parser.specs.Values.{brackets, value_at, value_to, argument_at, arguments_from, arguments_behind}
+use Rattle.plan_parser_laws.specs.ValueAgenda.{ValueItem, sym, a_type, a_value, made, behind_paren, first_part, behind_part, next_part, behind_parts, behind_bracket, element, behind_element}
+use Rattle.plan_parser_laws.specs.ValueAgenda.{first_item, next_item, behind_item, behind_items, args, more_args, enter, hand, literal_type, literal_step, step}
 use Rattle.plan_parser_laws.proofs.ValueWorks.{Works, Follows, goes_on, stops, begin, after, given_works, both, symbol_works}
 use Rattle.plan_parser_laws.proofs.TokenFacts.{room_open}
 use Rattle.plan_parser_laws.proofs.ValueTypesWork.{enters, types_work}

@@ -176,8 +176,16 @@ key_is _ e q = cc
 
 pub literal_is : (k : Option TokenKind) (e : Expr) → literal k ≡ Some e → IsLeaf e
 literal_is (Some (kinds.Int n)) e q = some_is (x.Int n) e q (depth_by (x.Int n) (Expr-F.Int n) (x.outs-Int n), nodes_by (x.Int n) (Expr-F.Int n) (x.outs-Int n))
-literal_is (Some (kinds.Host n)) e q = some_is (x.Host (record { 0 = n })) e q (depth_by (x.Host (record { 0 = n })) (Expr-F.Host (record { 0 = n })) (x.outs-Host (record { 0 = n })), nodes_by (x.Host (record { 0 = n })) (Expr-F.Host (record { 0 = n })) (x.outs-Host (record { 0 = n })))
-literal_is (Some (kinds.Dev n)) e q = some_is (x.Dev (record { 0 = n })) e q (depth_by (x.Dev (record { 0 = n })) (Expr-F.Dev (record { 0 = n })) (x.outs-Dev (record { 0 = n })), nodes_by (x.Dev (record { 0 = n })) (Expr-F.Dev (record { 0 = n })) (x.outs-Dev (record { 0 = n })))
+literal_is (Some (kinds.Host n)) e q =
+    some_is (x.Host (record { 0 = n })) e q (
+      depth_by (x.Host (record { 0 = n })) (Expr-F.Host (record { 0 = n })) (x.outs-Host (record { 0 = n })),
+      nodes_by (x.Host (record { 0 = n })) (Expr-F.Host (record { 0 = n })) (x.outs-Host (record { 0 = n })),
+    )
+literal_is (Some (kinds.Dev n)) e q =
+    some_is (x.Dev (record { 0 = n })) e q (
+      depth_by (x.Dev (record { 0 = n })) (Expr-F.Dev (record { 0 = n })) (x.outs-Dev (record { 0 = n })),
+      nodes_by (x.Dev (record { 0 = n })) (Expr-F.Dev (record { 0 = n })) (x.outs-Dev (record { 0 = n })),
+    )
 literal_is (Some (kinds.Char c)) e q = some_is (x.Char c) e q (depth_by (x.Char c) (Expr-F.Char c) (x.outs-Char c), nodes_by (x.Char c) (Expr-F.Char c) (x.outs-Char c))
 literal_is (Some (kinds.Str s)) e q = some_is (x.Str s) e q (depth_by (x.Str s) (Expr-F.Str s) (x.outs-Str s), nodes_by (x.Str s) (Expr-F.Str s) (x.outs-Str s))
 literal_is (Some (kinds.Blob b)) e q = some_is (x.Blob b) e q (depth_by (x.Blob b) (Expr-F.Blob b) (x.outs-Blob b), nodes_by (x.Blob b) (Expr-F.Blob b) (x.outs-Blob b))

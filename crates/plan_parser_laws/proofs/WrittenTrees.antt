@@ -17,8 +17,10 @@ use Rattle.plan_parser_laws.specs.Follow.{EndsExpr}
 use Rattle.plan_parser_laws.specs.Agenda.{body_size}
 use Rattle.plan_parser_laws.proofs.ExprsAre.{expr_is}
 use Rattle.plan_parser_laws.proofs.ProgramsWork.{size_is}
-use Rattle.plan_parser_laws.specs.Written.{expr_tree, low_tree, or_tree, and_tree, not_tree, cmp_tree, cons_tree, add_tree, mul_tree, part_tree, atom_tree, args_trees, some_trees, more_trees, val_tree, vals_tree, clause_tree, clauses_trees, Holds}
-use Rattle.plan_parser_laws.proofs.WrittenNodes.{over_by, leaf_holds, one_holds, two_hold, three_hold, four_hold, list_holds, AllHold, unit_is, nil_is, var_is, raise_is, literal_is, joined_holds, bracketed_holds, bound_holds, CaughtHolds, AllCaught, try_holds}
+use Rattle.plan_parser_laws.specs.Written.{expr_tree, low_tree, or_tree, and_tree, not_tree, cmp_tree, cons_tree, add_tree, mul_tree, part_tree, atom_tree, args_trees, some_trees, more_trees}
+use Rattle.plan_parser_laws.specs.Written.{val_tree, vals_tree, clause_tree, clauses_trees, Holds}
+use Rattle.plan_parser_laws.proofs.WrittenNodes.{over_by, leaf_holds, one_holds, two_hold, three_hold, four_hold, list_holds, AllHold, unit_is, nil_is, var_is, raise_is, literal_is, joined_holds}
+use Rattle.plan_parser_laws.proofs.WrittenNodes.{bracketed_holds, bound_holds, CaughtHolds, AllCaught, try_holds}
 
 mutual
   pub expr_holds : {r : ℕ} {f h : Front} {n : Node} → (e : ExprAt r f n h) → Holds n (expr_tree e)
@@ -95,7 +97,8 @@ mutual
       (over_by (x.OnRemote (expr_tree a) (expr_tree b) (expr_tree c) name) (Expr-F.OnRemote (expr_tree a) (expr_tree b) (expr_tree c) name) _ _ (x.outs-OnRemote (expr_tree a) (expr_tree b) (expr_tree c) name) refl (omega arith))
   atom_holds (g.on_neighbor {f = f} {a = n} {b = m} {c = o} {d = p} _ _ a _ b _ c _ d _) =
       four_hold x.OnNeighbor (place f) n m o p (expr_tree a) (expr_tree b) (expr_tree c) (expr_tree d) (expr_holds a) (expr_holds b) (expr_holds c) (expr_holds d)
-      (over_by (x.OnNeighbor (expr_tree a) (expr_tree b) (expr_tree c) (expr_tree d)) (Expr-F.OnNeighbor (expr_tree a) (expr_tree b) (expr_tree c) (expr_tree d)) _ _ (x.outs-OnNeighbor (expr_tree a) (expr_tree b) (expr_tree c) (expr_tree d)) (omega arith) (omega arith))
+      (over_by (x.OnNeighbor (expr_tree a) (expr_tree b) (expr_tree c) (expr_tree d)) (Expr-F.OnNeighbor (expr_tree a) (expr_tree b) (expr_tree c) (expr_tree d)) _ _
+      (x.outs-OnNeighbor (expr_tree a) (expr_tree b) (expr_tree c) (expr_tree d)) (omega arith) (omega arith))
 
   args_hold : {r : ℕ} {f h : Front} {ns : List Node} → (es : ArgsAt r f ns h) → AllHold ns (args_trees es)
   args_hold (g.no_args _ _) = tt

@@ -220,9 +220,15 @@ step (behind_first r start deep) more f =
     if is_symbol symbols.Star f then Ok (behind_next r start 7 deep ∷ more, f) else Ok (sym symbols.ParenClose ∷ lists start deep ∷ more, f)
 step (next_type r start left deepest) more f = Ok (more, f)
 step (behind_next r start zero deepest) more f =
-    if is_symbol symbols.Star f then Err (past begins_type limits.Parts wanted.AType (behind f)) else Ok (sym symbols.ParenClose ∷ lists start (1 + deepest) ∷ more, f)
+    if is_symbol symbols.Star f then Err (past begins_type limits.Parts wanted.AType (behind f)) else Ok (
+      sym symbols.ParenClose ∷ lists start (1 + deepest) ∷ more,
+      f,
+    )
 step (behind_next r start (suc left) deepest) more f =
-    if is_symbol symbols.Star f then Ok (a_type r ∷ next_type r start left deepest ∷ more, behind f) else Ok (sym symbols.ParenClose ∷ lists start (1 + deepest) ∷ more, f)
+    if is_symbol symbols.Star f then Ok (a_type r ∷ next_type r start left deepest ∷ more, behind f) else Ok (
+      sym symbols.ParenClose ∷ lists start (1 + deepest) ∷ more,
+      f,
+    )
 step (whole r) more f = Ok (low r ∷ maybe_next r ∷ more, f)
 step (maybe_next r) more f = if is_symbol symbols.Semicolon f then right_side begins_expr r (λ q. whole q ∷ more) (behind f) else Ok (more, f)
 step (low r) more f =

@@ -28,7 +28,9 @@ abbrev pub Keeps : Chunk → Condition → Type 0
 Keeps c of_code = Typed c.code
 Keeps c of_entry = (d : Fun) × (fun_of c.code c.entry ≡ Some d)
 Keeps c of_count = (d : Fun) → fun_of c.code c.entry ≡ Some d → length c.args ≡ length d.params
-Keeps c (of_argument n) = (d : Fun) (v : Value) (t : Ty) → fun_of c.code c.entry ≡ Some d → slice_get c.args n ≡ Some v → slice_get (param_types d.params) n ≡ Some t → HasType v t
+Keeps c (of_argument n) =
+    (d : Fun) (v : Value) (t : Ty) → fun_of c.code c.entry ≡ Some d → slice_get c.args n ≡ Some v → slice_get (param_types d.params) n
+    ≡ Some t → HasType v t
 Keeps c of_size = (1 + chunk_weight c ≤ 16384) × (chunk_nesting c ≤ 4)
 
 -- What is told where a condition isn't kept: for code what is told for the first condition that it doesn't keep itself, for

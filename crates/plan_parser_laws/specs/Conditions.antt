@@ -63,7 +63,9 @@ conditions_from of n (suc k) more = of n ∷ conditions_from of (n + 1) k more
 -- all conditions in their order
 abbrev pub conditions : Program → List Condition
 conditions p =
-    conditions_from of_service 0 (length p.svcs) (conditions_from of_exception 0 (length p.exns) (conditions_from of_function 0 (length p.funs) (conditions_from of_body 0 (length p.funs) (of_size ∷ []))))
+    conditions_from of_service 0 (length p.svcs)
+    (conditions_from of_exception 0 (length p.exns)
+    (conditions_from of_function 0 (length p.funs) (conditions_from of_body 0 (length p.funs) (of_size ∷ []))))
 
 -- f is told for the first condition of the list that isn't kept
 pub data FirstUnkept (p : Program) (f : TypeFault) : List Condition → Type 0 where

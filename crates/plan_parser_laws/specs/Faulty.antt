@@ -22,8 +22,10 @@ pub record NoItem (quote : ℕ) (text : List ℕ) : Type 0 where
 -- behind items and before the closing quote of a string that begins at the place `start`, with its first item at `at`,
 -- the line ends, or no item stands where one must
 pub data StringFault (e : LexFault) (start at : ℕ) (text : List ℕ) : Type 0 where
-  open_string : (items bytes rest : List ℕ) → text ≡ items ++ rest → SpellsItems 34 items bytes → EndsLine rest → e ≡ OpenString start → StringFault e start at text
-  wrong_item : (items bytes rest : List ℕ) → text ≡ items ++ rest → SpellsItems 34 items bytes → NoItem 34 rest → e ≡ BadChar (at + length items) → StringFault e start at text
+  open_string : (items bytes rest : List ℕ) → text ≡ items ++ rest → SpellsItems 34 items bytes → EndsLine rest → e ≡ OpenString start
+      → StringFault e start at text
+  wrong_item : (items bytes rest : List ℕ) → text ≡ items ++ rest → SpellsItems 34 items bytes → NoItem 34 rest
+      → e ≡ BadChar (at + length items) → StringFault e start at text
 
 -- no item with a closing quote stands behind the quote at that place
 pub record CharFault (e : LexFault) (start : ℕ) (text : List ℕ) : Type 0 where
@@ -34,6 +36,9 @@ pub record CharFault (e : LexFault) (start : ℕ) (text : List ℕ) : Type 0 whe
 -- `at`, the line ends, maybe behind one digit, or no digit stands where one must; the quote is no second digit
 pub data BlobFault (e : LexFault) (start at : ℕ) (text : List ℕ) : Type 0 where
   open_blob : (pairs bytes rest : List ℕ) → text ≡ pairs ++ rest → SpellsPairs pairs bytes → EndsLine rest → e ≡ OpenString start → BlobFault e start at text
-  open_half : (pairs bytes rest : List ℕ) (h high : ℕ) → text ≡ pairs ++ h ∷ rest → SpellsPairs pairs bytes → hex_value h ≡ Some high → EndsLine rest → e ≡ OpenString start → BlobFault e start at text
-  no_digit : (pairs bytes more : List ℕ) (b : ℕ) → text ≡ pairs ++ b ∷ more → SpellsPairs pairs bytes → b ≢ 10 → b ≢ 34 → hex_value b ≡ None → e ≡ BadChar (at + length pairs) → BlobFault e start at text
-  no_second : (pairs bytes more : List ℕ) (h high b : ℕ) → text ≡ pairs ++ h ∷ b ∷ more → SpellsPairs pairs bytes → hex_value h ≡ Some high → b ≢ 10 → hex_value b ≡ None → e ≡ BadChar (at + length pairs + 1) → BlobFault e start at text
+  open_half : (pairs bytes rest : List ℕ) (h high : ℕ) → text ≡ pairs ++ h ∷ rest → SpellsPairs pairs bytes → hex_value h ≡ Some high
+      → EndsLine rest → e ≡ OpenString start → BlobFault e start at text
+  no_digit : (pairs bytes more : List ℕ) (b : ℕ) → text ≡ pairs ++ b ∷ more → SpellsPairs pairs bytes → b ≢ 10 → b ≢ 34 → hex_value b ≡ None
+      → e ≡ BadChar (at + length pairs) → BlobFault e start at text
+  no_second : (pairs bytes more : List ℕ) (h high b : ℕ) → text ≡ pairs ++ h ∷ b ∷ more → SpellsPairs pairs bytes → hex_value h ≡ Some high
+      → b ≢ 10 → hex_value b ≡ None → e ≡ BadChar (at + length pairs + 1) → BlobFault e start at text

@@ -22,7 +22,8 @@ use Rattle.plan_parser_exprs.specs.declared.node.Caught.{Caught}
 use Rattle.plan_parser_exprs.specs.Ahead.{Front, place, behind, next_kind}
 use Rattle.plan_parser_exprs.specs.Begins.{kind_type}
 use Rattle.plan_parser_exprs.specs.Joints.{joint_of}
-use Rattle.plan_parser_exprs.specs.Nodes.{trees, leaf, over_one, over_two, over_three, over_four, over_list, joined_nodes, consed_nodes, bracketed_nodes, let_of, try_of}
+use Rattle.plan_parser_exprs.specs.Nodes.{trees, leaf, over_one, over_two, over_three, over_four, over_list, joined_nodes, consed_nodes}
+use Rattle.plan_parser_exprs.specs.Nodes.{bracketed_nodes, let_of, try_of}
 use Rattle.plan_parser_exprs.specs.Exprs.{literal}
 
 -- a symbol, a reserved word, a name or a joint stands next
@@ -145,7 +146,8 @@ mutual
         → Sym symbols.ParenOpen f → ExprAt r (behind f) n g → MoreAt r g (m ∷ ns) h → length (m ∷ ns) ≤ 7 → Sym symbols.ParenClose h
         → AtomAt (suc r) f (over_list (x.Tuple (trees (n ∷ m ∷ ns))) (place f) (n ∷ m ∷ ns)) (behind h)
     -- [ ] | [ : type ] | [ args ]
-    no_items : {r : ℕ} {f : Front} → Sym symbols.BracketOpen f → Sym symbols.BracketClose (behind f) → AtomAt (suc r) f (leaf (x.Nil None) (place f)) (behind2 f)
+    no_items : {r : ℕ} {f : Front} → Sym symbols.BracketOpen f → Sym symbols.BracketClose (behind f)
+        → AtomAt (suc r) f (leaf (x.Nil None) (place f)) (behind2 f)
     no_items_of : {r : ℕ} {f g : Front} {t : Ty}
         → Sym symbols.BracketOpen f → Sym symbols.Colon (behind f) → TypeAt r (behind2 f) t g → Sym symbols.BracketClose g
         → AtomAt (suc r) f (leaf (x.Nil (Some t)) (place f)) (behind g)

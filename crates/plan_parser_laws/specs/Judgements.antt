@@ -1,6 +1,7 @@
 -- What is judged of each form of expression, one condition after the other, apart from the checker; and the first that isn't
 -- kept. Parts are typed by the rules, and places are counted.
-use Rattle.std.specs.Prelude.{◌≡◌, ℕ, ◌+◌, ◌++◌, ◌==◌, min, nat_le, Bool, true, false, List, [], ◌∷◌, length, ◌⊎◌, Option, Some, None, is_some, option_and_then, take, if◌then◌else◌}
+use Rattle.std.specs.Prelude.{◌≡◌, ℕ, ◌+◌, ◌++◌, ◌==◌, min, nat_le, Bool, true, false, List, [], ◌∷◌, length, ◌⊎◌, Option, Some, None}
+use Rattle.std.specs.Prelude.{is_some, option_and_then, take, if◌then◌else◌}
 use Rattle.std.specs.List.{find, list_all}
 use Rattle.std.specs.Str.{bytes_eq}
 use Rattle.plan_base.specs.declared.name.Name.{Name}
@@ -18,7 +19,8 @@ use Rattle.plan_types_spec.specs.declared.type_fault.TypeFault.TheVariants.{Unkn
 use Rattle.plan_base.specs.Trees.{ExprLayer}
 use Rattle.plan_base.specs.Sizes.{type_depth, expr_nodes}
 use Rattle.plan_types_spec.specs.Typing.{Ctx}
-use Rattle.plan_types_spec.specs.TypingNames.{service_of, binds, binding, param_types, prim_of, takes, makes, is_exception, may_catch, OpKind, arithmetic, joining, equality, ordering, listing, kind_of, is_joined, is_ordered}
+use Rattle.plan_types_spec.specs.TypingNames.{service_of, binds, binding, param_types, prim_of, takes, makes, is_exception, may_catch}
+use Rattle.plan_types_spec.specs.TypingNames.{OpKind, arithmetic, joining, equality, ordering, listing, kind_of, is_joined, is_ordered}
 use Rattle.plan_types_spec.specs.TypingOrder.{items_of, parts_of, part_in, want_at, given_of, pair_of}
 use Rattle.plan_types_spec.specs.TypingFills.{Becomes}
 
@@ -114,7 +116,9 @@ module _ (code : Program) (seen : ℕ) where
   folding c at want f a l turned =
       there (stands_earlier code seen f) (none_earlier code f at)
       (λ d. there (pair_of d.params) (Arity (Node at))
-      (λ p. typed_part c (turned p).0 a (typed_part c (ty.List (turned p).1) l (same d.result (turned p).0 (WrongShape (Node at)) (suits at want (turned p).0)))))
+      (λ p.
+      typed_part c (turned p).0 a (typed_part c (ty.List (turned p).1) l
+      (same d.result (turned p).0 (WrongShape (Node at)) (suits at want (turned p).0)))))
 
   -- What is judged of an expression of that form at a place, under its bindings, of which a type may be wanted: first its
   -- names and counts and the type that nothing else gives, then its parts from the left, its shape, the depth of its type,
@@ -146,10 +150,12 @@ module _ (code : Program) (seen : ℕ) where
   judged_form c at want (Expr-F.Try a ks) = test (list_all (λ k. may_catch code k.name) ks) (UnknownName (Node at)) (part c want a (λ t. clauses c t ks))
   judged_form c at want (Expr-F.Foldl f a l) = folding c at want f a l (λ p. p)
   judged_form c at want (Expr-F.Foldr f a l) = folding c at want f a l (λ p. (p.1, p.0))
-  judged_form c at want (Expr-F.ChunkOf f es) = there (function_named f code.funs) (UnknownName (Node at)) (λ d. arguments c at (param_types d.params) es (suits at want ty.Chunk))
+  judged_form c at want (Expr-F.ChunkOf f es) =
+      there (function_named f code.funs) (UnknownName (Node at)) (λ d. arguments c at (param_types d.params) es (suits at want ty.Chunk))
   judged_form c at want (Expr-F.Eval a) = typed_part c ty.Chunk a (suits at want ty.Unit)
   judged_form c at want (Expr-F.OnRemote a h n r) = typed_part c ty.Chunk a (typed_part c ty.Host h (typed_part c ty.Int n (suits at want ty.Unit)))
-  judged_form c at want (Expr-F.OnNeighbor a h n d) = typed_part c ty.Chunk a (typed_part c ty.Host h (typed_part c ty.Int n (typed_part c ty.Dev d (suits at want ty.Unit))))
+  judged_form c at want (Expr-F.OnNeighbor a h n d) =
+      typed_part c ty.Chunk a (typed_part c ty.Host h (typed_part c ty.Int n (typed_part c ty.Dev d (suits at want ty.Unit))))
 
   mutual
     -- f is told for the first condition that isn't kept, where the next part stands at the place n

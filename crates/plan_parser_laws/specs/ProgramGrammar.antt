@@ -32,7 +32,8 @@ pub data ArgumentsAt : Front → List Ty → Front → Type 0 where
 -- svc NAME : arguments -> type
 pub data ServiceAt : Front → Svc → Front → Type 0 where
   service : {f g h : Front} {name : Name} {ts : List Ty} {t : Ty}
-      → Word keys.Svc f → Called name (behind f) → Sym symbols.Colon (behind2 f) → ArgumentsAt (behind3 f) ts g → Sym symbols.Arrow g → TypeAt 160 (behind g) t h
+      → Word keys.Svc f → Called name (behind f) → Sym symbols.Colon (behind2 f) → ArgumentsAt (behind3 f) ts g → Sym symbols.Arrow g
+      → TypeAt 160 (behind g) t h
       → ServiceAt f (record { name = name; params = ts; result = t }) h
 
 -- exception NAME
@@ -41,7 +42,8 @@ pub data ExceptionAt : Front → Name → Front → Type 0 where
 
 -- NAME : type
 pub data ParamAt : Front → Param → Front → Type 0 where
-  param : {f g : Front} {name : Name} {t : Ty} → Called name f → Sym symbols.Colon (behind f) → TypeAt 159 (behind2 f) t g → ParamAt f (record { name = name; ty = t }) g
+  param : {f g : Front} {name : Name} {t : Ty} → Called name f → Sym symbols.Colon (behind f) → TypeAt 159 (behind2 f) t g
+      → ParamAt f (record { name = name; ty = t }) g
 
 -- { , param }
 pub data MoreParamsAt : Front → List Param → Front → Type 0 where
@@ -62,7 +64,8 @@ pub data HeadAt : Front → Head → Front → Type 0 where
 
 -- fun head expr, of depth at most 64
 pub data FunctionAt : Front → Fun → Node → Front → Type 0 where
-  function : {f g h : Front} {x : Head} {n : Node} → Word keys.Fun f → HeadAt (behind f) x g → ExprAt 160 g n h → n.depth ≤ 64 → FunctionAt f (function_of x n) n h
+  function : {f g h : Front} {x : Head} {n : Node} → Word keys.Fun f → HeadAt (behind f) x g → ExprAt 160 g n h → n.depth ≤ 64
+      → FunctionAt f (function_of x n) n h
 
 -- { service | exception | function }, at most 64 of a kind and 4,096 expressions
 pub data DeclarationsAt : Front → Gathered → Front → Type 0 where

@@ -100,7 +100,8 @@ literal_step more f None = expected_fault wanted.AValue f
 unfoldable pub step : ℕ → ValueItem → List ValueItem → Front → StepOf ValueItem
 step o (sym w) more f = if is_symbol w f then Ok (more, behind f) else expected_fault (wanted.Symbol w) f
 step o (a_type r) more f =
-    if is_symbol symbols.ParenOpen f then enter r (place f) (λ q. a_type q ∷ first_type q (place f) ∷ more) (behind f) else type_step more f (kind_type (next_kind f))
+    if is_symbol symbols.ParenOpen f then enter r (place f) (λ q. a_type q ∷ first_type q (place f) ∷ more) (behind f) else type_step more f
+    (kind_type (next_kind f))
 step o (lists start t) more f =
     if is_key keys.List f then Ok (lists start (ty.List t) ∷ more, behind f)
     else if nat_lt 8 (type_depth t) then Err (TooDeep start)
@@ -108,9 +109,15 @@ step o (lists start t) more f =
 step o (behind_first r start t) more f =
     if is_symbol symbols.Star f then Ok (behind_next r start 7 (t ∷ []) ∷ more, f) else Ok (sym symbols.ParenClose ∷ lists start t ∷ more, f)
 step o (behind_next r start zero ts) more f =
-    if is_symbol symbols.Star f then Err (past begins_type limits.Parts wanted.AType (behind f)) else Ok (sym symbols.ParenClose ∷ lists start (ty.Tuple ts) ∷ more, f)
+    if is_symbol symbols.Star f then Err (past begins_type limits.Parts wanted.AType (behind f)) else Ok (
+      sym symbols.ParenClose ∷ lists start (ty.Tuple ts) ∷ more,
+      f,
+    )
 step o (behind_next r start (suc left) ts) more f =
-    if is_symbol symbols.Star f then Ok (a_type r ∷ next_type r start left ts ∷ more, behind f) else Ok (sym symbols.ParenClose ∷ lists start (ty.Tuple ts) ∷ more, f)
+    if is_symbol symbols.Star f then Ok (a_type r ∷ next_type r start left ts ∷ more, behind f) else Ok (
+      sym symbols.ParenClose ∷ lists start (ty.Tuple ts) ∷ more,
+      f,
+    )
 step o (a_value r) more f =
     if is_symbol symbols.ParenOpen f then Ok (behind_paren r (place f) ∷ more, behind f)
     else if is_symbol symbols.BracketOpen f then enter r (place f) (λ q. behind_bracket q (place f) ∷ more) (behind f)
@@ -122,7 +129,8 @@ step o (behind_paren r at) more f =
     else expected_fault (wanted.Symbol symbols.ParenClose) f
 step o (behind_part q t) more f = if is_symbol symbols.Comma f then Ok (behind_parts q 7 (t ∷ []) ∷ more, f) else expected_fault (wanted.Symbol symbols.Comma) f
 step o (behind_parts q zero ts) more f =
-    if is_symbol symbols.Comma f then Err (past begins_value limits.Parts wanted.AValue (behind f)) else Ok (sym symbols.ParenClose ∷ made (ty.Tuple ts) ∷ more, f)
+    if is_symbol symbols.Comma f then Err (past begins_value limits.Parts wanted.AValue (behind f)) else Ok
+    (sym symbols.ParenClose ∷ made (ty.Tuple ts) ∷ more, f)
 step o (behind_parts q (suc left) ts) more f =
     if is_symbol symbols.Comma f then Ok (a_value q ∷ next_part q left ts ∷ more, behind f) else Ok (sym symbols.ParenClose ∷ made (ty.Tuple ts) ∷ more, f)
 step o (behind_bracket q at) more f =
@@ -132,9 +140,13 @@ step o (behind_bracket q at) more f =
 step o (behind_element q at t) more f = if nat_lt (suc q) (type_depth t) then Err (TooDeep at) else Ok (sym symbols.BracketClose ∷ made (ty.List t) ∷ more, f)
 step o (behind_item q left u at t) more f = if same_type t u then Ok (behind_items q left u ∷ more, f) else Err (Expected wanted.AValue at)
 step o (behind_items q zero u) more f =
-    if is_symbol symbols.Comma f then Err (past begins_value limits.Items wanted.AValue (behind f)) else Ok (sym symbols.BracketClose ∷ made (ty.List u) ∷ more, f)
+    if is_symbol symbols.Comma f then Err (past begins_value limits.Items wanted.AValue (behind f)) else Ok
+    (sym symbols.BracketClose ∷ made (ty.List u) ∷ more, f)
 step o (behind_items q (suc left) u) more f =
-    if is_symbol symbols.Comma f then Ok (a_value q ∷ next_item q left u (place (behind f)) ∷ more, behind f) else Ok (sym symbols.BracketClose ∷ made (ty.List u) ∷ more, f)
+    if is_symbol symbols.Comma f then Ok (
+      a_value q ∷ next_item q left u (place (behind f)) ∷ more,
+      behind f,
+    ) else Ok (sym symbols.BracketClose ∷ made (ty.List u) ∷ more, f)
 step o args more f =
     if is_symbol symbols.ParenClose f then Ok (more, behind f)
     else if begins_value f then Ok (a_value 7 ∷ more_args 7 ∷ sym symbols.ParenClose ∷ more, f)

@@ -47,7 +47,8 @@ mutual
   -- { , value }
   pub data MoreAt : ℕ → ℕ → Front → List TypedValue → Front → Type 0 where
     no_more : {o r : ℕ} {f : Front} → MoreAt o r f [] f
-    one_more : {o r : ℕ} {f g h : Front} {i : TypedValue} {is : List TypedValue} → Sym symbols.Comma f → ValueAt o r (behind f) i g → MoreAt o r g is h → MoreAt o r f (i ∷ is) h
+    one_more : {o r : ℕ} {f g h : Front} {i : TypedValue} {is : List TypedValue} → Sym symbols.Comma f → ValueAt o r (behind f) i g
+        → MoreAt o r g is h → MoreAt o r f (i ∷ is) h
 
   -- { , value }, each of that type
   pub data LikeAt : ℕ → ℕ → Ty → Front → List Value → Front → Type 0 where
@@ -63,7 +64,8 @@ pub data IsValue (tokens : List Token) (end : ℕ) : Value → Type 0 where
 pub data ArgsAt : Front → List Value → Front → Type 0 where
   no_args : {f : Front} → Sym symbols.ParenOpen f → Sym symbols.ParenClose (behind f) → ArgsAt f [] (behind2 f)
   some_args : {f g h : Front} {i : TypedValue} {is : List TypedValue}
-      → Sym symbols.ParenOpen f → ValueAt 1 7 (behind f) i g → MoreAt 1 7 g is h → length is ≤ 7 → Sym symbols.ParenClose h → ArgsAt f (map (λ k. k.value) (i ∷ is)) (behind h)
+      → Sym symbols.ParenOpen f → ValueAt 1 7 (behind f) i g → MoreAt 1 7 g is h → length is ≤ 7 → Sym symbols.ParenClose h
+      → ArgsAt f (map (λ k. k.value) (i ∷ is)) (behind h)
 
 pub data AreArgs (tokens : List Token) (end : ℕ) : List Value → Type 0 where
   arguments : {g : Front} {vs : List Value} → ArgsAt (record { tokens = tokens; end = end }) vs g → g.tokens ≡ [] → AreArgs tokens end vs

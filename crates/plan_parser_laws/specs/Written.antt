@@ -11,7 +11,8 @@ use Rattle.plan_parser_exprs.specs.declared.node.Caught.{Caught}
 use Rattle.plan_parser_exprs.specs.Ahead.{Front}
 use Rattle.plan_parser_exprs.specs.Joints.{joined_tree}
 use Rattle.plan_parser_exprs.specs.Nodes.{all_at}
-use Rattle.plan_parser_laws.specs.Grammar.{ExprAt, LowAt, OrAt, AndAt, NotAt, CmpAt, ConsAt, AddAt, MulAt, PartAt, AtomAt, ArgsAt, SomeAt, MoreAt, ValAt, ValsAt, ClauseAt, ClausesAt}
+use Rattle.plan_parser_laws.specs.Grammar.{ExprAt, LowAt, OrAt, AndAt, NotAt, CmpAt, ConsAt, AddAt, MulAt, PartAt, AtomAt, ArgsAt, SomeAt}
+use Rattle.plan_parser_laws.specs.Grammar.{MoreAt, ValAt, ValsAt, ClauseAt, ClausesAt}
 use Rattle.plan_parser_laws.specs.Grammar as g
 
 -- items in brackets, before the empty list

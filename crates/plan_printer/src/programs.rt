@@ -1,3 +1,4 @@
+//! Prints programs and expressions.
 ghost use Rattle.std.specs.Prelude.{◌≡◌, ◌++◌, [], codes, OnOk, OnErr};
 ghost use Rattle.std.specs.Fmt.{decimal};
 ghost use Rattle.std.specs.List.{flat_map};
@@ -180,8 +181,8 @@ fn put_binding(
     out: &mut Bytes,
 ) -> Result<(), NoMemory>
     ensures { OnOk result (out.new ≡ out.old ++ (codes "let val " ++ name.now ++ codes " : " ++
-        type_text ty.now ++ codes " = " ++ expr_text value.now ++ codes " in " ++ expr_text body.now ++
-        codes " end")) }
+        type_text ty.now ++ codes " = " ++ expr_text value.now ++ codes " in " ++
+        expr_text body.now ++ codes " end")) }
 {
     put_named(b"let val ", name, b" : ", out)?;
     put_typed(b"", ty, b" = ", out)?;

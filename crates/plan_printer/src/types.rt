@@ -1,3 +1,4 @@
+//! Prints types.
 ghost use Rattle.std.specs.Prelude.{◌≡◌, ◌++◌, [], OnOk, OnErr};
 ghost use Rattle.plan_printer_spec.specs.Pieces.{listed_pieces};
 ghost use Rattle.plan_printer_spec.specs.Printed.{type_text, empty_text};

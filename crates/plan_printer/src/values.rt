@@ -1,3 +1,4 @@
+//! Prints values.
 ghost use Rattle.std.specs.Prelude.{◌≡◌, ◌++◌, OnOk, OnErr};
 ghost use Rattle.plan_printer_spec.specs.Pieces.{commas};
 ghost use Rattle.plan_printer_spec.specs.Printed.{value_text, chunk_text};

@@ -154,7 +154,9 @@ abbrev pub param_text : Param → List ℕ
 param_text p = p.name ++ codes " : " ++ type_text p.ty
 
 abbrev pub fun_text : Fun → List ℕ
-fun_text f = codes "fun " ++ f.name ++ codes "(" ++ commas param_text f.params ++ codes ") : " ++ type_text f.result ++ codes " = " ++ expr_text f.body ++ 10 ∷ []
+fun_text f =
+    codes "fun " ++ f.name ++ codes "(" ++ commas param_text f.params ++ codes ") : " ++ type_text f.result ++ codes " = "
+    ++ expr_text f.body ++ 10 ∷ []
 
 -- a program: its services, then its exceptions, then its functions
 unfoldable pub program_text : Program → List ℕ

@@ -25,7 +25,8 @@ use Rattle.plan_base.specs.declared.tree.Program.{Program}
 use Rattle.plan_base.specs.Trees.{TyLayer, ExprLayer}
 use Rattle.plan_base.specs.Sizes.{largest_by, type_depth_level, type_depth, expr_depth_level, expr_depth, clause_depth, expr_nodes_level, expr_nodes, clause_nodes, program_nodes}
 use Rattle.plan_base.proofs.SizeLaws.{largest_by-map, type_depth_out, expr_depth_out, expr_nodes_out}
-use Rattle.plan_base.specs.WellFormed.{has_from_to, formed_type_level, formed_type, well_formed_type, names_all_but_last, formed_expr_level, formed_expr, well_formed_expr, well_formed_svc, well_formed_fun, well_formed_program, IsWellFormedProgram}
+use Rattle.plan_base.specs.WellFormed.{has_from_to, formed_type_level, formed_type, well_formed_type, names_all_but_last, formed_expr_level, formed_expr, well_formed_expr, well_formed_svc}
+use Rattle.plan_base.specs.WellFormed.{well_formed_fun, well_formed_program, IsWellFormedProgram}
 use Rattle.plan_base.proofs.FormLaws.{formed_type_out, formed_expr_out}
 use Rattle.plan_types_spec.specs.Typing.{Ctx, literal_type, IsShallow}
 use Rattle.plan_types_spec.specs.TypingNames.{service_of, place_of, binds, binding, param_types, of_list, takes, makes, part_of}
@@ -148,7 +149,8 @@ good_takes StringToBlob ts h = let e : ty.Str ∷ [] ≡ ts = cc in subst (λ z.
 good_takes BlobLength ts h = let e : ty.Blob ∷ [] ≡ ts = cc in subst (λ z. AllGood z) e (and_both (well_formed_type ty.Blob) true good_blob refl)
 good_takes BlobPart ts h =
     let e : ty.Blob ∷ ty.Int ∷ ty.Int ∷ [] ≡ ts = cc in
-    subst (λ z. AllGood z) e (and_both (well_formed_type ty.Blob) (well_formed_type ty.Int && (well_formed_type ty.Int && true)) good_blob (and_both (well_formed_type ty.Int) (well_formed_type ty.Int && true) good_int (and_both (well_formed_type ty.Int) true good_int refl)))
+    subst (λ z. AllGood z) e (and_both (well_formed_type ty.Blob) (well_formed_type ty.Int && (well_formed_type ty.Int && true)) good_blob
+    (and_both (well_formed_type ty.Int) (well_formed_type ty.Int && true) good_int (and_both (well_formed_type ty.Int) true good_int refl)))
 good_takes Hd ts h = absurd (cc)
 good_takes Tl ts h = absurd (cc)
 good_takes Length ts h = absurd (cc)
@@ -254,10 +256,15 @@ record GoodHeads (code : Program) : Type 0 where
   funs : list_all well_formed_fun code.funs ≡ true
 
 fun_params : (d : Fun) → well_formed_fun d ≡ true → GoodCtx d.params
-fun_params d h = and_left (list_all (λ p. well_formed_type p.ty) d.params) (well_formed_type d.result && well_formed_expr d.body) (and_right (nat_le (length d.params) 8) (list_all (λ p. well_formed_type p.ty) d.params && (well_formed_type d.result && well_formed_expr d.body)) h)
+fun_params d h =
+    and_left (list_all (λ p. well_formed_type p.ty) d.params) (well_formed_type d.result && well_formed_expr d.body)
+    (and_right (nat_le (length d.params) 8) (list_all (λ p. well_formed_type p.ty) d.params && (well_formed_type d.result && well_formed_expr d.body)) h)
 
 fun_result : (d : Fun) → well_formed_fun d ≡ true → Good d.result
-fun_result d h = and_left (well_formed_type d.result) (well_formed_expr d.body) (and_right (list_all (λ p. well_formed_type p.ty) d.params) (well_formed_type d.result && well_formed_expr d.body) (and_right (nat_le (length d.params) 8) (list_all (λ p. well_formed_type p.ty) d.params && (well_formed_type d.result && well_formed_expr d.body)) h))
+fun_result d h =
+    and_left (well_formed_type d.result) (well_formed_expr d.body)
+    (and_right (list_all (λ p. well_formed_type p.ty) d.params) (well_formed_type d.result && well_formed_expr d.body)
+    (and_right (nat_le (length d.params) 8) (list_all (λ p. well_formed_type p.ty) d.params && (well_formed_type d.result && well_formed_expr d.body)) h))
 
 earlier_good : (code : Program) (seen : ℕ) (f : Name) (d : Fun) → GoodHeads code → earlier code seen f ≡ Some d → well_formed_fun d ≡ true
 earlier_good code seen f d g e = let at = and_then_some (slice_get code.funs) (place_of f (take seen code.funs)) d e in good_at well_formed_fun code.funs at.0 d g.funs at.2
@@ -289,7 +296,8 @@ record Kept (d e : Expr) (t : Ty) : Type 0 where
 level_formed : (d : Expr) (l : ExprLayer) → out-Expr d ≡ l → formed_expr d ≡ true → Formed l
 level_formed d l o f = ap (formed_expr_level formed_expr (λ c. is_some c.name) (λ c. formed_expr c.body)) (sym o) ∙ (sym (formed_expr_out d) ∙ f)
 
-same_form_kept : (d e : Expr) (t : Ty) (l m : ExprLayer) → out-Expr d ≡ l → out-Expr e ≡ m → Good t → Formed m → expr_depth_level expr_depth clause_depth m ≡ expr_depth_level expr_depth clause_depth l → expr_nodes_level expr_nodes clause_nodes m ≡ expr_nodes_level expr_nodes clause_nodes l → Kept d e t
+same_form_kept : (d e : Expr) (t : Ty) (l m : ExprLayer) → out-Expr d ≡ l → out-Expr e ≡ m → Good t → Formed m → expr_depth_level expr_depth clause_depth m ≡ expr_depth_level expr_depth clause_depth l
+    → expr_nodes_level expr_nodes clause_nodes m ≡ expr_nodes_level expr_nodes clause_nodes l → Kept d e t
 same_form_kept d e t l m o p g f dp ns = record {
   suits = g;
   formed = formed_expr_out e ∙ (ap (formed_expr_level formed_expr (λ c. is_some c.name) (λ c. formed_expr c.body)) p ∙ f);
@@ -385,31 +393,36 @@ module _ (code : Program) (heads : GoodHeads code) (seen : ℕ) where
     expr_kept {d = d} {e = e} {t = t} (B.primitive n ds es p ts o q h b j r s) g w f =
         let z = level_formed d (Expr-F.Call n ds) o f in
         let k = parts_kept b g (all_formed ts (good_takes p ts h)) (and_right (nat_le (length ds) 8) (list_all formed_expr ds) z) in
-        same_form_kept d e t (Expr-F.Call n ds) (Expr-F.Call n es) o (ap out-Expr r ∙ v.outs-Call n es) (subst (λ z. Good z) (sym j) (good_makes p)) (args_formed ds es ts k z) (ap (λ m. 1 + m) (deepest_kept k)) (ap (λ m. 1 + m) (sum_kept k))
+        same_form_kept d e t (Expr-F.Call n ds) (Expr-F.Call n es) o (ap out-Expr r ∙ v.outs-Call n es) (subst (λ z. Good z) (sym j) (good_makes p)) (args_formed ds es ts k z)
+        (ap (λ m. 1 + m) (deepest_kept k)) (ap (λ m. 1 + m) (sum_kept k))
     expr_kept {d = d} {e = e} {t = t} (B.serving n ds es y o q h b j r s) g w f =
         let z = level_formed d (Expr-F.Call n ds) o f in
         let y_good = service_good code n y heads h in
         let k = parts_kept b g (all_formed y.params (svc_params y y_good)) (and_right (nat_le (length ds) 8) (list_all formed_expr ds) z) in
-        same_form_kept d e t (Expr-F.Call n ds) (Expr-F.Call n es) o (ap out-Expr r ∙ v.outs-Call n es) (subst (λ z. Good z) (sym j) (svc_result y y_good)) (args_formed ds es y.params k z) (ap (λ m. 1 + m) (deepest_kept k)) (ap (λ m. 1 + m) (sum_kept k))
+        same_form_kept d e t (Expr-F.Call n ds) (Expr-F.Call n es) o (ap out-Expr r ∙ v.outs-Call n es) (subst (λ z. Good z) (sym j) (svc_result y y_good)) (args_formed ds es y.params k z)
+        (ap (λ m. 1 + m) (deepest_kept k)) (ap (λ m. 1 + m) (sum_kept k))
     expr_kept {d = d} {e = e} {t = t} (B.call n ds es y o q h l b j r s) g w f =
         let z = level_formed d (Expr-F.Call n ds) o f in
         let y_good = earlier_good code seen n y heads l in
         let k = parts_kept b g (all_formed (param_types y.params) (good_params y.params (fun_params y y_good))) (and_right (nat_le (length ds) 8) (list_all formed_expr ds) z) in
-        same_form_kept d e t (Expr-F.Call n ds) (Expr-F.Call n es) o (ap out-Expr r ∙ v.outs-Call n es) (subst (λ z. Good z) (sym j) (fun_result y y_good)) (args_formed ds es (param_types y.params) k z) (ap (λ m. 1 + m) (deepest_kept k)) (ap (λ m. 1 + m) (sum_kept k))
+        same_form_kept d e t (Expr-F.Call n ds) (Expr-F.Call n es) o (ap out-Expr r ∙ v.outs-Call n es) (subst (λ z. Good z) (sym j) (fun_result y y_good))
+        (args_formed ds es (param_types y.params) k z) (ap (λ m. 1 + m) (deepest_kept k)) (ap (λ m. 1 + m) (sum_kept k))
     expr_kept {d = d} {e = e} {t = t} (B.choice p a b p1 a1 b1 o i j l r) g w f =
         let z = level_formed d (Expr-F.If p a b) o f in
         let y = and_right (formed_expr p) (formed_expr a && formed_expr b) z in
         let k = expr_kept i g (formed_of ty.Bool good_bool) (and_left (formed_expr p) (formed_expr a && formed_expr b) z) in
         let m = expr_kept j g w (first a b y) in
         let n = expr_kept l g (formed_of t m.suits) (second a b y) in
-        same_form_kept d e t (Expr-F.If p a b) (Expr-F.If p1 a1 b1) o (ap out-Expr r ∙ v.outs-If p1 a1 b1) m.suits (three p1 a1 b1 k.formed m.formed n.formed) (λ i. 1 + max (k.depth i) (max (m.depth i) (n.depth i))) (λ i. 1 + k.nodes i + m.nodes i + n.nodes i)
+        same_form_kept d e t (Expr-F.If p a b) (Expr-F.If p1 a1 b1) o (ap out-Expr r ∙ v.outs-If p1 a1 b1) m.suits (three p1 a1 b1 k.formed m.formed n.formed)
+        (λ i. 1 + max (k.depth i) (max (m.depth i) (n.depth i))) (λ i. 1 + k.nodes i + m.nodes i + n.nodes i)
     expr_kept {c = c} {d = d} {e = e} {t = t} (B.binder x u a b a1 b1 o i j r) g w f =
         let z = level_formed d (Expr-F.Let x u a b) o f in
         let u_good : Good u = and_left (well_formed_type u) (formed_expr a && formed_expr b) z in
         let y = and_right (well_formed_type u) (formed_expr a && formed_expr b) z in
         let k = expr_kept i g (formed_of u u_good) (first a b y) in
         let m = expr_kept j (good_behind c x u g u_good) w (second a b y) in
-        same_form_kept d e t (Expr-F.Let x u a b) (Expr-F.Let x u a1 b1) o (ap out-Expr r ∙ v.outs-Let x u a1 b1) m.suits (and_both (well_formed_type u) (formed_expr a1 && formed_expr b1) u_good (two a1 b1 k.formed m.formed)) (λ i. 1 + max (k.depth i) (m.depth i)) (λ i. 1 + k.nodes i + m.nodes i)
+        same_form_kept d e t (Expr-F.Let x u a b) (Expr-F.Let x u a1 b1) o (ap out-Expr r ∙ v.outs-Let x u a1 b1) m.suits
+        (and_both (well_formed_type u) (formed_expr a1 && formed_expr b1) u_good (two a1 b1 k.formed m.formed)) (λ i. 1 + max (k.depth i) (m.depth i)) (λ i. 1 + k.nodes i + m.nodes i)
     expr_kept {d = d} {e = e} {t = t} (B.sequence a b a1 b1 o i j r) g w f =
         let z = level_formed d (Expr-F.Then a b) o f in
         let k = expr_kept i g (formed_of ty.Unit good_unit) (first a b z) in
@@ -419,7 +432,8 @@ module _ (code : Program) (heads : GoodHeads code) (seen : ℕ) where
         let z = level_formed d (Expr-F.And a b) o f in
         let k = expr_kept i g (formed_of ty.Bool good_bool) (first a b z) in
         let m = expr_kept j g (formed_of ty.Bool good_bool) (second a b z) in
-        same_form_kept d e t (Expr-F.And a b) (Expr-F.And a1 b1) o (ap out-Expr r ∙ v.outs-And a1 b1) (subst (λ z. Good z) (sym q) good_bool) (two a1 b1 k.formed m.formed) (λ i. 1 + max (k.depth i) (m.depth i)) (λ i. 1 + k.nodes i + m.nodes i)
+        same_form_kept d e t (Expr-F.And a b) (Expr-F.And a1 b1) o (ap out-Expr r ∙ v.outs-And a1 b1) (subst (λ z. Good z) (sym q) good_bool) (two a1 b1 k.formed m.formed)
+        (λ i. 1 + max (k.depth i) (m.depth i)) (λ i. 1 + k.nodes i + m.nodes i)
     expr_kept {d = d} {e = e} {t = t} (B.either a b a1 b1 o i j q r s) g w f =
         let z = level_formed d (Expr-F.Or a b) o f in
         let k = expr_kept i g (formed_of ty.Bool good_bool) (first a b z) in
@@ -432,7 +446,8 @@ module _ (code : Program) (heads : GoodHeads code) (seen : ℕ) where
         let z = level_formed d (Expr-F.Binary y a b) o f in
         let k = expr_kept i g (formed_of ty.Int good_int) (first a b z) in
         let m = expr_kept j g (formed_of ty.Int good_int) (second a b z) in
-        same_form_kept d e t (Expr-F.Binary y a b) (Expr-F.Binary y a1 b1) o (ap out-Expr r ∙ v.outs-Binary y a1 b1) (subst (λ z. Good z) (sym q) good_int) (two a1 b1 k.formed m.formed) (λ i. 1 + max (k.depth i) (m.depth i)) (λ i. 1 + k.nodes i + m.nodes i)
+        same_form_kept d e t (Expr-F.Binary y a b) (Expr-F.Binary y a1 b1) o (ap out-Expr r ∙ v.outs-Binary y a1 b1) (subst (λ z. Good z) (sym q) good_int) (two a1 b1 k.formed m.formed)
+        (λ i. 1 + max (k.depth i) (m.depth i)) (λ i. 1 + k.nodes i + m.nodes i)
     expr_kept {d = d} {e = e} {t = t} (B.join y a b a1 b1 o h i l j r s) g w f =
         let z = level_formed d (Expr-F.Binary y a b) o f in
         let k = expr_kept i g tt (first a b z) in
@@ -442,18 +457,21 @@ module _ (code : Program) (heads : GoodHeads code) (seen : ℕ) where
         let z = level_formed d (Expr-F.Binary y a b) o f in
         let k = expr_kept i g tt (first a b z) in
         let m = expr_kept j g (formed_of u k.suits) (second a b z) in
-        same_form_kept d e t (Expr-F.Binary y a b) (Expr-F.Binary y a1 b1) o (ap out-Expr r ∙ v.outs-Binary y a1 b1) (subst (λ z. Good z) (sym q) good_bool) (two a1 b1 k.formed m.formed) (λ i. 1 + max (k.depth i) (m.depth i)) (λ i. 1 + k.nodes i + m.nodes i)
+        same_form_kept d e t (Expr-F.Binary y a b) (Expr-F.Binary y a1 b1) o (ap out-Expr r ∙ v.outs-Binary y a1 b1) (subst (λ z. Good z) (sym q) good_bool) (two a1 b1 k.formed m.formed)
+        (λ i. 1 + max (k.depth i) (m.depth i)) (λ i. 1 + k.nodes i + m.nodes i)
     expr_kept {d = d} {e = e} {t = t} (B.order y a b a1 b1 u o h i l j q r s) g w f =
         let z = level_formed d (Expr-F.Binary y a b) o f in
         let k = expr_kept i g tt (first a b z) in
         let m = expr_kept j g (formed_of u k.suits) (second a b z) in
-        same_form_kept d e t (Expr-F.Binary y a b) (Expr-F.Binary y a1 b1) o (ap out-Expr r ∙ v.outs-Binary y a1 b1) (subst (λ z. Good z) (sym q) good_bool) (two a1 b1 k.formed m.formed) (λ i. 1 + max (k.depth i) (m.depth i)) (λ i. 1 + k.nodes i + m.nodes i)
+        same_form_kept d e t (Expr-F.Binary y a b) (Expr-F.Binary y a1 b1) o (ap out-Expr r ∙ v.outs-Binary y a1 b1) (subst (λ z. Good z) (sym q) good_bool) (two a1 b1 k.formed m.formed)
+        (λ i. 1 + max (k.depth i) (m.depth i)) (λ i. 1 + k.nodes i + m.nodes i)
     expr_kept {want = want} {d = d} {e = e} {t = t} (B.prefix y a b a1 b1 u o h i j q l r s) g w f =
         let z = level_formed d (Expr-F.Binary y a b) o f in
         let k = expr_kept i g (want_item want w) (first a b z) in
         let u_list : Good (ty.List u) = good_list u k.suits (subst (λ z. IsShallow z) q l) in
         let m = expr_kept j g (formed_of (ty.List u) u_list) (second a b z) in
-        same_form_kept d e t (Expr-F.Binary y a b) (Expr-F.Binary y a1 b1) o (ap out-Expr r ∙ v.outs-Binary y a1 b1) (subst (λ z. Good z) (sym q) u_list) (two a1 b1 k.formed m.formed) (λ i. 1 + max (k.depth i) (m.depth i)) (λ i. 1 + k.nodes i + m.nodes i)
+        same_form_kept d e t (Expr-F.Binary y a b) (Expr-F.Binary y a1 b1) o (ap out-Expr r ∙ v.outs-Binary y a1 b1) (subst (λ z. Good z) (sym q) u_list) (two a1 b1 k.formed m.formed)
+        (λ i. 1 + max (k.depth i) (m.depth i)) (λ i. 1 + k.nodes i + m.nodes i)
     expr_kept {d = d} {e = e} {t = t} (B.handling a a1 ks hs o i j r) g w f =
         let z = level_formed d (Expr-F.Try a ks) o f in
         let y = and_right (formed_expr a) ((has_from_to 1 8 ks && names_all_but_last (λ k. is_some k.name) ks) && list_all (λ k. formed_expr k.body) ks) z in
@@ -465,7 +483,8 @@ module _ (code : Program) (heads : GoodHeads code) (seen : ℕ) where
         let sums : sum_by clause_nodes hs ≡ sum_by clause_nodes ks = sym (sum-map clause_nodes hs) ∙ (ap (sum_by (λ n. n)) m.counts ∙ sum-map clause_nodes ks) in
         let counted : (has_from_to 1 8 hs && names_all_but_last (λ k. is_some k.name) hs) ≡ true = (λ i. (nat_le 1 (n i) && nat_le (n i) 8) && named_kept ks hs m.names i) ∙ counts in
         same_form_kept d e t (Expr-F.Try a ks) (Expr-F.Try a1 hs) o (ap out-Expr r ∙ v.outs-Try a1 hs) k.suits
-        (and_both (formed_expr a1) ((has_from_to 1 8 hs && names_all_but_last (λ k. is_some k.name) hs) && list_all (λ k. formed_expr k.body) hs) k.formed (and_both (has_from_to 1 8 hs && names_all_but_last (λ k. is_some k.name) hs) (list_all (λ k. formed_expr k.body) hs) counted m.all))
+        (and_both (formed_expr a1) ((has_from_to 1 8 hs && names_all_but_last (λ k. is_some k.name) hs) && list_all (λ k. formed_expr k.body) hs) k.formed
+        (and_both (has_from_to 1 8 hs && names_all_but_last (λ k. is_some k.name) hs) (list_all (λ k. formed_expr k.body) hs) counted m.all))
         (λ i. 1 + max (k.depth i) (deepest i)) (λ i. 1 + k.nodes i + sums i)
     expr_kept {d = d} {e = e} {t = t} (B.fold_left n a l a1 l1 y u o h q p i j r s) g w f =
         let z = level_formed d (Expr-F.Foldl n a l) o f in
@@ -488,7 +507,8 @@ module _ (code : Program) (heads : GoodHeads code) (seen : ℕ) where
         let z = level_formed d (Expr-F.ChunkOf n ds) o f in
         let y_good = any_good code n y heads h in
         let k = parts_kept b g (all_formed (param_types y.params) (good_params y.params (fun_params y y_good))) (and_right (nat_le (length ds) 8) (list_all formed_expr ds) z) in
-        same_form_kept d e t (Expr-F.ChunkOf n ds) (Expr-F.ChunkOf n es) o (ap out-Expr r ∙ v.outs-ChunkOf n es) (subst (λ z. Good z) (sym q) good_chunk) (args_formed ds es (param_types y.params) k z) (ap (λ m. 1 + m) (deepest_kept k)) (ap (λ m. 1 + m) (sum_kept k))
+        same_form_kept d e t (Expr-F.ChunkOf n ds) (Expr-F.ChunkOf n es) o (ap out-Expr r ∙ v.outs-ChunkOf n es) (subst (λ z. Good z) (sym q) good_chunk) (args_formed ds es (param_types y.params) k z)
+        (ap (λ m. 1 + m) (deepest_kept k)) (ap (λ m. 1 + m) (sum_kept k))
     expr_kept {d = d} {e = e} {t = t} (B.evaluation a a1 o i q r s) g w f =
         let k = expr_kept i g (formed_of ty.Chunk good_chunk) (level_formed d (Expr-F.Eval a) o f) in
         same_form_kept d e t (Expr-F.Eval a) (Expr-F.Eval a1) o (ap out-Expr r ∙ v.outs-Eval a1) (subst (λ z. Good z) (sym q) good_unit) k.formed (ap (λ m. 1 + m) k.depth) (ap (λ m. 1 + m) k.nodes)
@@ -498,7 +518,8 @@ module _ (code : Program) (heads : GoodHeads code) (seen : ℕ) where
         let k = expr_kept i g (formed_of ty.Chunk good_chunk) (and_left (formed_expr a) (formed_expr h && formed_expr n) z) in
         let m = expr_kept j g (formed_of ty.Host good_host) (first h n y) in
         let b = expr_kept l g (formed_of ty.Int good_int) (second h n y) in
-        same_form_kept d e t (Expr-F.OnRemote a h n x) (Expr-F.OnRemote a1 h1 n1 x) o (ap out-Expr r ∙ v.outs-OnRemote a1 h1 n1 x) (subst (λ z. Good z) (sym q) good_unit) (three a1 h1 n1 k.formed m.formed b.formed) (λ i. 1 + max (k.depth i) (max (m.depth i) (b.depth i))) (λ i. 1 + k.nodes i + m.nodes i + b.nodes i)
+        same_form_kept d e t (Expr-F.OnRemote a h n x) (Expr-F.OnRemote a1 h1 n1 x) o (ap out-Expr r ∙ v.outs-OnRemote a1 h1 n1 x) (subst (λ z. Good z) (sym q) good_unit)
+        (three a1 h1 n1 k.formed m.formed b.formed) (λ i. 1 + max (k.depth i) (max (m.depth i) (b.depth i))) (λ i. 1 + k.nodes i + m.nodes i + b.nodes i)
     expr_kept {d = d} {e = e} {t = t} (B.neighbour a h n y a1 h1 n1 y1 o i j l x q r s) g w f =
         let z = level_formed d (Expr-F.OnNeighbor a h n y) o f in
         let z0 = and_left (formed_expr a && formed_expr h) (formed_expr n && formed_expr y) z in
@@ -541,13 +562,15 @@ module _ (code : Program) (heads : GoodHeads code) (seen : ℕ) where
 fun_kept : (code : Program) (k : ℕ) (d g : Fun) → GoodHeads code → FunFills code k d g → well_formed_fun d ≡ true → (well_formed_fun g ≡ true) × (expr_nodes g.body ≡ expr_nodes d.body)
 unfolding well_formed_expr
 fun_kept code k d g heads f h =
-    let z = and_right (list_all (λ p. well_formed_type p.ty) d.params) (well_formed_type d.result && well_formed_expr d.body) (and_right (nat_le (length d.params) 8) (list_all (λ p. well_formed_type p.ty) d.params && (well_formed_type d.result && well_formed_expr d.body)) h) in
+    let z = and_right (list_all (λ p. well_formed_type p.ty) d.params) (well_formed_type d.result && well_formed_expr d.body)
+    (and_right (nat_le (length d.params) 8) (list_all (λ p. well_formed_type p.ty) d.params && (well_formed_type d.result && well_formed_expr d.body)) h) in
     let b = and_right (well_formed_type d.result) (well_formed_expr d.body) z in
     let m = expr_kept code heads k f.body (fun_params d h) (formed_of d.result (fun_result d h)) (and_left (formed_expr d.body) (nat_le (expr_depth d.body) 64) b) in
     let deep : nat_le (expr_depth g.body) 64 ≡ true = ap (λ n. nat_le n 64) m.depth ∙ and_right (formed_expr d.body) (nat_le (expr_depth d.body) 64) b in
     let whole : well_formed_expr g.body ≡ true = and_both (formed_expr g.body) (nat_le (expr_depth g.body) 64) m.formed deep in
     let same_rest : well_formed_fun (record d { body = g.body }) ≡ true =
-    and_both (nat_le (length d.params) 8) (list_all (λ p. well_formed_type p.ty) d.params && (well_formed_type d.result && well_formed_expr g.body)) (and_left (nat_le (length d.params) 8) (list_all (λ p. well_formed_type p.ty) d.params && (well_formed_type d.result && well_formed_expr d.body)) h)
+    and_both (nat_le (length d.params) 8) (list_all (λ p. well_formed_type p.ty) d.params && (well_formed_type d.result && well_formed_expr g.body))
+    (and_left (nat_le (length d.params) 8) (list_all (λ p. well_formed_type p.ty) d.params && (well_formed_type d.result && well_formed_expr d.body)) h)
     (and_both (list_all (λ p. well_formed_type p.ty) d.params) (well_formed_type d.result && well_formed_expr g.body) (fun_params d h) (and_both (well_formed_type d.result) (well_formed_expr g.body) (fun_result d h) whole)) in
     (ap well_formed_fun f.rest ∙ same_rest, m.nodes)
 
@@ -565,7 +588,8 @@ funs_kept code j (d ∷ ds) (g ∷ gs) heads n f h =
 pub filled_formed : (draft code : Program) → IsWellFormedProgram draft → Fills draft code → IsWellFormedProgram code
 unfolding well_formed_program program_nodes
 filled_formed draft code w f =
-    let svcs = and_left (nat_le (length draft.svcs) 64 && list_all well_formed_svc draft.svcs) (nat_le (length draft.exns) 64 && ((has_from_to 1 64 draft.funs && list_all well_formed_fun draft.funs) && nat_le (program_nodes draft) 4096)) w in
+    let svcs = and_left (nat_le (length draft.svcs) 64 && list_all well_formed_svc draft.svcs)
+    (nat_le (length draft.exns) 64 && ((has_from_to 1 64 draft.funs && list_all well_formed_fun draft.funs) && nat_le (program_nodes draft) 4096)) w in
     let a = and_right (nat_le (length draft.svcs) 64 && list_all well_formed_svc draft.svcs) (nat_le (length draft.exns) 64 && ((has_from_to 1 64 draft.funs && list_all well_formed_fun draft.funs) && nat_le (program_nodes draft) 4096)) w in
     let exns = and_left (nat_le (length draft.exns) 64) ((has_from_to 1 64 draft.funs && list_all well_formed_fun draft.funs) && nat_le (program_nodes draft) 4096) a in
     let b = and_right (nat_le (length draft.exns) 64) ((has_from_to 1 64 draft.funs && list_all well_formed_fun draft.funs) && nat_le (program_nodes draft) 4096) a in

@@ -35,7 +35,11 @@ below scope depth = checked_expression scope.code.now depth scope.seen
 pub record Nests (depth : ℕ) (pre : Global → ℕ → Bor Scope → MutBor TypingState → Option (Bor Ty) → Bor Expr → Type 0)
     (post : Global → ℕ → Bor Scope → MutBor TypingState → Option (Bor Ty) → Bor Expr → Result Found TypeFault → MutBor TypingState → Type 0) : Type 0 where
   pub callable : (alloc : Global) (scope : Bor Scope) (old : MutBor TypingState) (want : Option (Bor Ty)) (e : Bor Expr) → pre alloc depth scope old want e
-  pub checks : (alloc : Global) (scope : Bor Scope) (old new : MutBor TypingState) (want : Option (Bor Ty)) (e : Bor Expr) (r : Result Found TypeFault) → post alloc depth scope old want e r new
+  pub checks : (alloc : Global) (scope : Bor Scope) (old new : MutBor TypingState) (want : Option (Bor Ty)) (e : Bor Expr)
+      (r : Result Found TypeFault)
+      → post alloc depth scope old want e r new
       → Meets (below scope.now depth old.now.ctx (option_copied want) e.now old.now.node) r new.now.node
-  pub keeps : (alloc : Global) (scope : Bor Scope) (old new : MutBor TypingState) (want : Option (Bor Ty)) (e : Bor Expr) (r : Result Found TypeFault) → post alloc depth scope old want e r new
+  pub keeps : (alloc : Global) (scope : Bor Scope) (old new : MutBor TypingState) (want : Option (Bor Ty)) (e : Bor Expr)
+      (r : Result Found TypeFault)
+      → post alloc depth scope old want e r new
       → new.now.ctx ≡ old.now.ctx

@@ -17,7 +17,9 @@ use Rattle.plan_types_spec.specs.declared.type_fault.TypeFault.{TypeFault}
 use Rattle.plan_base.specs.Trees.{TyLayer, ValueLayer}
 use Rattle.plan_base.specs.Sizes.{largest_by, weight_level, weight, chunk_weight, nesting, chunk_nesting, value_depth, type_depth, program_nodes}
 use Rattle.plan_base.proofs.SizeLaws.{weight_out, chunk_weight_is, chunk_nesting_is}
-use Rattle.plan_base.specs.WellFormed.{formed_value_level, formed_value, formed_chunk, formed_type, has_from_to, well_formed_type, well_formed_expr, well_formed_svc, well_formed_fun, well_formed_program, well_formed_value, IsWellFormedValue, ValueHasTypes, well_formed_chunk, IsWellFormedChunk, ChunkHasTypes, typed_value_level, value_has_types, chunk_has_types, program_has_types}
+use Rattle.plan_base.specs.WellFormed.{formed_value_level, formed_value, formed_chunk, formed_type, has_from_to, well_formed_type, well_formed_expr, well_formed_svc, well_formed_fun}
+use Rattle.plan_base.specs.WellFormed.{well_formed_program, well_formed_value, IsWellFormedValue, ValueHasTypes, well_formed_chunk, IsWellFormedChunk, ChunkHasTypes, typed_value_level}
+use Rattle.plan_base.specs.WellFormed.{value_has_types, chunk_has_types, program_has_types}
 use Rattle.plan_base.proofs.FormLaws.{formed_value_out, formed_chunk_is, value_has_types_out, chunk_has_types_is}
 use Rattle.plan_types_spec.specs.Typing.{Typed, HasType, unit, bool, int, char, str, blob, host, dev, list, tuple, chunk, HaveTypes, no_values, and_value, AllHaveType, no_items, and_item, IsTypedChunk, within}
 use Rattle.plan_types_spec.specs.TypingNames.{place_of, param_types}
@@ -70,16 +72,19 @@ args_typed n ih i (v ∷ vs) (t ∷ ts) e w k h =
     (λ r. args_typed n ih (min (i + 1) 255) vs ts (omega arith) a.1 (and_right (value_has_types v) (list_all value_has_types vs) k) r)
     (fits v t) (sound v) refl refl h
   where
-    go : (fits v t ≡ true → sound v ≡ true → HasType v t) → (ill_from right (min (i + 1) 255) vs ts ≡ None → HaveTypes vs ts) → (p q : Bool) → fits v t ≡ p → sound v ≡ q → (if p && q then ill_from right (min (i + 1) 255) vs ts else Some (Argument i)) ≡ None → HaveTypes (v ∷ vs) (t ∷ ts)
+    go : (fits v t ≡ true → sound v ≡ true → HasType v t) → (ill_from right (min (i + 1) 255) vs ts ≡ None → HaveTypes vs ts) → (p q : Bool) → fits v t ≡ p → sound v ≡ q
+        → (if p && q then ill_from right (min (i + 1) 255) vs ts else Some (Argument i)) ≡ None → HaveTypes (v ∷ vs) (t ∷ ts)
     go first rest true true f o r = and_value (first f o) (rest r)
     go first rest true false f o r = absurd (cc)
     go first rest false q f o r = absurd (cc)
 
 -- a typed code makes a typed chunk where nothing is wrong with the call
-call_typed : (n : ℕ) → Typing n → (c : Chunk) → Typed c.code → sum_by weight c.args ≤ n → chunk_nesting c ≤ 4 → 1 + chunk_weight c ≤ 16384 → list_all value_has_types c.args ≡ true → ill_call right c.code c.entry c.args ≡ None → IsTypedChunk c
+call_typed : (n : ℕ) → Typing n → (c : Chunk) → Typed c.code → sum_by weight c.args ≤ n → chunk_nesting c ≤ 4 → 1 + chunk_weight c ≤ 16384 → list_all value_has_types c.args ≡ true
+    → ill_call right c.code c.entry c.args ≡ None → IsTypedChunk c
 call_typed n ih c t w s m k h = place (place_of c.entry c.code.funs) refl h
   where
-    typed_where_counted : (at : ℕ) (d : Fun) → place_of c.entry c.code.funs ≡ Some at → slice_get c.code.funs at ≡ Some d → (b : Bool) → (length c.args == length d.params) ≡ b → (if b then ill_from right 0 c.args (param_types d.params) else Some Count) ≡ None → IsTypedChunk c
+    typed_where_counted : (at : ℕ) (d : Fun) → place_of c.entry c.code.funs ≡ Some at → slice_get c.code.funs at ≡ Some d → (b : Bool) → (length c.args == length d.params) ≡ b
+        → (if b then ill_from right 0 c.args (param_types d.params) else Some Count) ≡ None → IsTypedChunk c
     typed_where_counted at d p g false e r = absurd (cc)
     typed_where_counted at d p g true e r =
         let same : length c.args ≡ length d.params = eqb-true (length c.args) (length d.params) e in
@@ -107,7 +112,9 @@ chunk_typed n ih c w s m k h = go (annotated_program c.code) refl (sym (illness_
 
     go : (r : Result Program TypeFault) → annotated_program c.code ≡ r → ill_code r (ill_call right c.code c.entry c.args) ≡ None → IsTypedChunk c
     go (Err f) e r = absurd (cc)
-    go (Ok p) e r = call_typed n ih c (typed_code c.code p (and_left (program_has_types c.code) (list_all value_has_types c.args) parts_have_types) e) w s m (and_right (program_has_types c.code) (list_all value_has_types c.args) parts_have_types) r
+    go (Ok p) e r =
+        call_typed n ih c (typed_code c.code p (and_left (program_has_types c.code) (list_all value_has_types c.args) parts_have_types)
+        e) w s m (and_right (program_has_types c.code) (list_all value_has_types c.args) parts_have_types) r
 
 none_of : {X : Type 0} (o : Option X) → not (is_some o) ≡ true → o ≡ None
 none_of None h = refl
@@ -171,7 +178,8 @@ sound_by_level v t l u m e q g f o = (
 level_formed : (v : Value) (l : ValueLayer) → out-Value v ≡ l → formed_value v ≡ true → formed_value_level formed_value formed_chunk l ≡ true
 level_formed v l e h = ap (formed_value_level formed_value formed_chunk) (sym e) ∙ (sym (formed_value_out v) ∙ h)
 
-call_right : (k : Chunk) (at : ℕ) (d : Fun) → place_of k.entry k.code.funs ≡ Some at → slice_get k.code.funs at ≡ Some d → length k.args ≡ length (param_types d.params) → ill_from right 0 k.args (param_types d.params) ≡ None → ill_call right k.code k.entry k.args ≡ None
+call_right : (k : Chunk) (at : ℕ) (d : Fun) → place_of k.entry k.code.funs ≡ Some at → slice_get k.code.funs at ≡ Some d → length k.args ≡ length (param_types d.params)
+    → ill_from right 0 k.args (param_types d.params) ≡ None → ill_call right k.code k.entry k.args ≡ None
 call_right k at d p g count h =
     let same : length k.args ≡ length d.params = count ∙ length-map d.params (λ p. p.ty) in
     let known : fun_of k.code k.entry ≡ Some d = ap (option_and_then (slice_get k.code.funs)) p ∙ g in
@@ -208,7 +216,9 @@ mutual
       let z = level_formed v (Value-F.Tuple vs) e f in
       let r = parts_by h (and_right (nat_le 2 (length vs) && nat_le (length vs) 8) (list_all formed_value vs) z) in
       sound_by_level v t (Value-F.Tuple vs) (ty.Tuple ts) (Ty-F.Tuple ts) e q (ty.outs-Tuple ts) r.0 r.1
-  shape_by {v} {t} (chunk k e q h) f = sound_by_level v t (Value-F.Chunk k) ty.Chunk Ty-F.Chunk e q ty.outs-Chunk refl (and_both (is_small_chunk k) (not (is_some (illness k))) (within_limits k h) (none_is (illness k) (chunk_by h (level_formed v (Value-F.Chunk k) e f))))
+  shape_by {v} {t} (chunk k e q h) f =
+      sound_by_level v t (Value-F.Chunk k) ty.Chunk Ty-F.Chunk e q ty.outs-Chunk refl
+      (and_both (is_small_chunk k) (not (is_some (illness k))) (within_limits k h) (none_is (illness k) (chunk_by h (level_formed v (Value-F.Chunk k) e f))))
 
   items_by : {u : Ty} {vs : List Value} → AllHaveType u vs → list_all formed_value vs ≡ true → (list_all (λ v. fits v u) vs ≡ true) × (list_all sound vs ≡ true)
   items_by no_items f = (refl, refl)
@@ -277,7 +287,9 @@ at_fun : (ds : List Fun) (i : ℕ) (d : Fun) → list_all well_formed_fun ds ≡
 at_fun [] i d h e = absurd (cc)
 at_fun (x ∷ ds) zero d h e =
     let same : x ≡ d = cc in
-    ap (λ f. nat_le (length f.params) 8) (sym same) ∙ and_left (nat_le (length x.params) 8) (list_all (λ p. well_formed_type p.ty) x.params && (well_formed_type x.result && well_formed_expr x.body)) (and_left (well_formed_fun x) (list_all well_formed_fun ds) h)
+    ap (λ f. nat_le (length f.params) 8) (sym same)
+    ∙ and_left (nat_le (length x.params) 8)
+    (list_all (λ p. well_formed_type p.ty) x.params && (well_formed_type x.result && well_formed_expr x.body)) (and_left (well_formed_fun x) (list_all well_formed_fun ds) h)
 at_fun (x ∷ ds) (suc i) d h e = at_fun ds i d (and_right (well_formed_fun x) (list_all well_formed_fun ds) h) e
 
 few_params : (code : Program) (i : ℕ) (d : Fun) → well_formed_program code ≡ true → slice_get code.funs i ≡ Some d → nat_le (length d.params) 8 ≡ true
@@ -319,7 +331,8 @@ call_found c code f k s h =
     }
 
 -- the same of a copy
-pub call_made : (code p : Program) (entry n : Name) (args : List Value) → code ≡ p → entry ≡ n → IsChecked p → IsTrue (list_all well_formed_value args) → IsTrue (list_all value_has_types args) → is_small_chunk (record { code = code; entry = entry; args = args }) ≡ true → ill_call right p n args ≡ None
+pub call_made : (code p : Program) (entry n : Name) (args : List Value) → code ≡ p → entry ≡ n → IsChecked p → IsTrue (list_all well_formed_value args) → IsTrue (list_all value_has_types args)
+    → is_small_chunk (record { code = code; entry = entry; args = args }) ≡ true → ill_call right p n args ≡ None
     → IsCheckedChunk (record { code = code; entry = entry; args = args })
 call_made code p entry n args a b k f t s h = call_found (record { code = code; entry = entry; args = args }) (subst (λ z. IsChecked z) (sym a) k) f t s ((λ i. ill_call right (a i) (b i) args) ∙ h)
 

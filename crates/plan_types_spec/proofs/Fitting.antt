@@ -12,7 +12,8 @@ use Rattle.plan_base.specs.Trees.{ValueLayer}
 use Rattle.plan_types_spec.specs.Typing.{HasType, bool, int, str, blob, list, HaveTypes, no_values, and_value, AllHaveType, and_item}
 use Rattle.plan_types_spec.specs.TypingNames.{OpKind, of_list, takes, makes, kind_of, arithmetic, joining, equality, ordering, listing, is_joined, is_joined_at, is_ordered, is_ordered_at, part_of}
 use Rattle.plan_types_spec.specs.Rules as rules
-use Rattle.plan_types_spec.specs.Rules.{Given, gives, raises, unfit, bounded_number, divided_number, remainder, computed_number, numbers, before, answered_truth, limited_value, joined_values, put_first, binary, found_value, part, first_item, later_items, blob_part, of_one, of_three, primitive, too_large}
+use Rattle.plan_types_spec.specs.Rules.{Given, gives, raises, unfit, bounded_number, divided_number, remainder, computed_number, numbers, before, answered_truth, limited_value, joined_values}
+use Rattle.plan_types_spec.specs.Rules.{put_first, binary, found_value, part, first_item, later_items, blob_part, of_one, of_three, primitive, too_large}
 use Rattle.plan_types_spec.specs.Same.{same_value}
 use Rattle.plan_types_spec.specs.Typed.{OperatorTakes, KindTakes, PrimitiveTakes, fixed, any_list, Fits}
 use Rattle.plan_types_spec.proofs.Shapes.{Shape, shape_of, shape_at}

@@ -26,7 +26,9 @@ module _ (code whole : Program) (same : SameHeads code whole) (seen : ℕ) where
     becomes_typed (B.of_items f a a1 p u h q b o r s) = T.of_items f a1 p u (ap out-Expr r ∙ v.outs-Call f (a1 ∷ [])) q (becomes_typed b) o
     becomes_typed (B.primitive f ds es p ts h q w b o r s) = T.primitive f es p ts (ap out-Expr r ∙ v.outs-Call f es) q w (parts_typed b) o
     becomes_typed (B.serving f ds es d h q w b o r s) = T.serving f es d (ap out-Expr r ∙ v.outs-Call f es) q (service_there same f w) (parts_typed b) o
-    becomes_typed (B.call {c = c} f ds es g h q w k b o r s) = let at = earlier_there same seen f g k in T.call f es at.0 at.1 (ap out-Expr r ∙ v.outs-Call f es) q (service_there same f w) at.2 at.3 (subst (λ ps. HaveTys whole seen c es (param_types ps)) (sym at.4) (parts_typed b)) (o ∙ sym at.5)
+    becomes_typed (B.call {c = c} f ds es g h q w k b o r s) =
+        let at = earlier_there same seen f g k in
+        T.call f es at.0 at.1 (ap out-Expr r ∙ v.outs-Call f es) q (service_there same f w) at.2 at.3 (subst (λ ps. HaveTys whole seen c es (param_types ps)) (sym at.4) (parts_typed b)) (o ∙ sym at.5)
     becomes_typed (B.choice p a b p1 a1 b1 h i j k e) = T.choice p1 a1 b1 (ap out-Expr e ∙ v.outs-If p1 a1 b1) (becomes_typed i) (becomes_typed j) (becomes_typed k)
     becomes_typed (B.binder n u a b a1 b1 h i j e) = T.binder n u a1 b1 (ap out-Expr e ∙ v.outs-Let n u a1 b1) (becomes_typed i) (becomes_typed j)
     becomes_typed (B.sequence a b a1 b1 h i j e) = T.sequence a1 b1 (ap out-Expr e ∙ v.outs-Then a1 b1) (becomes_typed i) (becomes_typed j)
@@ -39,9 +41,15 @@ module _ (code whole : Program) (same : SameHeads code whole) (seen : ℕ) where
     becomes_typed (B.order q a b a1 b1 u h i k j m o p s) = T.order q a1 b1 u (ap out-Expr p ∙ v.outs-Binary q a1 b1) i (becomes_typed k) j (becomes_typed m) o
     becomes_typed (B.prefix q a b a1 b1 u h i k m o w p s) = T.prefix q a1 b1 u (ap out-Expr p ∙ v.outs-Binary q a1 b1) i (becomes_typed k) (becomes_typed m) o w
     becomes_typed (B.handling a a1 ks ks1 h i j e) = T.handling a1 ks1 (ap out-Expr e ∙ v.outs-Try a1 ks1) (becomes_typed i) (clauses_typed j)
-    becomes_typed (B.fold_left f a l a1 l1 g u h i j k m o p s) = let at = earlier_there same seen f g i in T.fold_left f a1 l1 at.0 at.1 u (ap out-Expr p ∙ v.outs-Foldl f a1 l1) at.2 at.3 (ap param_types at.4 ∙ j) (at.5 ∙ k) (becomes_typed m) (becomes_typed o)
-    becomes_typed (B.fold_right f a l a1 l1 g u h i j k m o p s) = let at = earlier_there same seen f g i in T.fold_right f a1 l1 at.0 at.1 u (ap out-Expr p ∙ v.outs-Foldr f a1 l1) at.2 at.3 (ap param_types at.4 ∙ j) (at.5 ∙ k) (becomes_typed m) (becomes_typed o)
-    becomes_typed (B.packing {c = c} f ds es g h i b o p s) = let at = any_there same f g i in T.packing f es at.0 at.1 (ap out-Expr p ∙ v.outs-ChunkOf f es) at.2 at.3 (subst (λ ps. HaveTys whole seen c es (param_types ps)) (sym at.4) (parts_typed b)) o
+    becomes_typed (B.fold_left f a l a1 l1 g u h i j k m o p s) =
+        let at = earlier_there same seen f g i in
+        T.fold_left f a1 l1 at.0 at.1 u (ap out-Expr p ∙ v.outs-Foldl f a1 l1) at.2 at.3 (ap param_types at.4 ∙ j) (at.5 ∙ k) (becomes_typed m) (becomes_typed o)
+    becomes_typed (B.fold_right f a l a1 l1 g u h i j k m o p s) =
+        let at = earlier_there same seen f g i in
+        T.fold_right f a1 l1 at.0 at.1 u (ap out-Expr p ∙ v.outs-Foldr f a1 l1) at.2 at.3 (ap param_types at.4 ∙ j) (at.5 ∙ k) (becomes_typed m) (becomes_typed o)
+    becomes_typed (B.packing {c = c} f ds es g h i b o p s) =
+        let at = any_there same f g i in
+        T.packing f es at.0 at.1 (ap out-Expr p ∙ v.outs-ChunkOf f es) at.2 at.3 (subst (λ ps. HaveTys whole seen c es (param_types ps)) (sym at.4) (parts_typed b)) o
     becomes_typed (B.evaluation a a1 h k o p s) = T.evaluation a1 (ap out-Expr p ∙ v.outs-Eval a1) (becomes_typed k) o
     becomes_typed (B.remote a h n a1 h1 n1 r i j k m o p s) = T.remote a1 h1 n1 r (ap out-Expr p ∙ v.outs-OnRemote a1 h1 n1 r) (becomes_typed j) (becomes_typed k) (becomes_typed m) o
     becomes_typed (B.neighbour a h n d a1 h1 n1 d1 i j k m q o p s) = T.neighbour a1 h1 n1 d1 (ap out-Expr p ∙ v.outs-OnNeighbor a1 h1 n1 d1) (becomes_typed j) (becomes_typed k) (becomes_typed m) (becomes_typed q) o

@@ -45,12 +45,16 @@ module _ (code : Program) (seen : ℕ) where
     itself (T.variable n o b) s = B.variable n o b refl s
     itself (T.empty u o q w) s = B.empty u o q w refl s
     itself (T.raising n o k w) s = B.raising n o k w refl s
-    itself {c = c} {e = e} (T.tuple es ts o hs q w) {want = want} s = B.tuple es es ts o (parts_itself hs (option_and_then (parts_of (length es)) want) 0 (tuple_wanted want (length es) ts (subst (λ z. Suits want z) q s) (types_count hs))) q w (level_is e (Expr-F.Tuple es) o ∙ v.rolls-Tuple es) s
+    itself {c = c} {e = e} (T.tuple es ts o hs q w) {want = want} s =
+        B.tuple es es ts o (parts_itself hs (option_and_then (parts_of (length es)) want) 0
+        (tuple_wanted want (length es) ts (subst (λ z. Suits want z) q s) (types_count hs))) q w (level_is e (Expr-F.Tuple es) o ∙ v.rolls-Tuple es) s
     itself {e = e} (T.part i a ts o h q) s = B.part i a a ts o (itself h tt) q (level_is e (Expr-F.Part i a) o ∙ v.rolls-Part i a) s
     itself {e = e} (T.of_items f a p u o q h r) s = B.of_items f a a p u o q (itself h tt) r (level_is e (Expr-F.Call f (a ∷ [])) o ∙ v.rolls-Call f (a ∷ [])) s
     itself {e = e} (T.primitive f es p ts o q w hs r) s = B.primitive f es es p ts o q w (parts_itself hs (Some ts) 0 (all_wanted ts)) r (level_is e (Expr-F.Call f es) o ∙ v.rolls-Call f es) s
     itself {e = e} (T.serving f es d o q w hs r) s = B.serving f es es d o q w (parts_itself hs (Some d.params) 0 (all_wanted d.params)) r (level_is e (Expr-F.Call f es) o ∙ v.rolls-Call f es) s
-    itself {e = e} (T.call f es at d o q w i j hs r) s = B.call f es es d o q w (ap (option_and_then (slice_get code.funs)) i ∙ j) (parts_itself hs (Some (map (λ p. p.ty) d.params)) 0 (all_wanted (map (λ p. p.ty) d.params))) r (level_is e (Expr-F.Call f es) o ∙ v.rolls-Call f es) s
+    itself {e = e} (T.call f es at d o q w i j hs r) s =
+        B.call f es es d o q w (ap (option_and_then (slice_get code.funs)) i ∙ j)
+        (parts_itself hs (Some (map (λ p. p.ty) d.params)) 0 (all_wanted (map (λ p. p.ty) d.params))) r (level_is e (Expr-F.Call f es) o ∙ v.rolls-Call f es) s
     itself {e = e} (T.choice a b d o h i j) s = B.choice a b d a b d o (itself h refl) (itself i s) (itself j refl) (level_is e (Expr-F.If a b d) o ∙ v.rolls-If a b d)
     itself {e = e} (T.binder n u a b o h i) s = B.binder n u a b a b o (itself h refl) (itself i s) (level_is e (Expr-F.Let n u a b) o ∙ v.rolls-Let n u a b)
     itself {e = e} (T.sequence a b o h i) s = B.sequence a b a b o (itself h refl) (itself i s) (level_is e (Expr-F.Then a b) o ∙ v.rolls-Then a b)
@@ -65,12 +69,15 @@ module _ (code : Program) (seen : ℕ) where
     itself {e = e} (T.handling a ks o h hs) s = B.handling a a ks ks o (itself h s) (clauses_itself hs) (level_is e (Expr-F.Try a ks) o ∙ v.rolls-Try a ks)
     itself {e = e} (T.fold_left f a l at d u o i j p q h k) s = B.fold_left f a l a l d u o (ap (option_and_then (slice_get code.funs)) i ∙ j) p q (itself h refl) (itself k refl) (level_is e (Expr-F.Foldl f a l) o ∙ v.rolls-Foldl f a l) s
     itself {e = e} (T.fold_right f a l at d u o i j p q h k) s = B.fold_right f a l a l d u o (ap (option_and_then (slice_get code.funs)) i ∙ j) p q (itself h refl) (itself k refl) (level_is e (Expr-F.Foldr f a l) o ∙ v.rolls-Foldr f a l) s
-    itself {e = e} (T.packing f es at d o i j hs q) s = B.packing f es es d o (ap (option_and_then (slice_get code.funs)) i ∙ j) (parts_itself hs (Some (map (λ p. p.ty) d.params)) 0 (all_wanted (map (λ p. p.ty) d.params))) q (level_is e (Expr-F.ChunkOf f es) o ∙ v.rolls-ChunkOf f es) s
+    itself {e = e} (T.packing f es at d o i j hs q) s =
+        B.packing f es es d o (ap (option_and_then (slice_get code.funs)) i ∙ j)
+        (parts_itself hs (Some (map (λ p. p.ty) d.params)) 0 (all_wanted (map (λ p. p.ty) d.params))) q (level_is e (Expr-F.ChunkOf f es) o ∙ v.rolls-ChunkOf f es) s
     itself {e = e} (T.evaluation a o h q) s = B.evaluation a a o (itself h refl) q (level_is e (Expr-F.Eval a) o ∙ v.rolls-Eval a) s
     itself {e = e} (T.remote a h n r o i j k q) s = B.remote a h n a h n r o (itself i refl) (itself j refl) (itself k refl) q (level_is e (Expr-F.OnRemote a h n r) o ∙ v.rolls-OnRemote a h n r) s
     itself {e = e} (T.neighbour a h n d o i j k m q) s = B.neighbour a h n d a h n d o (itself i refl) (itself j refl) (itself k refl) (itself m refl) q (level_is e (Expr-F.OnNeighbor a h n d) o ∙ v.rolls-OnNeighbor a h n d) s
 
-    parts_itself : {c : Ctx} {es : List Expr} {ts : List Ty} → HaveTys code seen c es ts → (wants : Option (List Ty)) (i : ℕ) → ((k : ℕ) (t : Ty) → slice_get ts k ≡ Some t → Suits (want_at wants (i + k)) t) → PartsBecome code seen c wants i es es ts
+    parts_itself : {c : Ctx} {es : List Expr} {ts : List Ty} → HaveTys code seen c es ts → (wants : Option (List Ty)) (i : ℕ)
+        → ((k : ℕ) (t : Ty) → slice_get ts k ≡ Some t → Suits (want_at wants (i + k)) t) → PartsBecome code seen c wants i es es ts
     parts_itself M.no_parts wants i f = P.no_parts
     parts_itself (M.and_part {t = t} h hs) wants i f =
         P.and_part (itself h (subst (λ j. Suits (want_at wants j) t) (add-zero i) (f 0 t refl)))

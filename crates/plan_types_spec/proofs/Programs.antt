@@ -33,7 +33,9 @@ unfolding services_from
 services_named taken [] at n h = refl
 services_named taken (d ∷ ds) at n h = go (λ e. services_named (taken ++ d.name ∷ []) ds (next at) n e) (is_prim d.name) (has_name taken d.name) h
   where
-    go : (services_from (taken ++ d.name ∷ []) ds (next at) ≡ Ok n → are_callable (taken ++ d.name ∷ []) (map (λ d. d.name) ds) ≡ true) → (p b : Bool) → (if p || b then Err (fault.TwiceNamed (place.Decl at)) else services_from (taken ++ d.name ∷ []) ds (next at)) ≡ Ok n → (not p && not b && are_callable (taken ++ d.name ∷ []) (map (λ d. d.name) ds)) ≡ true
+    go : (services_from (taken ++ d.name ∷ []) ds (next at) ≡ Ok n → are_callable (taken ++ d.name ∷ []) (map (λ d. d.name) ds) ≡ true) → (p b : Bool)
+        → (if p || b then Err (fault.TwiceNamed (place.Decl at)) else services_from (taken ++ d.name ∷ []) ds (next at)) ≡ Ok n
+        → (not p && not b && are_callable (taken ++ d.name ∷ []) (map (λ d. d.name) ds)) ≡ true
     go ih true b e = absurd (cc)
     go ih false true e = absurd (cc)
     go ih false false e = ih e
@@ -43,7 +45,9 @@ unfolding services_from
 services_reach taken [] at h = (at, refl)
 services_reach taken (d ∷ ds) at h = go (λ e. services_reach (taken ++ d.name ∷ []) ds (next at) e) (is_prim d.name) (has_name taken d.name) h
   where
-    go : (are_callable (taken ++ d.name ∷ []) (map (λ d. d.name) ds) ≡ true → (n : ℕ) × (services_from (taken ++ d.name ∷ []) ds (next at) ≡ Ok n)) → (p b : Bool) → (not p && not b && are_callable (taken ++ d.name ∷ []) (map (λ d. d.name) ds)) ≡ true → (n : ℕ) × ((if p || b then Err (fault.TwiceNamed (place.Decl at)) else services_from (taken ++ d.name ∷ []) ds (next at)) ≡ Ok n)
+    go : (are_callable (taken ++ d.name ∷ []) (map (λ d. d.name) ds) ≡ true → (n : ℕ) × (services_from (taken ++ d.name ∷ []) ds (next at) ≡ Ok n)) → (p b : Bool)
+        → (not p && not b && are_callable (taken ++ d.name ∷ []) (map (λ d. d.name) ds)) ≡ true
+        → (n : ℕ) × ((if p || b then Err (fault.TwiceNamed (place.Decl at)) else services_from (taken ++ d.name ∷ []) ds (next at)) ≡ Ok n)
     go ih true b e = absurd (cc)
     go ih false true e = absurd (cc)
     go ih false false e = ih e
@@ -53,7 +57,8 @@ unfolding exceptions_from
 exceptions_named taken [] at n h = refl
 exceptions_named taken (x ∷ ns) at n h = go (λ e. exceptions_named (taken ++ x ∷ []) ns (next at) n e) (has_name taken x) h
   where
-    go : (exceptions_from (taken ++ x ∷ []) ns (next at) ≡ Ok n → are_new (taken ++ x ∷ []) ns ≡ true) → (b : Bool) → (if b then Err (fault.TwiceNamed (place.Decl at)) else exceptions_from (taken ++ x ∷ []) ns (next at)) ≡ Ok n → (not b && are_new (taken ++ x ∷ []) ns) ≡ true
+    go : (exceptions_from (taken ++ x ∷ []) ns (next at) ≡ Ok n → are_new (taken ++ x ∷ []) ns ≡ true) → (b : Bool)
+        → (if b then Err (fault.TwiceNamed (place.Decl at)) else exceptions_from (taken ++ x ∷ []) ns (next at)) ≡ Ok n → (not b && are_new (taken ++ x ∷ []) ns) ≡ true
     go ih true e = absurd (cc)
     go ih false e = ih e
 
@@ -62,7 +67,8 @@ unfolding exceptions_from
 exceptions_reach taken [] at h = (at, refl)
 exceptions_reach taken (x ∷ ns) at h = go (λ e. exceptions_reach (taken ++ x ∷ []) ns (next at) e) (has_name taken x) h
   where
-    go : (are_new (taken ++ x ∷ []) ns ≡ true → (n : ℕ) × (exceptions_from (taken ++ x ∷ []) ns (next at) ≡ Ok n)) → (b : Bool) → (not b && are_new (taken ++ x ∷ []) ns) ≡ true → (n : ℕ) × ((if b then Err (fault.TwiceNamed (place.Decl at)) else exceptions_from (taken ++ x ∷ []) ns (next at)) ≡ Ok n)
+    go : (are_new (taken ++ x ∷ []) ns ≡ true → (n : ℕ) × (exceptions_from (taken ++ x ∷ []) ns (next at) ≡ Ok n)) → (b : Bool) → (not b && are_new (taken ++ x ∷ []) ns) ≡ true
+        → (n : ℕ) × ((if b then Err (fault.TwiceNamed (place.Decl at)) else exceptions_from (taken ++ x ∷ []) ns (next at)) ≡ Ok n)
     go ih true e = absurd (cc)
     go ih false e = ih e
 
@@ -78,7 +84,8 @@ unfolding functions_from
 functions_named taken [] at n h = (refl, λ k d e. absurd (cc))
 functions_named taken (d ∷ ds) at n h = go (λ e. functions_named (taken ++ d.name ∷ []) ds (next at) n e) (is_prim d.name) (has_name taken d.name) (are_new [] (param_names d.params)) refl h
   where
-    go : (functions_from (taken ++ d.name ∷ []) ds (next at) ≡ Ok n → (are_callable (taken ++ d.name ∷ []) (map (λ d. d.name) ds) ≡ true) × OwnParams ds) → (p b q : Bool) → are_new [] (param_names d.params) ≡ q → (if p || b || not q then Err (fault.TwiceNamed (place.Decl at)) else functions_from (taken ++ d.name ∷ []) ds (next at)) ≡ Ok n
+    go : (functions_from (taken ++ d.name ∷ []) ds (next at) ≡ Ok n → (are_callable (taken ++ d.name ∷ []) (map (λ d. d.name) ds) ≡ true) × OwnParams ds) → (p b q : Bool)
+        → are_new [] (param_names d.params) ≡ q → (if p || b || not q then Err (fault.TwiceNamed (place.Decl at)) else functions_from (taken ++ d.name ∷ []) ds (next at)) ≡ Ok n
         → ((not p && not b && are_callable (taken ++ d.name ∷ []) (map (λ d. d.name) ds)) ≡ true) × OwnParams (d ∷ ds)
     go ih true b q w e = absurd (cc)
     go ih false true q w e = absurd (cc)
@@ -90,7 +97,9 @@ unfolding functions_from
 functions_reach taken [] at h hs = (at, refl)
 functions_reach taken (d ∷ ds) at h hs = go (λ e. functions_reach (taken ++ d.name ∷ []) ds (next at) e (λ k g f. hs (suc k) g f)) (is_prim d.name) (has_name taken d.name) (are_new [] (param_names d.params)) (hs 0 d refl) h
   where
-    go : (are_callable (taken ++ d.name ∷ []) (map (λ d. d.name) ds) ≡ true → (n : ℕ) × (functions_from (taken ++ d.name ∷ []) ds (next at) ≡ Ok n)) → (p b q : Bool) → q ≡ true → (not p && not b && are_callable (taken ++ d.name ∷ []) (map (λ d. d.name) ds)) ≡ true → (n : ℕ) × ((if p || b || not q then Err (fault.TwiceNamed (place.Decl at)) else functions_from (taken ++ d.name ∷ []) ds (next at)) ≡ Ok n)
+    go : (are_callable (taken ++ d.name ∷ []) (map (λ d. d.name) ds) ≡ true → (n : ℕ) × (functions_from (taken ++ d.name ∷ []) ds (next at) ≡ Ok n)) → (p b q : Bool) → q ≡ true
+        → (not p && not b && are_callable (taken ++ d.name ∷ []) (map (λ d. d.name) ds)) ≡ true
+        → (n : ℕ) × ((if p || b || not q then Err (fault.TwiceNamed (place.Decl at)) else functions_from (taken ++ d.name ∷ []) ds (next at)) ≡ Ok n)
     go ih true b q w e = absurd (cc)
     go ih false true q w e = absurd (cc)
     go ih false false false w e = absurd (cc)
@@ -100,7 +109,8 @@ callable-append : (taken xs ys : List Name) → are_callable taken (xs ++ ys) �
 callable-append taken [] ys = rw append-nil refl
 callable-append taken (x ∷ xs) ys = go (callable-append (taken ++ x ∷ []) xs ys ∙ ap (λ t. are_callable (taken ++ x ∷ []) xs && are_callable t ys) (append_assoc taken (x ∷ []) xs)) (not (is_prim x) && not (has_name taken x))
   where
-    go : are_callable (taken ++ x ∷ []) (xs ++ ys) ≡ (are_callable (taken ++ x ∷ []) xs && are_callable (taken ++ x ∷ xs) ys) → (b : Bool) → (b && are_callable (taken ++ x ∷ []) (xs ++ ys)) ≡ ((b && are_callable (taken ++ x ∷ []) xs) && are_callable (taken ++ x ∷ xs) ys)
+    go : are_callable (taken ++ x ∷ []) (xs ++ ys) ≡ (are_callable (taken ++ x ∷ []) xs && are_callable (taken ++ x ∷ xs) ys) → (b : Bool)
+        → (b && are_callable (taken ++ x ∷ []) (xs ++ ys)) ≡ ((b && are_callable (taken ++ x ∷ []) xs) && are_callable (taken ++ x ∷ xs) ys)
     go tail true = tail
     go tail false = refl
 
@@ -150,17 +160,22 @@ module _ (code : Program) where
   unfolding bodies_from
   bodies_right [] done = pure_yields (BodiesRight done []) done ([], sym (append-nil done), no_bodies)
   bodies_right (d ∷ ds) done =
-      then_yields (Right code (length done) d.params (Some d.result) d.body) (BodiesRight done (d ∷ ds)) (checked_expression code 64 (length done) d.params (Some d.result) d.body) (λ r. bodies_from code (done ++ record d { body = r.0 } ∷ []) ds)
+      then_yields (Right code (length done) d.params (Some d.result) d.body) (BodiesRight done (d ∷ ds))
+      (checked_expression code 64 (length done) d.params (Some d.result) d.body) (λ r. bodies_from code (done ++ record d { body = r.0 } ∷ []) ds)
       (checked_right code 64 (length done) d.params (Some d.result) d.body)
       (λ r h n. map_holds code 0 (BodiesRight (done ++ record d { body = r.0 } ∷ []) ds) (BodiesRight done (d ∷ ds))
       (λ a p. (
         record d { body = r.0 } ∷ p.0,
         p.1 ∙ append_assoc done (record d { body = r.0 } ∷ []) p.0,
-        and_body (record { body = subst (λ u. Becomes code (length done) d.params (Some d.result) d.body r.0 u) (sym (becomes_suits h)) h; rest = refl }) (subst (λ i. BodiesFill code i ds p.0) (length-append done (record d { body = r.0 } ∷ [])) p.2),
+        and_body (record {
+          body = subst (λ u. Becomes code (length done) d.params (Some d.result) d.body r.0 u) (sym (becomes_suits h)) h;
+          rest = refl;
+        }) (subst (λ i. BodiesFill code i ds p.0) (length-append done (record d { body = r.0 } ∷ [])) p.2),
       ))
       (bodies_from code (done ++ record d { body = r.0 } ∷ []) ds n) (bodies_right ds (done ++ record d { body = r.0 } ∷ []) n))
 
-  bodies_reach : {k : ℕ} {ds gs : List Fun} → BodiesFill code k ds gs → ((i : ℕ) (d : Fun) → slice_get ds i ≡ Some d → expr_depth d.body ≤ 64) → (done : List Fun) → length done ≡ k → (n : ℕ) → Reaches (bodies_from code done ds) (done ++ gs) n
+  bodies_reach : {k : ℕ} {ds gs : List Fun} → BodiesFill code k ds gs → ((i : ℕ) (d : Fun) → slice_get ds i ≡ Some d → expr_depth d.body ≤ 64) → (done : List Fun) → length done ≡ k → (n : ℕ)
+      → Reaches (bodies_from code done ds) (done ++ gs) n
   unfolding bodies_from
   bodies_reach no_bodies w done q n = (n, rw append-nil refl)
   bodies_reach {k = k} (and_body {d = d} {g = g} {ds = ds} {gs = gs} b bs) w done q n =

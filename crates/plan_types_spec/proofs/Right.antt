@@ -107,14 +107,17 @@ module _ (code : Program) (seen : ℕ) where
 
   pub shallow_right : (at : ℕ) (c : Ctx) (want : Option Ty) (d e : Expr) (t : Ty) → (IsShallow t → Suits want t → Becomes code seen c want d e t) → Yields (Right c want d) (shallow at want e t)
   unfolding shallow
-  shallow_right at c want d e t h = if_yields (Right c want d) (nat_le (type_depth t) 8) (settled_type at want e t) (refuse (fault.TypeTooDeep (place.Node at))) (λ p. settled_right at c want d e t (h (leb-true (type_depth t) 8 p))) (λ p n. tt)
+  shallow_right at c want d e t h =
+      if_yields (Right c want d) (nat_le (type_depth t) 8) (settled_type at want e t) (refuse (fault.TypeTooDeep (place.Node at))) (λ p.
+      settled_right at c want d e t (h (leb-true (type_depth t) 8 p))) (λ p n. tt)
 
   pub map_holds : {A : Type 0} (Q R : A → Type 0) → ((a : A) → Q a → R a) → (r : Result (A × ℕ) TypeFault) → Holds Q r → Holds R r
   map_holds Q R f (Ok r) h = f r.0 h
   map_holds Q R f (Err e) h = tt
 
   -- what one argument of any list type becomes
-  one_item : (c : Ctx) (want : Option Ty) (d : Expr) (f : Name) (p : Primitive) (ds es : List Expr) (ts : List Ty) (t : Ty) → out-Expr d ≡ Expr-F.Call f ds → prim_of f ≡ Some p → PartsBecome code seen c None 0 ds es ts → given_of p ts ≡ Some t → Suits want t → Becomes code seen c want d (x.Call f es) t
+  one_item : (c : Ctx) (want : Option Ty) (d : Expr) (f : Name) (p : Primitive) (ds es : List Expr) (ts : List Ty) (t : Ty) → out-Expr d ≡ Expr-F.Call f ds → prim_of f ≡ Some p
+      → PartsBecome code seen c None 0 ds es ts → given_of p ts ≡ Some t → Suits want t → Becomes code seen c want d (x.Call f es) t
   one_item c want d f p ds es ts t o q P.no_parts g s = absurd (cc)
   one_item c want d f p ds es ts t o q (P.and_part {d = a} {e = e} {t = u} b P.no_parts) g s =
       let w = given_list p u t g in
@@ -179,7 +182,9 @@ module _ (code : Program) (seen : ℕ) where
         (λ r h n. let e = eqb-true (length ds) (length ws) p in subst (λ ts. PartsBecome code seen c (Some ws) 0 ds r.0 ts) (parts_wanted ws h (omega arith)) h))
         (λ p n. tt)
 
-    applied_right : (c : Ctx) (at : ℕ) (want : Option Ty) (d : Expr) (f : Name) (ds : List Expr) (ws : List Ty) (t : Ty) → ((es : List Expr) → PartsBecome code seen c (Some ws) 0 ds es ws → Suits want t → Becomes code seen c want d (x.Call f es) t) → Yields (Right c want d) (order.applied_call code seen run c at want f ds ws t)
+    applied_right : (c : Ctx) (at : ℕ) (want : Option Ty) (d : Expr) (f : Name) (ds : List Expr) (ws : List Ty) (t : Ty)
+        → ((es : List Expr) → PartsBecome code seen c (Some ws) 0 ds es ws → Suits want t → Becomes code seen c want d (x.Call f es) t)
+        → Yields (Right c want d) (order.applied_call code seen run c at want f ds ws t)
     unfolding order.applied_call
     applied_right c at want d f ds ws t h =
         then_yields (λ es. PartsBecome code seen c (Some ws) 0 ds es ws) (Right c want d) (order.arguments code seen run c at ws ds) (λ given. settled_type at want (x.Call f given) t) (arguments_right c at ws ds)
@@ -207,13 +212,18 @@ module _ (code : Program) (seen : ℕ) where
     of_items_right : (c : Ctx) (at : ℕ) (want : Option Ty) (d : Expr) (f : Name) (p : Primitive) (ds : List Expr) → out-Expr d ≡ Expr-F.Call f ds → prim_of f ≡ Some p → Yields (Right c want d) (order.of_items code seen run c at want f p ds)
     unfolding order.of_items
     of_items_right c at want d f p ds o q =
-        if_yields (Right c want d) (length ds == 1) (order.parts code seen run c None ds >>= (λ r. or_refuse (given_of p r.1) (fault.WrongShape (place.Node at)) >>= (λ t. settled_type at want (x.Call f r.0) t))) (refuse (fault.Arity (place.Node at)))
-        (λ w. then_yields (AllRight c None ds) (Right c want d) (order.parts code seen run c None ds) (λ r. or_refuse (given_of p r.1) (fault.WrongShape (place.Node at)) >>= (λ t. settled_type at want (x.Call f r.0) t)) (all_right ds c None)
+        if_yields (Right c want d) (length ds == 1)
+        (order.parts code seen run c None ds >>=
+        (λ r. or_refuse (given_of p r.1) (fault.WrongShape (place.Node at)) >>= (λ t. settled_type at want (x.Call f r.0) t))) (refuse (fault.Arity (place.Node at)))
+        (λ w.
+        then_yields (AllRight c None ds) (Right c want d) (order.parts code seen run c None ds) (λ r.
+        or_refuse (given_of p r.1) (fault.WrongShape (place.Node at)) >>= (λ t. settled_type at want (x.Call f r.0) t)) (all_right ds c None)
         (λ r h. known_yields (Right c want d) (given_of p r.1) (fault.WrongShape (place.Node at)) (λ t. settled_type at want (x.Call f r.0) t)
         (λ t g. settled_right at c want d (x.Call f r.0) t (λ s. one_item c want d f p ds r.0 r.1 t o q h g s))))
         (λ w n. tt)
 
-    primitive_right : (c : Ctx) (at : ℕ) (want : Option Ty) (d : Expr) (f : Name) (p : Primitive) (ds : List Expr) → out-Expr d ≡ Expr-F.Call f ds → prim_of f ≡ Some p → Yields (Right c want d) (order.primitive code seen run c at want f p ds)
+    primitive_right : (c : Ctx) (at : ℕ) (want : Option Ty) (d : Expr) (f : Name) (p : Primitive) (ds : List Expr) → out-Expr d ≡ Expr-F.Call f ds → prim_of f ≡ Some p
+        → Yields (Right c want d) (order.primitive code seen run c at want f p ds)
     unfolding order.primitive
     primitive_right c at want d f p ds o q = go (takes p) refl
       where
@@ -221,7 +231,8 @@ module _ (code : Program) (seen : ℕ) where
         go (Some ts) e = applied_right c at want d f ds ts (makes p) (λ es b s. B.primitive f ds es p ts o q e b refl refl s)
         go None e = of_items_right c at want d f p ds o q
 
-    function_right : (c : Ctx) (at : ℕ) (want : Option Ty) (d : Expr) (f : Name) (ds : List Expr) → out-Expr d ≡ Expr-F.Call f ds → prim_of f ≡ None → service_of f code.svcs ≡ None → Yields (Right c want d) (order.function code seen run c at want f ds)
+    function_right : (c : Ctx) (at : ℕ) (want : Option Ty) (d : Expr) (f : Name) (ds : List Expr) → out-Expr d ≡ Expr-F.Call f ds → prim_of f ≡ None → service_of f code.svcs ≡ None
+        → Yields (Right c want d) (order.function code seen run c at want f ds)
     unfolding order.function
     function_right c at want d f ds o q v =
         known_yields (Right c want d) (earlier code seen f) (not_earlier code f at) (λ g. order.applied_call code seen run c at want f ds (param_types g.params) g.result)
@@ -242,7 +253,8 @@ module _ (code : Program) (seen : ℕ) where
     choice_right : (c : Ctx) (want : Option Ty) (d a b k : Expr) → out-Expr d ≡ Expr-F.If a b k → Yields (Right c want d) (order.choice code seen run c want a b k)
     unfolding order.choice
     choice_right c want d a b k o =
-        then_yields (λ e. Becomes code seen c (Some ty.Bool) a e ty.Bool) (Right c want d) (order.wanting code seen run c ty.Bool a) (λ test. run c want b >>= (λ r. order.wanting code seen run c r.1 k >>= (λ other. pure (x.If test r.0 other, r.1)))) (wanting_right c ty.Bool a)
+        then_yields (λ e. Becomes code seen c (Some ty.Bool) a e ty.Bool) (Right c want d) (order.wanting code seen run c ty.Bool a) (λ test.
+        run c want b >>= (λ r. order.wanting code seen run c r.1 k >>= (λ other. pure (x.If test r.0 other, r.1)))) (wanting_right c ty.Bool a)
         (λ test p. then_yields (Right c want b) (Right c want d) (run c want b) (λ r. order.wanting code seen run c r.1 k >>= (λ other. pure (x.If test r.0 other, r.1))) (ok c want b)
         (λ r q. then_yields (λ e. Becomes code seen c (Some r.1) k e r.1) (Right c want d) (order.wanting code seen run c r.1 k) (λ other. pure (x.If test r.0 other, r.1)) (wanting_right c r.1 k)
         (λ other s n. B.choice a b k test r.0 other o p q s refl)))
@@ -299,7 +311,8 @@ module _ (code : Program) (seen : ℕ) where
     join_right : (c : Ctx) (at : ℕ) (want : Option Ty) (d : Expr) (v : Op) (a b : Expr) → out-Expr d ≡ Expr-F.Binary v a b → kind_of v ≡ joining → Yields (Right c want d) (order.join code seen run c at want v a b)
     unfolding order.join
     join_right c at want d v a b o g =
-        then_yields (Right c None a) (Right c want d) (run c None a) (λ r. if is_joined r.1 then order.wanting code seen run c r.1 b >>= (λ q. settled_type at want (x.Binary v r.0 q) r.1) else refuse (fault.WrongShape (place.Node at))) (ok c None a)
+        then_yields (Right c None a) (Right c want d) (run c None a) (λ r.
+        if is_joined r.1 then order.wanting code seen run c r.1 b >>= (λ q. settled_type at want (x.Binary v r.0 q) r.1) else refuse (fault.WrongShape (place.Node at))) (ok c None a)
         (λ r h. if_yields (Right c want d) (is_joined r.1) (order.wanting code seen run c r.1 b >>= (λ q. settled_type at want (x.Binary v r.0 q) r.1)) (refuse (fault.WrongShape (place.Node at)))
         (λ j. second_right c at want d b r.1 r.1 (λ q. x.Binary v r.0 q) (λ q k s. B.join v a b r.0 q o g h j k refl s)) (λ j n. tt))
 
@@ -312,15 +325,20 @@ module _ (code : Program) (seen : ℕ) where
     order_right : (c : Ctx) (at : ℕ) (want : Option Ty) (d : Expr) (v : Op) (a b : Expr) → out-Expr d ≡ Expr-F.Binary v a b → kind_of v ≡ ordering → Yields (Right c want d) (order.order code seen run c at want v a b)
     unfolding order.order
     order_right c at want d v a b o g =
-        then_yields (Right c None a) (Right c want d) (run c None a) (λ r. if is_ordered r.1 then order.wanting code seen run c r.1 b >>= (λ q. settled_type at want (x.Binary v r.0 q) ty.Bool) else refuse (fault.WrongShape (place.Node at))) (ok c None a)
+        then_yields (Right c None a) (Right c want d) (run c None a) (λ r.
+        if is_ordered r.1 then order.wanting code seen run c r.1 b >>= (λ q. settled_type at want (x.Binary v r.0 q) ty.Bool) else refuse (fault.WrongShape (place.Node at))) (ok c None a)
         (λ r h. if_yields (Right c want d) (is_ordered r.1) (order.wanting code seen run c r.1 b >>= (λ q. settled_type at want (x.Binary v r.0 q) ty.Bool)) (refuse (fault.WrongShape (place.Node at)))
         (λ j. second_right c at want d b r.1 ty.Bool (λ q. x.Binary v r.0 q) (λ q k s. B.order v a b r.0 q r.1 o g h j k refl refl s)) (λ j n. tt))
 
     prefix_right : (c : Ctx) (at : ℕ) (want : Option Ty) (d : Expr) (v : Op) (a b : Expr) → out-Expr d ≡ Expr-F.Binary v a b → kind_of v ≡ listing → Yields (Right c want d) (order.prefix code seen run c at want v a b)
     unfolding order.prefix
     prefix_right c at want d v a b o g =
-        then_yields (Right c (option_and_then items_of want) a) (Right c want d) (run c (option_and_then items_of want) a) (λ r. order.wanting code seen run c (ty.List r.1) b >>= (λ q. shallow at want (x.Binary v r.0 q) (ty.List r.1))) (ok c (option_and_then items_of want) a)
-        (λ r h. then_yields (λ e. Becomes code seen c (Some (ty.List r.1)) b e (ty.List r.1)) (Right c want d) (order.wanting code seen run c (ty.List r.1) b) (λ q. shallow at want (x.Binary v r.0 q) (ty.List r.1)) (wanting_right c (ty.List r.1) b)
+        then_yields (Right c (option_and_then items_of want) a) (Right c want d) (run c (option_and_then items_of want) a) (λ r.
+        order.wanting code seen run c (ty.List r.1) b >>= (λ q. shallow at want (x.Binary v r.0 q) (ty.List r.1))) (ok c (option_and_then items_of want) a)
+        (λ r h.
+        then_yields (λ e.
+        Becomes code seen c (Some (ty.List r.1)) b e (ty.List r.1)) (Right c want d) (order.wanting code seen run c (ty.List r.1) b) (λ q. shallow at want (x.Binary v r.0 q)
+        (ty.List r.1)) (wanting_right c (ty.List r.1) b)
         (λ q k. shallow_right at c want d (x.Binary v r.0 q) (ty.List r.1) (λ w s. B.prefix v a b r.0 q r.1 o g h k refl w refl s)))
 
     operation_right : (c : Ctx) (at : ℕ) (want : Option Ty) (d : Expr) (v : Op) (a b : Expr) → out-Expr d ≡ Expr-F.Binary v a b → Yields (Right c want d) (order.operation code seen run c at want v a b)
@@ -360,7 +378,8 @@ module _ (code : Program) (seen : ℕ) where
     clauses_right [] done c t h = pure_yields (ClausesRight c t done []) done ([], sym (append-nil done), C.no_clauses)
     clauses_right (k ∷ ks) done c t h =
         let w = known_first k ks h in
-        then_yields (λ e. Becomes code seen c (Some t) k.body e t) (ClausesRight c t done (k ∷ ks)) (order.wanting code seen run c t k.body) (λ b. order.clauses_from code seen run (done ++ record { name = k.name; body = b } ∷ []) c t ks) (wanting_right c t k.body)
+        then_yields (λ e. Becomes code seen c (Some t) k.body e t) (ClausesRight c t done (k ∷ ks)) (order.wanting code seen run c t k.body) (λ b.
+        order.clauses_from code seen run (done ++ record { name = k.name; body = b } ∷ []) c t ks) (wanting_right c t k.body)
         (λ b p n. map_holds (ClausesRight c t (done ++ record { name = k.name; body = b } ∷ []) ks) (ClausesRight c t done (k ∷ ks))
         (λ a q. (record { name = k.name; body = b } ∷ q.0, q.1 ∙ append_assoc done (record { name = k.name; body = b } ∷ []) q.0, C.and_clause w.0 p refl q.2))
         (order.clauses_from code seen run (done ++ record { name = k.name; body = b } ∷ []) c t ks n)
@@ -369,7 +388,8 @@ module _ (code : Program) (seen : ℕ) where
     handling_right : (c : Ctx) (at : ℕ) (want : Option Ty) (d a : Expr) (ks : List Clause) → out-Expr d ≡ Expr-F.Try a ks → Yields (Right c want d) (order.handling code seen run c at want a ks)
     unfolding order.handling
     handling_right c at want d a ks o =
-        if_yields (Right c want d) (list_any (λ k. not (may_catch code k.name)) ks) (refuse (fault.UnknownName (place.Node at))) (run c want a >>= (λ r. order.clauses_from code seen run [] c r.1 ks >>= (λ handlers. pure (x.Try r.0 handlers, r.1))))
+        if_yields (Right c want d) (list_any (λ k. not (may_catch code k.name)) ks) (refuse (fault.UnknownName (place.Node at)))
+        (run c want a >>= (λ r. order.clauses_from code seen run [] c r.1 ks >>= (λ handlers. pure (x.Try r.0 handlers, r.1))))
         (λ h n. tt)
         (λ h. then_yields (Right c want a) (Right c want d) (run c want a) (λ r. order.clauses_from code seen run [] c r.1 ks >>= (λ handlers. pure (x.Try r.0 handlers, r.1))) (ok c want a)
         (λ r p. then_yields (ClausesRight c r.1 [] ks) (Right c want d) (order.clauses_from code seen run [] c r.1 ks) (λ handlers. pure (x.Try r.0 handlers, r.1)) (clauses_right ks [] c r.1 h)
@@ -388,18 +408,36 @@ module _ (code : Program) (seen : ℕ) where
     fold_left_right : (c : Ctx) (at : ℕ) (want : Option Ty) (d : Expr) (f : Name) (a l : Expr) → out-Expr d ≡ Expr-F.Foldl f a l → Yields (Right c want d) (order.fold_left code seen run c at want f a l)
     unfolding order.fold_left
     fold_left_right c at want d f a l o =
-        then_yields (FoldRight f) (Right c want d) (order.folding code seen run at f) (λ g. order.wanting code seen run c g.0 a >>= (λ start. order.wanting code seen run c (ty.List g.1) l >>= (λ items. if same_type g.2 g.0 then settled_type at want (x.Foldl f start items) g.0 else refuse (fault.WrongShape (place.Node at))))) (folding_right at f)
-        (λ g w. then_yields (λ e. Becomes code seen c (Some g.0) a e g.0) (Right c want d) (order.wanting code seen run c g.0 a) (λ start. order.wanting code seen run c (ty.List g.1) l >>= (λ items. if same_type g.2 g.0 then settled_type at want (x.Foldl f start items) g.0 else refuse (fault.WrongShape (place.Node at)))) (wanting_right c g.0 a)
-        (λ start p. then_yields (λ e. Becomes code seen c (Some (ty.List g.1)) l e (ty.List g.1)) (Right c want d) (order.wanting code seen run c (ty.List g.1) l) (λ items. if same_type g.2 g.0 then settled_type at want (x.Foldl f start items) g.0 else refuse (fault.WrongShape (place.Node at))) (wanting_right c (ty.List g.1) l)
+        then_yields (FoldRight f) (Right c want d) (order.folding code seen run at f) (λ g.
+        order.wanting code seen run c g.0 a
+        >>= (λ start.
+        order.wanting code seen run c (ty.List g.1) l
+        >>= (λ items. if same_type g.2 g.0 then settled_type at want (x.Foldl f start items) g.0 else refuse (fault.WrongShape (place.Node at))))) (folding_right at f)
+        (λ g w.
+        then_yields (λ e. Becomes code seen c (Some g.0) a e g.0) (Right c want d) (order.wanting code seen run c g.0 a) (λ start.
+        order.wanting code seen run c (ty.List g.1) l
+        >>= (λ items. if same_type g.2 g.0 then settled_type at want (x.Foldl f start items) g.0 else refuse (fault.WrongShape (place.Node at)))) (wanting_right c g.0 a)
+        (λ start p.
+        then_yields (λ e. Becomes code seen c (Some (ty.List g.1)) l e (ty.List g.1)) (Right c want d) (order.wanting code seen run c (ty.List g.1) l) (λ items.
+        if same_type g.2 g.0 then settled_type at want (x.Foldl f start items) g.0 else refuse (fault.WrongShape (place.Node at))) (wanting_right c (ty.List g.1) l)
         (λ items q. if_yields (Right c want d) (same_type g.2 g.0) (settled_type at want (x.Foldl f start items) g.0) (refuse (fault.WrongShape (place.Node at)))
         (λ e. settled_right at c want d (x.Foldl f start items) g.0 (λ s. B.fold_left f a l start items w.0 g.1 o w.1 w.2 (w.3 ∙ same_type_true g.2 g.0 e) p q refl s)) (λ e n. tt))))
 
     fold_right_right : (c : Ctx) (at : ℕ) (want : Option Ty) (d : Expr) (f : Name) (a l : Expr) → out-Expr d ≡ Expr-F.Foldr f a l → Yields (Right c want d) (order.fold_right code seen run c at want f a l)
     unfolding order.fold_right
     fold_right_right c at want d f a l o =
-        then_yields (FoldRight f) (Right c want d) (order.folding code seen run at f) (λ g. order.wanting code seen run c g.1 a >>= (λ start. order.wanting code seen run c (ty.List g.0) l >>= (λ items. if same_type g.2 g.1 then settled_type at want (x.Foldr f start items) g.1 else refuse (fault.WrongShape (place.Node at))))) (folding_right at f)
-        (λ g w. then_yields (λ e. Becomes code seen c (Some g.1) a e g.1) (Right c want d) (order.wanting code seen run c g.1 a) (λ start. order.wanting code seen run c (ty.List g.0) l >>= (λ items. if same_type g.2 g.1 then settled_type at want (x.Foldr f start items) g.1 else refuse (fault.WrongShape (place.Node at)))) (wanting_right c g.1 a)
-        (λ start p. then_yields (λ e. Becomes code seen c (Some (ty.List g.0)) l e (ty.List g.0)) (Right c want d) (order.wanting code seen run c (ty.List g.0) l) (λ items. if same_type g.2 g.1 then settled_type at want (x.Foldr f start items) g.1 else refuse (fault.WrongShape (place.Node at))) (wanting_right c (ty.List g.0) l)
+        then_yields (FoldRight f) (Right c want d) (order.folding code seen run at f) (λ g.
+        order.wanting code seen run c g.1 a
+        >>= (λ start.
+        order.wanting code seen run c (ty.List g.0) l
+        >>= (λ items. if same_type g.2 g.1 then settled_type at want (x.Foldr f start items) g.1 else refuse (fault.WrongShape (place.Node at))))) (folding_right at f)
+        (λ g w.
+        then_yields (λ e. Becomes code seen c (Some g.1) a e g.1) (Right c want d) (order.wanting code seen run c g.1 a) (λ start.
+        order.wanting code seen run c (ty.List g.0) l
+        >>= (λ items. if same_type g.2 g.1 then settled_type at want (x.Foldr f start items) g.1 else refuse (fault.WrongShape (place.Node at)))) (wanting_right c g.1 a)
+        (λ start p.
+        then_yields (λ e. Becomes code seen c (Some (ty.List g.0)) l e (ty.List g.0)) (Right c want d) (order.wanting code seen run c (ty.List g.0) l) (λ items.
+        if same_type g.2 g.1 then settled_type at want (x.Foldr f start items) g.1 else refuse (fault.WrongShape (place.Node at))) (wanting_right c (ty.List g.0) l)
         (λ items q. if_yields (Right c want d) (same_type g.2 g.1) (settled_type at want (x.Foldr f start items) g.1) (refuse (fault.WrongShape (place.Node at)))
         (λ e. settled_right at c want d (x.Foldr f start items) g.1 (λ s. B.fold_right f a l start items w.0 g.0 o w.1 w.2 (w.3 ∙ same_type_true g.2 g.1 e) p q refl s)) (λ e n. tt))))
 
@@ -407,7 +445,10 @@ module _ (code : Program) (seen : ℕ) where
     unfolding order.packing
     packing_right c at want d f ds o =
         known_yields (Right c want d) (fun_of code f) (fault.UnknownName (place.Node at)) (λ g. order.arguments code seen run c at (param_types g.params) ds >>= (λ given. settled_type at want (x.ChunkOf f given) ty.Chunk))
-        (λ g e. then_yields (λ es. PartsBecome code seen c (Some (param_types g.params)) 0 ds es (param_types g.params)) (Right c want d) (order.arguments code seen run c at (param_types g.params) ds) (λ given. settled_type at want (x.ChunkOf f given) ty.Chunk) (arguments_right c at (param_types g.params) ds)
+        (λ g e.
+        then_yields (λ es.
+        PartsBecome code seen c (Some (param_types g.params)) 0 ds es (param_types g.params)) (Right c want d) (order.arguments code seen run c at (param_types g.params) ds) (λ given. settled_type
+        at want (x.ChunkOf f given) ty.Chunk) (arguments_right c at (param_types g.params) ds)
         (λ es b. settled_right at c want d (x.ChunkOf f es) ty.Chunk (λ s. B.packing f ds es g o e b refl refl s)))
 
     evaluation_right : (c : Ctx) (at : ℕ) (want : Option Ty) (d a : Expr) → out-Expr d ≡ Expr-F.Eval a → Yields (Right c want d) (order.evaluation code seen run c at want a)
@@ -419,14 +460,20 @@ module _ (code : Program) (seen : ℕ) where
     remote_right : (c : Ctx) (at : ℕ) (want : Option Ty) (d a h n : Expr) (r : Name) → out-Expr d ≡ Expr-F.OnRemote a h n r → Yields (Right c want d) (order.remote code seen run c at want a h n r)
     unfolding order.remote
     remote_right c at want d a h n r o =
-        then_yields (λ e. Becomes code seen c (Some ty.Chunk) a e ty.Chunk) (Right c want d) (order.wanting code seen run c ty.Chunk a) (λ p. order.wanting code seen run c ty.Host h >>= (λ q. order.wanting code seen run c ty.Int n >>= (λ s. settled_type at want (x.OnRemote p q s r) ty.Unit))) (wanting_right c ty.Chunk a)
+        then_yields (λ e. Becomes code seen c (Some ty.Chunk) a e ty.Chunk) (Right c want d) (order.wanting code seen run c ty.Chunk a) (λ p.
+        order.wanting code seen run c ty.Host h >>= (λ q. order.wanting code seen run c ty.Int n >>= (λ s. settled_type at want (x.OnRemote p q s r) ty.Unit))) (wanting_right c ty.Chunk a)
         (λ p i. two_right c at want d h n ty.Host ty.Int ty.Unit (λ q s. x.OnRemote p q s r) (λ q s j k w. B.remote a h n p q s r o i j k refl refl w))
 
     neighbour_right : (c : Ctx) (at : ℕ) (want : Option Ty) (d a h n v : Expr) → out-Expr d ≡ Expr-F.OnNeighbor a h n v → Yields (Right c want d) (order.neighbour code seen run c at want a h n v)
     unfolding order.neighbour
     neighbour_right c at want d a h n v o =
-        then_yields (λ e. Becomes code seen c (Some ty.Chunk) a e ty.Chunk) (Right c want d) (order.wanting code seen run c ty.Chunk a) (λ p. order.wanting code seen run c ty.Host h >>= (λ q. order.wanting code seen run c ty.Int n >>= (λ s. order.wanting code seen run c ty.Dev v >>= (λ u. settled_type at want (x.OnNeighbor p q s u) ty.Unit)))) (wanting_right c ty.Chunk a)
-        (λ p i. then_yields (λ e. Becomes code seen c (Some ty.Host) h e ty.Host) (Right c want d) (order.wanting code seen run c ty.Host h) (λ q. order.wanting code seen run c ty.Int n >>= (λ s. order.wanting code seen run c ty.Dev v >>= (λ u. settled_type at want (x.OnNeighbor p q s u) ty.Unit))) (wanting_right c ty.Host h)
+        then_yields (λ e. Becomes code seen c (Some ty.Chunk) a e ty.Chunk) (Right c want d) (order.wanting code seen run c ty.Chunk a) (λ p.
+        order.wanting code seen run c ty.Host h
+        >>= (λ q.
+        order.wanting code seen run c ty.Int n >>= (λ s. order.wanting code seen run c ty.Dev v >>= (λ u. settled_type at want (x.OnNeighbor p q s u) ty.Unit)))) (wanting_right c ty.Chunk a)
+        (λ p i.
+        then_yields (λ e. Becomes code seen c (Some ty.Host) h e ty.Host) (Right c want d) (order.wanting code seen run c ty.Host h) (λ q.
+        order.wanting code seen run c ty.Int n >>= (λ s. order.wanting code seen run c ty.Dev v >>= (λ u. settled_type at want (x.OnNeighbor p q s u) ty.Unit))) (wanting_right c ty.Host h)
         (λ q j. two_right c at want d n v ty.Int ty.Dev ty.Unit (λ s u. x.OnNeighbor p q s u) (λ s u k m w. B.neighbour a h n v p q s u o i j k m refl refl w)))
 
     opened_right : (c : Ctx) (at : ℕ) (want : Option Ty) (d : Expr) (l : ExprLayer) → out-Expr d ≡ l → Yields (Right c want d) (order.opened_form code seen run c at want d l)

@@ -19,7 +19,9 @@ use Rattle.plan_base.specs.declared.tree.Value.{Value, Value-F, out-Value}
 use Rattle.plan_base.specs.declared.tree.Chunk.{Chunk}
 use Rattle.plan_base.specs.Trees.{ExprLayer}
 use Rattle.plan_base.specs.Sizes.{type_depth, code_size, weight, nesting, chunk_weight, chunk_nesting}
-use Rattle.plan_types_spec.specs.TypingNames.{place_of, service_of, binds, binding, param_types, prim_of, of_list, takes, makes, built_in, is_exception, may_catch, arithmetic, joining, equality, ordering, listing, kind_of, is_joined, is_ordered, part_of, are_new, are_callable}
+use Rattle.plan_types_spec.specs.TypingNames.{place_of, service_of, binds, binding, param_types, prim_of, of_list, takes, makes, built_in}
+use Rattle.plan_types_spec.specs.TypingNames.{is_exception, may_catch, arithmetic, joining, equality, ordering, listing, kind_of, is_joined}
+use Rattle.plan_types_spec.specs.TypingNames.{is_ordered, part_of, are_new, are_callable}
 
 -- the parameters and bindings that an expression sees, the innermost last
 abbrev pub Ctx : Type 0
@@ -48,41 +50,71 @@ module _ (code : Program) where
       literal : {seen : ℕ} {c : Ctx} {e : Expr} {t : Ty} → literal_type (out-Expr e) ≡ Some t → HasTy seen c e t
       variable : {seen : ℕ} {c : Ctx} {e : Expr} {t : Ty} (x : Name) → out-Expr e ≡ Expr-F.Var x → binding x c ≡ Some t → HasTy seen c e t
       empty : {seen : ℕ} {c : Ctx} {e : Expr} {t : Ty} (u : Ty) → out-Expr e ≡ Expr-F.Nil (Some u) → t ≡ ty.List u → IsShallow t → HasTy seen c e t
-      raising : {seen : ℕ} {c : Ctx} {e : Expr} {t : Ty} (x : Name) → out-Expr e ≡ Expr-F.Raise x (Some t) → is_exception code x ≡ true → IsShallow t → HasTy seen c e t
-      tuple : {seen : ℕ} {c : Ctx} {e : Expr} {t : Ty} (es : List Expr) (ts : List Ty) → out-Expr e ≡ Expr-F.Tuple es → HaveTys seen c es ts → t ≡ ty.Tuple ts → IsShallow t → HasTy seen c e t
-      part : {seen : ℕ} {c : Ctx} {e : Expr} {t : Ty} (i : ℕ) (a : Expr) (ts : List Ty) → out-Expr e ≡ Expr-F.Part i a → HasTy seen c a (ty.Tuple ts) → part_of i ts ≡ Some t → HasTy seen c e t
-      of_items : {seen : ℕ} {c : Ctx} {e : Expr} {t : Ty} (f : Name) (a : Expr) (p : Primitive) (u : Ty) → out-Expr e ≡ Expr-F.Call f (a ∷ []) → prim_of f ≡ Some p → HasTy seen c a (ty.List u) → of_list p u ≡ Some t → HasTy seen c e t
-      primitive : {seen : ℕ} {c : Ctx} {e : Expr} {t : Ty} (f : Name) (es : List Expr) (p : Primitive) (ts : List Ty) → out-Expr e ≡ Expr-F.Call f es → prim_of f ≡ Some p → takes p ≡ Some ts → HaveTys seen c es ts → t ≡ makes p → HasTy seen c e t
-      serving : {seen : ℕ} {c : Ctx} {e : Expr} {t : Ty} (f : Name) (es : List Expr) (d : Svc) → out-Expr e ≡ Expr-F.Call f es → prim_of f ≡ None → service_of f code.svcs ≡ Some d → HaveTys seen c es d.params → t ≡ d.result → HasTy seen c e t
-      call : {seen : ℕ} {c : Ctx} {e : Expr} {t : Ty} (f : Name) (es : List Expr) (at : ℕ) (d : Fun) → out-Expr e ≡ Expr-F.Call f es → prim_of f ≡ None → service_of f code.svcs ≡ None → place_of f (take seen code.funs) ≡ Some at → slice_get code.funs at ≡ Some d → HaveTys seen c es (param_types d.params) → t ≡ d.result → HasTy seen c e t
-      choice : {seen : ℕ} {c : Ctx} {e : Expr} {t : Ty} (a b d : Expr) → out-Expr e ≡ Expr-F.If a b d → HasTy seen c a ty.Bool → HasTy seen c b t → HasTy seen c d t → HasTy seen c e t
-      binder : {seen : ℕ} {c : Ctx} {e : Expr} {t : Ty} (x : Name) (u : Ty) (a b : Expr) → out-Expr e ≡ Expr-F.Let x u a b → HasTy seen c a u → HasTy seen (c ++ binds x u ∷ []) b t → HasTy seen c e t
-      sequence : {seen : ℕ} {c : Ctx} {e : Expr} {t : Ty} (a b : Expr) → out-Expr e ≡ Expr-F.Then a b → HasTy seen c a ty.Unit → HasTy seen c b t → HasTy seen c e t
-      both : {seen : ℕ} {c : Ctx} {e : Expr} {t : Ty} (a b : Expr) → out-Expr e ≡ Expr-F.And a b → HasTy seen c a ty.Bool → HasTy seen c b ty.Bool → t ≡ ty.Bool → HasTy seen c e t
-      either : {seen : ℕ} {c : Ctx} {e : Expr} {t : Ty} (a b : Expr) → out-Expr e ≡ Expr-F.Or a b → HasTy seen c a ty.Bool → HasTy seen c b ty.Bool → t ≡ ty.Bool → HasTy seen c e t
+      raising : {seen : ℕ} {c : Ctx} {e : Expr} {t : Ty} (x : Name) → out-Expr e ≡ Expr-F.Raise x (Some t) → is_exception code x ≡ true
+          → IsShallow t → HasTy seen c e t
+      tuple : {seen : ℕ} {c : Ctx} {e : Expr} {t : Ty} (es : List Expr) (ts : List Ty) → out-Expr e ≡ Expr-F.Tuple es → HaveTys seen c es ts
+          → t ≡ ty.Tuple ts → IsShallow t → HasTy seen c e t
+      part : {seen : ℕ} {c : Ctx} {e : Expr} {t : Ty} (i : ℕ) (a : Expr) (ts : List Ty) → out-Expr e ≡ Expr-F.Part i a
+          → HasTy seen c a (ty.Tuple ts) → part_of i ts ≡ Some t → HasTy seen c e t
+      of_items : {seen : ℕ} {c : Ctx} {e : Expr} {t : Ty} (f : Name) (a : Expr) (p : Primitive) (u : Ty)
+          → out-Expr e ≡ Expr-F.Call f (a ∷ []) → prim_of f ≡ Some p → HasTy seen c a (ty.List u) → of_list p u ≡ Some t → HasTy seen c e t
+      primitive : {seen : ℕ} {c : Ctx} {e : Expr} {t : Ty} (f : Name) (es : List Expr) (p : Primitive) (ts : List Ty)
+          → out-Expr e ≡ Expr-F.Call f es → prim_of f ≡ Some p → takes p ≡ Some ts → HaveTys seen c es ts → t ≡ makes p → HasTy seen c e t
+      serving : {seen : ℕ} {c : Ctx} {e : Expr} {t : Ty} (f : Name) (es : List Expr) (d : Svc) → out-Expr e ≡ Expr-F.Call f es
+          → prim_of f ≡ None → service_of f code.svcs ≡ Some d → HaveTys seen c es d.params → t ≡ d.result → HasTy seen c e t
+      call : {seen : ℕ} {c : Ctx} {e : Expr} {t : Ty} (f : Name) (es : List Expr) (at : ℕ) (d : Fun) → out-Expr e ≡ Expr-F.Call f es
+          → prim_of f ≡ None → service_of f code.svcs ≡ None → place_of f (take seen code.funs) ≡ Some at → slice_get code.funs at ≡ Some d
+          → HaveTys seen c es (param_types d.params) → t ≡ d.result → HasTy seen c e t
+      choice : {seen : ℕ} {c : Ctx} {e : Expr} {t : Ty} (a b d : Expr) → out-Expr e ≡ Expr-F.If a b d → HasTy seen c a ty.Bool
+          → HasTy seen c b t → HasTy seen c d t → HasTy seen c e t
+      binder : {seen : ℕ} {c : Ctx} {e : Expr} {t : Ty} (x : Name) (u : Ty) (a b : Expr) → out-Expr e ≡ Expr-F.Let x u a b
+          → HasTy seen c a u → HasTy seen (c ++ binds x u ∷ []) b t → HasTy seen c e t
+      sequence : {seen : ℕ} {c : Ctx} {e : Expr} {t : Ty} (a b : Expr) → out-Expr e ≡ Expr-F.Then a b → HasTy seen c a ty.Unit
+          → HasTy seen c b t → HasTy seen c e t
+      both : {seen : ℕ} {c : Ctx} {e : Expr} {t : Ty} (a b : Expr) → out-Expr e ≡ Expr-F.And a b → HasTy seen c a ty.Bool
+          → HasTy seen c b ty.Bool → t ≡ ty.Bool → HasTy seen c e t
+      either : {seen : ℕ} {c : Ctx} {e : Expr} {t : Ty} (a b : Expr) → out-Expr e ≡ Expr-F.Or a b → HasTy seen c a ty.Bool
+          → HasTy seen c b ty.Bool → t ≡ ty.Bool → HasTy seen c e t
       negation : {seen : ℕ} {c : Ctx} {e : Expr} {t : Ty} (a : Expr) → out-Expr e ≡ Expr-F.Not a → HasTy seen c a ty.Bool → t ≡ ty.Bool → HasTy seen c e t
-      calculation : {seen : ℕ} {c : Ctx} {e : Expr} {t : Ty} (o : Op) (a b : Expr) → out-Expr e ≡ Expr-F.Binary o a b → kind_of o ≡ arithmetic → HasTy seen c a ty.Int → HasTy seen c b ty.Int → t ≡ ty.Int → HasTy seen c e t
-      join : {seen : ℕ} {c : Ctx} {e : Expr} {t : Ty} (o : Op) (a b : Expr) → out-Expr e ≡ Expr-F.Binary o a b → kind_of o ≡ joining → HasTy seen c a t → is_joined t ≡ true → HasTy seen c b t → HasTy seen c e t
-      comparison : {seen : ℕ} {c : Ctx} {e : Expr} {t : Ty} (o : Op) (a b : Expr) (u : Ty) → out-Expr e ≡ Expr-F.Binary o a b → kind_of o ≡ equality → HasTy seen c a u → HasTy seen c b u → t ≡ ty.Bool → HasTy seen c e t
-      order : {seen : ℕ} {c : Ctx} {e : Expr} {t : Ty} (o : Op) (a b : Expr) (u : Ty) → out-Expr e ≡ Expr-F.Binary o a b → kind_of o ≡ ordering → HasTy seen c a u → is_ordered u ≡ true → HasTy seen c b u → t ≡ ty.Bool → HasTy seen c e t
-      prefix : {seen : ℕ} {c : Ctx} {e : Expr} {t : Ty} (o : Op) (a b : Expr) (u : Ty) → out-Expr e ≡ Expr-F.Binary o a b → kind_of o ≡ listing → HasTy seen c a u → HasTy seen c b (ty.List u) → t ≡ ty.List u → IsShallow t → HasTy seen c e t
-      handling : {seen : ℕ} {c : Ctx} {e : Expr} {t : Ty} (a : Expr) (ks : List Clause) → out-Expr e ≡ Expr-F.Try a ks → HasTy seen c a t → ClausesHaveTy seen c ks t → HasTy seen c e t
-      fold_left : {seen : ℕ} {c : Ctx} {e : Expr} {t : Ty} (f : Name) (a l : Expr) (at : ℕ) (d : Fun) (u : Ty) → out-Expr e ≡ Expr-F.Foldl f a l → place_of f (take seen code.funs) ≡ Some at → slice_get code.funs at ≡ Some d → param_types d.params ≡ t ∷ u ∷ [] → d.result ≡ t → HasTy seen c a t → HasTy seen c l (ty.List u) → HasTy seen c e t
-      fold_right : {seen : ℕ} {c : Ctx} {e : Expr} {t : Ty} (f : Name) (a l : Expr) (at : ℕ) (d : Fun) (u : Ty) → out-Expr e ≡ Expr-F.Foldr f a l → place_of f (take seen code.funs) ≡ Some at → slice_get code.funs at ≡ Some d → param_types d.params ≡ u ∷ t ∷ [] → d.result ≡ t → HasTy seen c a t → HasTy seen c l (ty.List u) → HasTy seen c e t
-      packing : {seen : ℕ} {c : Ctx} {e : Expr} {t : Ty} (f : Name) (es : List Expr) (at : ℕ) (d : Fun) → out-Expr e ≡ Expr-F.ChunkOf f es → place_of f code.funs ≡ Some at → slice_get code.funs at ≡ Some d → HaveTys seen c es (param_types d.params) → t ≡ ty.Chunk → HasTy seen c e t
+      calculation : {seen : ℕ} {c : Ctx} {e : Expr} {t : Ty} (o : Op) (a b : Expr) → out-Expr e ≡ Expr-F.Binary o a b
+          → kind_of o ≡ arithmetic → HasTy seen c a ty.Int → HasTy seen c b ty.Int → t ≡ ty.Int → HasTy seen c e t
+      join : {seen : ℕ} {c : Ctx} {e : Expr} {t : Ty} (o : Op) (a b : Expr) → out-Expr e ≡ Expr-F.Binary o a b → kind_of o ≡ joining
+          → HasTy seen c a t → is_joined t ≡ true → HasTy seen c b t → HasTy seen c e t
+      comparison : {seen : ℕ} {c : Ctx} {e : Expr} {t : Ty} (o : Op) (a b : Expr) (u : Ty) → out-Expr e ≡ Expr-F.Binary o a b
+          → kind_of o ≡ equality → HasTy seen c a u → HasTy seen c b u → t ≡ ty.Bool → HasTy seen c e t
+      order : {seen : ℕ} {c : Ctx} {e : Expr} {t : Ty} (o : Op) (a b : Expr) (u : Ty) → out-Expr e ≡ Expr-F.Binary o a b
+          → kind_of o ≡ ordering → HasTy seen c a u → is_ordered u ≡ true → HasTy seen c b u → t ≡ ty.Bool → HasTy seen c e t
+      prefix : {seen : ℕ} {c : Ctx} {e : Expr} {t : Ty} (o : Op) (a b : Expr) (u : Ty) → out-Expr e ≡ Expr-F.Binary o a b
+          → kind_of o ≡ listing → HasTy seen c a u → HasTy seen c b (ty.List u) → t ≡ ty.List u → IsShallow t → HasTy seen c e t
+      handling : {seen : ℕ} {c : Ctx} {e : Expr} {t : Ty} (a : Expr) (ks : List Clause) → out-Expr e ≡ Expr-F.Try a ks → HasTy seen c a t
+          → ClausesHaveTy seen c ks t → HasTy seen c e t
+      fold_left : {seen : ℕ} {c : Ctx} {e : Expr} {t : Ty} (f : Name) (a l : Expr) (at : ℕ) (d : Fun) (u : Ty)
+          → out-Expr e ≡ Expr-F.Foldl f a l → place_of f (take seen code.funs) ≡ Some at → slice_get code.funs at ≡ Some d
+          → param_types d.params ≡ t ∷ u ∷ [] → d.result ≡ t → HasTy seen c a t → HasTy seen c l (ty.List u) → HasTy seen c e t
+      fold_right : {seen : ℕ} {c : Ctx} {e : Expr} {t : Ty} (f : Name) (a l : Expr) (at : ℕ) (d : Fun) (u : Ty)
+          → out-Expr e ≡ Expr-F.Foldr f a l → place_of f (take seen code.funs) ≡ Some at → slice_get code.funs at ≡ Some d
+          → param_types d.params ≡ u ∷ t ∷ [] → d.result ≡ t → HasTy seen c a t → HasTy seen c l (ty.List u) → HasTy seen c e t
+      packing : {seen : ℕ} {c : Ctx} {e : Expr} {t : Ty} (f : Name) (es : List Expr) (at : ℕ) (d : Fun) → out-Expr e ≡ Expr-F.ChunkOf f es
+          → place_of f code.funs ≡ Some at → slice_get code.funs at ≡ Some d → HaveTys seen c es (param_types d.params) → t ≡ ty.Chunk
+          → HasTy seen c e t
       evaluation : {seen : ℕ} {c : Ctx} {e : Expr} {t : Ty} (a : Expr) → out-Expr e ≡ Expr-F.Eval a → HasTy seen c a ty.Chunk → t ≡ ty.Unit → HasTy seen c e t
-      remote : {seen : ℕ} {c : Ctx} {e : Expr} {t : Ty} (a h n : Expr) (r : Name) → out-Expr e ≡ Expr-F.OnRemote a h n r → HasTy seen c a ty.Chunk → HasTy seen c h ty.Host → HasTy seen c n ty.Int → t ≡ ty.Unit → HasTy seen c e t
-      neighbour : {seen : ℕ} {c : Ctx} {e : Expr} {t : Ty} (a h n d : Expr) → out-Expr e ≡ Expr-F.OnNeighbor a h n d → HasTy seen c a ty.Chunk → HasTy seen c h ty.Host → HasTy seen c n ty.Int → HasTy seen c d ty.Dev → t ≡ ty.Unit → HasTy seen c e t
+      remote : {seen : ℕ} {c : Ctx} {e : Expr} {t : Ty} (a h n : Expr) (r : Name) → out-Expr e ≡ Expr-F.OnRemote a h n r
+          → HasTy seen c a ty.Chunk → HasTy seen c h ty.Host → HasTy seen c n ty.Int → t ≡ ty.Unit → HasTy seen c e t
+      neighbour : {seen : ℕ} {c : Ctx} {e : Expr} {t : Ty} (a h n d : Expr) → out-Expr e ≡ Expr-F.OnNeighbor a h n d
+          → HasTy seen c a ty.Chunk → HasTy seen c h ty.Host → HasTy seen c n ty.Int → HasTy seen c d ty.Dev → t ≡ ty.Unit
+          → HasTy seen c e t
 
     -- expressions in order have types in order
     pub data HaveTys : ℕ → Ctx → List Expr → List Ty → Type 0 where
       no_parts : {seen : ℕ} {c : Ctx} → HaveTys seen c [] []
-      and_part : {seen : ℕ} {c : Ctx} {e : Expr} {es : List Expr} {t : Ty} {ts : List Ty} → HasTy seen c e t → HaveTys seen c es ts → HaveTys seen c (e ∷ es) (t ∷ ts)
+      and_part : {seen : ℕ} {c : Ctx} {e : Expr} {es : List Expr} {t : Ty} {ts : List Ty} → HasTy seen c e t → HaveTys seen c es ts
+          → HaveTys seen c (e ∷ es) (t ∷ ts)
 
     -- each clause catches a known exception or any, and gives the type t
     pub data ClausesHaveTy : ℕ → Ctx → List Clause → Ty → Type 0 where
       no_clauses : {seen : ℕ} {c : Ctx} {t : Ty} → ClausesHaveTy seen c [] t
-      and_clause : {seen : ℕ} {c : Ctx} {k : Clause} {ks : List Clause} {t : Ty} → may_catch code k.name ≡ true → HasTy seen c k.body t → ClausesHaveTy seen c ks t → ClausesHaveTy seen c (k ∷ ks) t
+      and_clause : {seen : ℕ} {c : Ctx} {k : Clause} {ks : List Clause} {t : Ty} → may_catch code k.name ≡ true → HasTy seen c k.body t
+          → ClausesHaveTy seen c ks t → ClausesHaveTy seen c (k ∷ ks) t
 
 -- the names of services and functions, in the order of the tree
 abbrev pub called_names : Program → List Name
@@ -133,7 +165,8 @@ mutual
 
   -- a chunk's code is typed, its entry is one of the functions, its arguments have the entry's types, and it is within the limits
   pub data IsTypedChunk : Chunk → Type 0 where
-    within : {k : Chunk} (at : ℕ) (d : Fun) → Typed k.code → place_of k.entry k.code.funs ≡ Some at → slice_get k.code.funs at ≡ Some d → HaveTypes k.args (param_types d.params) → chunk_nesting k ≤ 4 → 1 + chunk_weight k ≤ 16384 → IsTypedChunk k
+    within : {k : Chunk} (at : ℕ) (d : Fun) → Typed k.code → place_of k.entry k.code.funs ≡ Some at → slice_get k.code.funs at ≡ Some d
+        → HaveTypes k.args (param_types d.params) → chunk_nesting k ≤ 4 → 1 + chunk_weight k ≤ 16384 → IsTypedChunk k
 
 -- a value within the limits of size
 pub record IsSmall (v : Value) : Type 0 where

@@ -1,5 +1,6 @@
 -- The names that every program has, and how a name is found.
-use Rattle.std.specs.Prelude.{ℕ, ◌-◌, ◌==◌, ◌++◌, Bool, true, false, not, ◌&&◌, ◌||◌, if◌then◌else◌, List, [], ◌∷◌, map, codes, Option, Some, None, is_some, slice_get}
+use Rattle.std.specs.Prelude.{ℕ, ◌-◌, ◌==◌, ◌++◌, Bool, true, false, not, ◌&&◌, ◌||◌, if◌then◌else◌, List, [], ◌∷◌, map, codes, Option}
+use Rattle.std.specs.Prelude.{Some, None, is_some, slice_get}
 use Rattle.std.specs.List.{position, find, list_any}
 use Rattle.std.specs.Option.{option_or}
 use Rattle.std.specs.Str.{bytes_eq}
@@ -78,7 +79,8 @@ makes _ = ty.Blob
 
 -- the exceptions that every program has
 abbrev pub built_in : List Name
-built_in = codes "Overflow" ∷ codes "DivByZero" ∷ codes "Empty" ∷ codes "BadIndex" ∷ codes "TooLarge" ∷ codes "NoBound" ∷ codes "NoService" ∷ codes "NoRoute" ∷ codes "NotNeighbor" ∷ codes "TableFull" ∷ codes "NotFound" ∷ []
+built_in = codes "Overflow" ∷ codes "DivByZero" ∷ codes "Empty" ∷ codes "BadIndex" ∷ codes "TooLarge" ∷ codes "NoBound" ∷ codes "NoService"
+    ∷ codes "NoRoute" ∷ codes "NotNeighbor" ∷ codes "TableFull" ∷ codes "NotFound" ∷ []
 
 -- an exception that may be raised and caught: built in or declared
 abbrev pub is_exception : Program → Name → Bool

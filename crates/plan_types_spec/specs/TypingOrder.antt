@@ -1,6 +1,7 @@
 -- The checking of a program in its order: the conditions of each form one after the other, so that the first that fails is
 -- the answer, with its place. On the way the types of `[]` and `raise` that are missing are taken from the wanted types.
-use Rattle.std.specs.Prelude.{ℕ, zero, suc, ◌+◌, ◌==◌, ◌++◌, min, not, ◌||◌, if◌then◌else◌, List, [], ◌∷◌, map, take, length, slice_get, Option, Some, None, is_some, option_and_then, Result, Ok, Err, nat_le}
+use Rattle.std.specs.Prelude.{ℕ, zero, suc, ◌+◌, ◌==◌, ◌++◌, min, not, ◌||◌, if◌then◌else◌, List, [], ◌∷◌, map, take, length, slice_get}
+use Rattle.std.specs.Prelude.{Option, Some, None, is_some, option_and_then, Result, Ok, Err, nat_le}
 use Rattle.std.specs.List.{list_any}
 use Rattle.plan_base.specs.declared.name.Name.{Name}
 use Rattle.plan_base.specs.declared.prim.Primitive.{Primitive}
@@ -16,12 +17,15 @@ use Rattle.plan_base.specs.declared.tree.Fun.{Fun}
 use Rattle.plan_base.specs.declared.tree.Program.{Program}
 use Rattle.plan_base.specs.declared.tree.Place.TheVariants.{Decl, Node}
 use Rattle.plan_types_spec.specs.declared.type_fault.TypeFault.{TypeFault}
-use Rattle.plan_types_spec.specs.declared.type_fault.TypeFault.TheVariants.{UnknownName, NotEarlier, Mismatch, Arity, NeedsType, WrongShape, TwiceNamed, TypeTooDeep, CodeTooLarge}
+use Rattle.plan_types_spec.specs.declared.type_fault.TypeFault.TheVariants.{UnknownName, NotEarlier, Mismatch, Arity, NeedsType, WrongShape}
+use Rattle.plan_types_spec.specs.declared.type_fault.TypeFault.TheVariants.{TwiceNamed, TypeTooDeep, CodeTooLarge}
 use Rattle.plan_base.specs.Trees.{TyLayer, ExprLayer}
 use Rattle.plan_base.specs.SameTypes.{same_type}
 use Rattle.plan_base.specs.Sizes.{type_depth, code_size}
 use Rattle.plan_types_spec.specs.Typing.{Ctx, param_names}
-use Rattle.plan_types_spec.specs.TypingNames.{has_name, place_of, service_of, binds, binding, param_types, prim_of, is_prim, of_list, takes, makes, built_in, is_exception, may_catch, OpKind, arithmetic, joining, equality, ordering, listing, kind_of, is_joined, is_ordered, part_of, are_new}
+use Rattle.plan_types_spec.specs.TypingNames.{has_name, place_of, service_of, binds, binding, param_types, prim_of, is_prim, of_list, takes}
+use Rattle.plan_types_spec.specs.TypingNames.{makes, built_in, is_exception, may_catch, OpKind, arithmetic, joining, equality, ordering}
+use Rattle.plan_types_spec.specs.TypingNames.{listing, kind_of, is_joined, is_ordered, part_of, are_new}
 
 -- A part of the checking: by the number of the next expression, an answer and the number after it, or the first refusal.
 abbrev pub Checking : Type 0 → Type 0
@@ -127,7 +131,9 @@ module _ (code : Program) where
   -- an exception raised
   unfoldable pub raising : ℕ → Option Ty → Expr → Name → Option Ty → Checking Found
   raising at want e n (Some t) = if is_exception code n then shallow at want e t else refuse (UnknownName (Node at))
-  raising at want e n None = if is_exception code n then or_refuse want (NeedsType (Node at)) >>= (λ t. shallow at want (x.Raise n (Some t)) t) else refuse (UnknownName (Node at))
+  raising at want e n None =
+      if is_exception code n then or_refuse want (NeedsType (Node at))
+      >>= (λ t. shallow at want (x.Raise n (Some t)) t) else refuse (UnknownName (Node at))
 
   module _ (seen : ℕ) (run : Ctx → Option Ty → Expr → Checking Found) where
     -- a part of which a type is wanted
@@ -157,7 +163,11 @@ module _ (code : Program) where
 
     -- a primitive that takes one list of any type
     unfoldable pub of_items : Ctx → ℕ → Option Ty → Name → Primitive → List Expr → Checking Found
-    of_items c at want f p es = if length es == 1 then parts c None es >>= (λ r. or_refuse (given_of p r.1) (WrongShape (Node at)) >>= (λ t. settled_type at want (x.Call f r.0) t)) else refuse (Arity (Node at))
+    of_items c at want f p es =
+        if length es == 1 then parts c None es
+        >>= (λ r.
+        or_refuse (given_of p r.1) (WrongShape (Node at))
+        >>= (λ t. settled_type at want (x.Call f r.0) t)) else refuse (Arity (Node at))
 
     abbrev pub primitive_by : Ctx → ℕ → Option Ty → Name → Primitive → List Expr → Option (List Ty) → Checking Found
     primitive_by c at want f p es (Some ts) = applied_call c at want f es ts (makes p)
@@ -202,16 +212,26 @@ module _ (code : Program) where
     calculation c at want o a b = wanting c ty.Int a >>= (λ p. wanting c ty.Int b >>= (λ q. settled_type at want (x.Binary o p q) ty.Int))
 
     unfoldable pub join : Ctx → ℕ → Option Ty → Op → Expr → Expr → Checking Found
-    join c at want o a b = run c None a >>= (λ r. if is_joined r.1 then wanting c r.1 b >>= (λ q. settled_type at want (x.Binary o r.0 q) r.1) else refuse (WrongShape (Node at)))
+    join c at want o a b =
+        run c None a
+        >>= (λ r.
+        if is_joined r.1 then wanting c r.1 b
+        >>= (λ q. settled_type at want (x.Binary o r.0 q) r.1) else refuse (WrongShape (Node at)))
 
     unfoldable pub comparison : Ctx → ℕ → Option Ty → Op → Expr → Expr → Checking Found
     comparison c at want o a b = run c None a >>= (λ r. wanting c r.1 b >>= (λ q. settled_type at want (x.Binary o r.0 q) ty.Bool))
 
     unfoldable pub order : Ctx → ℕ → Option Ty → Op → Expr → Expr → Checking Found
-    order c at want o a b = run c None a >>= (λ r. if is_ordered r.1 then wanting c r.1 b >>= (λ q. settled_type at want (x.Binary o r.0 q) ty.Bool) else refuse (WrongShape (Node at)))
+    order c at want o a b =
+        run c None a
+        >>= (λ r.
+        if is_ordered r.1 then wanting c r.1 b
+        >>= (λ q. settled_type at want (x.Binary o r.0 q) ty.Bool) else refuse (WrongShape (Node at)))
 
     unfoldable pub prefix : Ctx → ℕ → Option Ty → Op → Expr → Expr → Checking Found
-    prefix c at want o a b = run c (option_and_then items_of want) a >>= (λ r. wanting c (ty.List r.1) b >>= (λ q. shallow at want (x.Binary o r.0 q) (ty.List r.1)))
+    prefix c at want o a b =
+        run c (option_and_then items_of want) a
+        >>= (λ r. wanting c (ty.List r.1) b >>= (λ q. shallow at want (x.Binary o r.0 q) (ty.List r.1)))
 
     abbrev pub operation_by : Ctx → ℕ → Option Ty → Op → Expr → Expr → OpKind → Checking Found
     operation_by c at want o a b arithmetic = calculation c at want o a b
@@ -229,29 +249,56 @@ module _ (code : Program) where
     clauses_from done c t (k ∷ ks) = wanting c t k.body >>= (λ b. clauses_from (done ++ record { name = k.name; body = b } ∷ []) c t ks)
 
     unfoldable pub handling : Ctx → ℕ → Option Ty → Expr → List Clause → Checking Found
-    handling c at want a ks = if list_any (λ k. not (may_catch code k.name)) ks then refuse (UnknownName (Node at)) else run c want a >>= (λ r. clauses_from [] c r.1 ks >>= (λ handlers. pure (x.Try r.0 handlers, r.1)))
+    handling c at want a ks =
+        if list_any (λ k. not (may_catch code k.name)) ks then refuse (UnknownName (Node at)) else run c want a
+        >>= (λ r. clauses_from [] c r.1 ks >>= (λ handlers. pure (x.Try r.0 handlers, r.1)))
 
     -- the two types of an earlier function with two parameters, and the type that it gives
     unfoldable pub folding : ℕ → Name → Checking (Ty × Ty × Ty)
-    folding at f = or_refuse (earlier code seen f) (not_earlier code f at) >>= (λ d. or_refuse (pair_of d.params) (Arity (Node at)) >>= (λ p. pure (p.0, p.1, d.result)))
+    folding at f =
+        or_refuse (earlier code seen f) (not_earlier code f at)
+        >>= (λ d. or_refuse (pair_of d.params) (Arity (Node at)) >>= (λ p. pure (p.0, p.1, d.result)))
 
     unfoldable pub fold_left : Ctx → ℕ → Option Ty → Name → Expr → Expr → Checking Found
-    fold_left c at want f a l = folding at f >>= (λ d. wanting c d.0 a >>= (λ start. wanting c (ty.List d.1) l >>= (λ items. if same_type d.2 d.0 then settled_type at want (x.Foldl f start items) d.0 else refuse (WrongShape (Node at)))))
+    fold_left c at want f a l =
+        folding at f
+        >>= (λ d.
+        wanting c d.0 a
+        >>= (λ start.
+        wanting c (ty.List d.1) l
+        >>= (λ items.
+        if same_type d.2 d.0 then settled_type at want (x.Foldl f start items) d.0 else refuse (WrongShape (Node at)))))
 
     unfoldable pub fold_right : Ctx → ℕ → Option Ty → Name → Expr → Expr → Checking Found
-    fold_right c at want f a l = folding at f >>= (λ d. wanting c d.1 a >>= (λ start. wanting c (ty.List d.0) l >>= (λ items. if same_type d.2 d.1 then settled_type at want (x.Foldr f start items) d.1 else refuse (WrongShape (Node at)))))
+    fold_right c at want f a l =
+        folding at f
+        >>= (λ d.
+        wanting c d.1 a
+        >>= (λ start.
+        wanting c (ty.List d.0) l
+        >>= (λ items.
+        if same_type d.2 d.1 then settled_type at want (x.Foldr f start items) d.1 else refuse (WrongShape (Node at)))))
 
     unfoldable pub packing : Ctx → ℕ → Option Ty → Name → List Expr → Checking Found
-    packing c at want f es = or_refuse (fun_of code f) (UnknownName (Node at)) >>= (λ d. arguments c at (param_types d.params) es >>= (λ given. settled_type at want (x.ChunkOf f given) ty.Chunk))
+    packing c at want f es =
+        or_refuse (fun_of code f) (UnknownName (Node at))
+        >>= (λ d. arguments c at (param_types d.params) es >>= (λ given. settled_type at want (x.ChunkOf f given) ty.Chunk))
 
     unfoldable pub evaluation : Ctx → ℕ → Option Ty → Expr → Checking Found
     evaluation c at want a = wanting c ty.Chunk a >>= (λ p. settled_type at want (x.Eval p) ty.Unit)
 
     unfoldable pub remote : Ctx → ℕ → Option Ty → Expr → Expr → Expr → Name → Checking Found
-    remote c at want a h n r = wanting c ty.Chunk a >>= (λ p. wanting c ty.Host h >>= (λ q. wanting c ty.Int n >>= (λ s. settled_type at want (x.OnRemote p q s r) ty.Unit)))
+    remote c at want a h n r =
+        wanting c ty.Chunk a
+        >>= (λ p. wanting c ty.Host h >>= (λ q. wanting c ty.Int n >>= (λ s. settled_type at want (x.OnRemote p q s r) ty.Unit)))
 
     unfoldable pub neighbour : Ctx → ℕ → Option Ty → Expr → Expr → Expr → Expr → Checking Found
-    neighbour c at want a h n d = wanting c ty.Chunk a >>= (λ p. wanting c ty.Host h >>= (λ q. wanting c ty.Int n >>= (λ s. wanting c ty.Dev d >>= (λ u. settled_type at want (x.OnNeighbor p q s u) ty.Unit))))
+    neighbour c at want a h n d =
+        wanting c ty.Chunk a
+        >>= (λ p.
+        wanting c ty.Host h
+        >>= (λ q.
+        wanting c ty.Int n >>= (λ s. wanting c ty.Dev d >>= (λ u. settled_type at want (x.OnNeighbor p q s u) ty.Unit))))
 
     -- each form by its own conditions
     abbrev pub opened_form : Ctx → ℕ → Option Ty → Expr → ExprLayer → Checking Found
@@ -296,7 +343,8 @@ module _ (code : Program) where
   -- the bodies from the first, after those that are done
   unfoldable pub bodies_from : List Fun → List Fun → Checking (List Fun)
   bodies_from done [] = pure done
-  bodies_from done (d ∷ ds) = checked_expression 64 (length done) d.params (Some d.result) d.body >>= (λ r. bodies_from (done ++ record d { body = r.0 } ∷ []) ds)
+  bodies_from done (d ∷ ds) =
+      checked_expression 64 (length done) d.params (Some d.result) d.body >>= (λ r. bodies_from (done ++ record d { body = r.0 } ∷ []) ds)
 
 -- what comes after an answer
 abbrev pub then_by : {A B : Type 0} → Result A TypeFault → (A → Result B TypeFault) → Result B TypeFault
@@ -307,7 +355,8 @@ then_by (Err f) k = Err f
 -- the number after them.
 unfoldable pub services_from : List Name → List Svc → ℕ → Result ℕ TypeFault
 services_from taken [] at = Ok at
-services_from taken (d ∷ ds) at = if is_prim d.name || has_name taken d.name then Err (TwiceNamed (Decl at)) else services_from (taken ++ d.name ∷ []) ds (next at)
+services_from taken (d ∷ ds) at =
+    if is_prim d.name || has_name taken d.name then Err (TwiceNamed (Decl at)) else services_from (taken ++ d.name ∷ []) ds (next at)
 
 -- exceptions likewise, beside the built-in ones
 unfoldable pub exceptions_from : List Name → List Name → ℕ → Result ℕ TypeFault
@@ -317,11 +366,15 @@ exceptions_from taken (n ∷ ns) at = if has_name taken n then Err (TwiceNamed (
 -- functions likewise, beside the services; their parameters have different names
 unfoldable pub functions_from : List Name → List Fun → ℕ → Result ℕ TypeFault
 functions_from taken [] at = Ok at
-functions_from taken (d ∷ ds) at = if is_prim d.name || has_name taken d.name || not (are_new [] (param_names d.params)) then Err (TwiceNamed (Decl at)) else functions_from (taken ++ d.name ∷ []) ds (next at)
+functions_from taken (d ∷ ds) at =
+    if is_prim d.name || has_name taken d.name || not (are_new [] (param_names d.params)) then Err (TwiceNamed (Decl at)) else
+    functions_from (taken ++ d.name ∷ []) ds (next at)
 
 -- all declarations, in the order of the tree
 unfoldable pub declarations : Program → Result ℕ TypeFault
-declarations code = then_by (services_from [] code.svcs 0) (λ n. then_by (exceptions_from built_in code.exns n) (λ m. functions_from (map (λ d. d.name) code.svcs) code.funs m))
+declarations code =
+    then_by (services_from [] code.svcs 0) (λ n.
+    then_by (exceptions_from built_in code.exns n) (λ m. functions_from (map (λ d. d.name) code.svcs) code.funs m))
 
 -- last, the size of the marshalled code
 unfoldable pub sized_program : Program → Result Program TypeFault

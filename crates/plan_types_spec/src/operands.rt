@@ -1,3 +1,4 @@
+//! Laws of operators: from operands that fit comes a value or an exception.
 ghost use Rattle.std.specs.Prelude.{◌≡◌, ◌↔◌, ℕ, IsTrue, List, Some};
 ghost use Rattle.plan_base.specs.declared.prim.Primitive.{Primitive};
 ghost use Rattle.plan_base.specs.declared.tree.Op.{Op};

@@ -1,3 +1,4 @@
+//! Why a program isn't typed.
 ghost use Rattle.std.specs.Prelude.{◌≡◌};
 
 use plan_base::{NoMemory, Place, Ty};

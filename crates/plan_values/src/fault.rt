@@ -1,3 +1,4 @@
+//! Why an operator, a primitive or a part gave no value.
 use plan_base::{Exn, NoMemory};
 use std::alloc::AllocError;
 

@@ -1,3 +1,4 @@
+//! Operators on lists, strings and blobs.
 ghost use Rattle.std.specs.Prelude.{◌≡◌, [], ◌∷◌, ◌++◌, IfOk, MatchOption};
 ghost use Rattle.plan_base.specs.declared.tree.Value.{out-Value};
 ghost use Rattle.plan_base.specs.declared.tree.Value.TheVariants as value;

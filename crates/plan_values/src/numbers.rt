@@ -1,3 +1,4 @@
+//! Operators on numbers.
 ghost use Rattle.std.specs.Prelude.{◌+ℤ◌, ◌-ℤ◌, ◌*ℤ◌};
 ghost use Rattle.plan_types_spec.specs.Rules as rules;
 ghost use Rattle.plan_values.specs.Answers.{Answers};

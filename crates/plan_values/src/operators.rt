@@ -1,3 +1,4 @@
+//! The operators between two values.
 ghost use Rattle.std.specs.Prelude.{◌≡◌, not};
 ghost use Rattle.std.specs.Option as option;
 ghost use Rattle.plan_base.specs.declared.tree.Value.{out-Value};

@@ -1,3 +1,4 @@
+//! The parts of tuples.
 ghost use Rattle.std.specs.Prelude.{◌≡◌, ◌-◌, List, Some, slice_get};
 ghost use Rattle.std.specs.Option.{option_copied};
 ghost use Rattle.plan_base.specs.declared.tree.Value.{out-Value};

@@ -1,3 +1,4 @@
+//! The primitives.
 ghost use Rattle.std.specs.Prelude.{◌≡◌, IfOk, List, pos};
 ghost use Rattle.plan_base.specs.declared.prim.Primitive.TheVariants as prim;
 ghost use Rattle.plan_base.specs.declared.tree.Value.{out-Value};

@@ -1,3 +1,4 @@
+//! The exceptions that operators raise.
 ghost use Rattle.std.specs.Prelude.{codes};
 ghost use Rattle.plan_base.specs.Words.{IsName};
 ghost use Rattle.plan_types_spec.specs.Rules as rules;

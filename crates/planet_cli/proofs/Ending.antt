@@ -144,7 +144,9 @@ prints_end : (said : FileMap → Said (List ℕ)) (files read : FilesState) (a b
 prints_end said files read a b c t = texts_end (λ text. text) said files read a b c t
 
 ask_ends : (file : List ℕ) (c : Cause) (old new : Outside) → Took (ask_said file) AsksAs old.files new.files c (wire_in old) (wire_in new) → EndsBy (Some (inject file)) old new c
-ask_ends file c old new (took a own p) = acting_gives_ending (λ x. whole (ask_line x)) (λ x r. no_whole (ask_line x) r) (ask_said file) old.files new.files (¬ (HasRisen old.link.faults new.link.faults)) old.out new.out a c own (asking a c (wire_in old) (wire_in new) p)
+ask_ends file c old new (took a own p) =
+    acting_gives_ending (λ x. whole (ask_line x)) (λ x r. no_whole (ask_line x) r) (ask_said file) old.files new.files (¬ (HasRisen old.link.faults new.link.faults)) old.out new.out a c own
+    (asking a c (wire_in old) (wire_in new) p)
 ask_ends file c old new (left u same) = untaken (λ x. whole (ask_line x)) (λ x r. no_whole (ask_line x) r) (ask_said file) old.files new.files (¬ (HasRisen old.link.faults new.link.faults)) old.out new.out c u (ap (λ w. w.out) same)
 
 fleet_ends : (file : List ℕ) (c : Cause) (old new : Outside) → Took (fleet_said file) RunsAs old.files new.files c (shop_in old) (shop_in new) → EndsBy (Some (fleet file)) old new c
@@ -153,7 +155,9 @@ fleet_ends file c old new (left u same) = untaken (λ x. runs) (λ x r. no_runs 
 
 node_ends : (file : List ℕ) (turns : ℕ) (c : Cause) (old new : Outside) (read : FilesState)
     → Took (config_said file) (ServesAs turns) old.files read c (record (serving_in old) { files = read }) (serving_in new) → EndsBy (Some (node file turns)) old new c
-node_ends file turns c old new read (took cfg own p) = acting_gives_ending (λ x. runs) (λ x r. no_runs r) (config_said file) old.files new.files (Unit {0}) old.out new.out cfg c own (serving (Unit {0}) turns cfg c (record (serving_in old) { files = read }) (serving_in new) p)
+node_ends file turns c old new read (took cfg own p) =
+    acting_gives_ending (λ x. runs) (λ x r. no_runs r) (config_said file) old.files new.files (Unit {0}) old.out new.out cfg c own
+    (serving (Unit {0}) turns cfg c (record (serving_in old) { files = read }) (serving_in new) p)
 node_ends file turns c old new read (left u same) =
     untaken (λ x. runs) (λ x r. no_runs r) (config_said file) old.files new.files (Unit {0}) old.out new.out c
     (subst (λ f. Untaken (config_said file) old.files f c) (sym (ap (λ w. w.files) same)) u) (ap (λ w. w.out) same)

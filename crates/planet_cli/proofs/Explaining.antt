@@ -127,7 +127,9 @@ module _ (old new : Outside) (n m : SinkState) where
   explains (Some (show file)) c d = prints_so (show_said file) c (view (show_said file) Prints file old.files new.files c old.out new.out d.1)
   explains (Some (inject file)) c d = asks_so file c (view (ask_said file) AsksAs file old.files new.files c (wire_in old) (wire_in new) d.1)
   explains (Some (fleet file)) c d = runs_so file c (view (fleet_said file) RunsAs file old.files new.files c (shop_in old) (shop_in new) d.1)
-  explains (Some (node file turns)) c d = serves_so file turns c d.1.read d.1.did.takes.only.write_faults (view (config_said file) (ServesAs turns) file old.files d.1.read c (record (serving_in old) { files = d.1.read }) (serving_in new) d.1.did)
+  explains (Some (node file turns)) c d =
+      serves_so file turns c d.1.read d.1.did.takes.only.write_faults
+      (view (config_said file) (ServesAs turns) file old.files d.1.read c (record (serving_in old) { files = d.1.read }) (serving_in new) d.1.did)
   explains (Some (grow seed k)) c d = growing_explains seed k c d.1
   explains (Some (cut file)) c d = texts_so cut_output (cut_said file) c (view (cut_said file) (PrintsBy cut_output) file old.files new.files c old.out new.out d.1)
   explains (Some (ports file)) c d = texts_so port_output (port_said file) c (view (port_said file) (PrintsBy port_output) file old.files new.files c old.out new.out d.1)

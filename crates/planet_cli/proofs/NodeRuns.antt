@@ -203,7 +203,8 @@ node_replays file turns cause old new n m call seen cfg e small s few =
 
 -- ---- such a replay
 
-module _ (log : List ℕ) (old new : Outside) (s : ReplaysSo log old new) (short : length s.bytes ≤ 4194304) (cause : Cause) (before after : Outside) (n m : SinkState) (call : Calls (Some (replay log)) cause before after n m) (seen : IsTrue before.files.observable) (same : before.files.held ≡ new.files.held) where
+module _ (log : List ℕ) (old new : Outside) (s : ReplaysSo log old new) (short : length s.bytes ≤ 4194304) (cause : Cause) (before after : Outside) (n m : SinkState)
+    (call : Calls (Some (replay log)) cause before after n m) (seen : IsTrue before.files.observable) (same : before.files.held ≡ new.files.held) where
   is_trace : outcome_of (Some (replay log)) before.files.held ≡ whole s.trace
   is_trace = ap (λ h. outcome_of (Some (replay log)) h) same ∙ s.again short
 

@@ -15,7 +15,8 @@ use Rattle.planet_cli.specs.Calls.{Calls}
 use Rattle.planet_cli.specs.PortCalls.{RunsPorts}
 use Rattle.planet_cli.proofs.Writing.{port_written}
 
-pub ports_write : (words : List (List ℕ)) (cause : Cause) (old new : Outside) (n m : SinkState) → Calls (request_of words) cause old new n m → (p : PortFile) → RunsPorts words old.files p → cause ≡ Done → Writes old.out new.out (port_output p)
+pub ports_write : (words : List (List ℕ)) (cause : Cause) (old new : Outside) (n m : SinkState) → Calls (request_of words) cause old new n m → (p : PortFile) → RunsPorts words old.files p
+    → cause ≡ Done → Writes old.out new.out (port_output p)
 ports_write words cause old new n m call p r done = port_written r.file r.bytes p cause old new n m (subst (λ q. Calls q cause old new n m) r.asked call) r.seen r.there r.says done
 
 pub ports_pay : (bytes : List ℕ) (p : PortFile) → port_of bytes ≡ Ok p → KeepsPurses p

@@ -141,7 +141,8 @@ module _ (file : List ℕ) (turns : ℕ) (cause : Cause) (old new : Outside) (n 
         (s.serves.runs (still_seen seen) (asked_seen own_cfg.node.version old.clock s.clock s.boot clock s.asked)))))
     served_so c cfg (left u same) e done = elim (subst (Untaken (config_said file) old.files call.does.1.read) done u) [ ]
 
-    pub node_serves : (cfg : ServeConfig) → config_said file old.files.held ≡ says cfg → cause ≡ Done → Served (begun_config cfg (serving_in old)) (own_node (begun_config cfg (serving_in old))) turns (begun_with cfg (serving_in old)) (serving_in new)
+    pub node_serves : (cfg : ServeConfig) → config_said file old.files.held ≡ says cfg → cause ≡ Done
+        → Served (begun_config cfg (serving_in old)) (own_node (begun_config cfg (serving_in old))) turns (begun_with cfg (serving_in old)) (serving_in new)
     node_serves cfg e done = served_so call.found cfg node_view e (done_found (Some (node file turns)) cause old new n m call done)
 
     at_most : (c : Cause) → Took (config_said file) (ServesAs turns) old.files call.does.1.read c (record (serving_in old) { files = call.does.1.read }) (serving_in new)
@@ -201,7 +202,9 @@ module _ (c : Cause) (old new : Outside) (seen : IsTrue old.files.observable) wh
   unaccepted_keeps_all (Some (show file)) d h = (ap (λ o. o.link) d.0, ap (λ o. o.clock) d.0, d.1.takes.only.held)
   unaccepted_keeps_all (Some (inject file)) d h = ask_kept file (ap (λ o. o.clock) d.0) d.1.takes.only.held h (view (ask_said file) AsksAs file old.files new.files c (wire_in old) (wire_in new) d.1)
   unaccepted_keeps_all (Some (fleet file)) d h = (ap (λ o. o.link) d.0, ap (λ o. o.clock) d.0, d.1.takes.only.held)
-  unaccepted_keeps_all (Some (node file turns)) d h = node_kept file turns d.1.read d.1.did.takes.only.held h (view (config_said file) (ServesAs turns) file old.files d.1.read c (record (serving_in old) { files = d.1.read }) (serving_in new) d.1.did)
+  unaccepted_keeps_all (Some (node file turns)) d h =
+      node_kept file turns d.1.read d.1.did.takes.only.held h
+      (view (config_said file) (ServesAs turns) file old.files d.1.read c (record (serving_in old) { files = d.1.read }) (serving_in new) d.1.did)
   unaccepted_keeps_all (Some (grow seed k)) d h = (ap (λ o. o.link) d.0, ap (λ o. o.clock) d.0, ap (λ o. o.files.held) d.0)
   unaccepted_keeps_all (Some (cut file)) d h = (ap (λ o. o.link) d.0, ap (λ o. o.clock) d.0, d.1.takes.only.held)
   unaccepted_keeps_all (Some (gather port file)) d h = (ap (λ o. o.link) d.0, ap (λ o. o.clock) d.0, d.1.takes.only.held)

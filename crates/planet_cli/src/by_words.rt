@@ -1,3 +1,4 @@
+//! Does what words ask for.
 ghost use Rattle.node_io.specs.Outsides.{outside};
 ghost use Rattle.planet_cli.specs.Requests.{request_of};
 ghost use Rattle.planet_cli.specs.Does.{Does};

@@ -72,7 +72,8 @@ pub fn replayed()
 
 /// Of whatever bytes say a log: the node whose steps it has keeps its limits, and each step is in balance.
 pub fn log_keeps()
-    ensures { (bytes : List ℕ) (l : Log) → log_of bytes ≡ Ok l → KeepsNodeRun (log_node l) l.events }
+    ensures { (bytes : List ℕ) (l : Log) → log_of bytes ≡ Ok l
+        → KeepsNodeRun (log_node l) l.events }
 {}
 
 /// A replay of the log of a node that is done wrote the trace of its steps.

@@ -1,3 +1,4 @@
+//! The top call, `planet`, with the promise of the program.
 ghost use Rattle.std.specs.Prelude.{◌≡◌, ℕ, List, Ok};
 ghost use Rattle.network_config.specs.declared.schedule.Schedule.{Schedule};
 ghost use Rattle.node_io.specs.Outsides.{outside};

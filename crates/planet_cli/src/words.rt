@@ -1,3 +1,4 @@
+//! What the words of a call ask for.
 ghost use Rattle.std.specs.Prelude.{◌≡◌, IfSome, MatchOption};
 ghost use Rattle.std.specs.Str.{bytes_eq};
 ghost use Rattle.planet_cli.specs.Requests.{with_file, with_two, request_of};

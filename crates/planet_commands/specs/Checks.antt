@@ -17,7 +17,10 @@ program_limit = 65536
 
 -- the line of a typed program: its functions, its expressions, and its code in bytes
 abbrev pub sizes_text : Program → List ℕ
-sizes_text code = codes "ok functions " ++ (decimal (length code.funs) ++ (codes " nodes " ++ (decimal (program_nodes code) ++ (codes " code " ++ (decimal (code_size code) ++ codes "\n")))))
+sizes_text code =
+    codes "ok functions "
+    ++ (decimal (length code.funs) ++
+    (codes " nodes " ++ (decimal (program_nodes code) ++ (codes " code " ++ (decimal (code_size code) ++ codes "\n")))))
 
 -- what was read of a program's text says
 abbrev pub sizes_of : Result Program TextFault → Said (List ℕ)

@@ -1,3 +1,4 @@
+//! Runs a command that reads one file and writes one text.
 ghost use Rattle.planet_commands.specs.Said.{said_in};
 ghost use Rattle.planet_commands.specs.Takes.{TakesAndActs};
 ghost use Rattle.planet_commands.specs.Renders.{Prints};

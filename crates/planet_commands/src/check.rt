@@ -1,3 +1,4 @@
+//! The command `check`.
 ghost use Rattle.std.specs.Prelude.{◌≡◌, ◌≤◌, length, IfOk, MatchResult};
 ghost use Rattle.std.specs.String.{string_bytes};
 ghost use Rattle.plan_types_spec.specs.Typing.{Typed};

@@ -1,3 +1,4 @@
+//! What a command on a file is.
 ghost use Rattle.std.specs.Prelude.{◌≡◌, ◌^◌, ◌<◌, ◌≤◌, List, ℕ, length};
 ghost use Rattle.planet_commands.specs.Said.{Said};
 ghost use Rattle.planet_commands.specs.Renders.{Prints, Renders};

@@ -1,3 +1,4 @@
+//! Values that files say line by line, and how a command reads them.
 ghost use Rattle.std.specs.Prelude.{◌≡◌, ◌≤◌, ◌<◌, ◌^◌, ◌⊎◌, List, ℕ, Result, Ok, Err, IfOk, IfErr, length};
 ghost use Rattle.line_reader.specs.declared.fault.LineFault.{LineFault as Fault};
 ghost use Rattle.file_laws.specs.Refusals.{FaultHolds};

@@ -1,3 +1,4 @@
+//! The command `show`.
 ghost use Rattle.std.specs.Prelude.{◌≡◌, IfOk, MatchResult, Ok};
 ghost use Rattle.hex.specs.Hex.{decode_of, IsBytes};
 ghost use Rattle.plan_base.specs.declared.stamp.Version.TheVariants.{One, Two};

@@ -1,3 +1,4 @@
+//! The command `audit`: the answer of logs that were read.
 ghost use Rattle.std.specs.Prelude.{◌≡◌, List, IfOk};
 ghost use Rattle.net_world_spec.specs.World.{Cables};
 ghost use Rattle.ledger_audit.specs.Audits.{Logged};

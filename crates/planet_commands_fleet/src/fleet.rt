@@ -1,3 +1,4 @@
+//! The command `fleet`.
 ghost use Rattle.planet_commands.specs.Takes.{TakesAndActs};
 ghost use Rattle.planet_commands_fleet.specs.Fleets.{RunsAs, fleet_said, shop};
 

@@ -1,3 +1,4 @@
+//! The command `gather`.
 ghost use Rattle.network_config.specs.NodeRules.{KeepsLog};
 ghost use Rattle.planet_commands.specs.Takes.{TakesAndActs};
 ghost use Rattle.planet_commands.specs.Renders.{Prints, PrintsBy};

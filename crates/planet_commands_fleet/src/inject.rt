@@ -1,3 +1,4 @@
+//! The command `inject`.
 ghost use Rattle.network_config.specs.NodeRules.{KeepsAsk};
 ghost use Rattle.planet_commands.specs.Takes.{TakesAndActs};
 ghost use Rattle.planet_commands_fleet.specs.Asks.{AsksAs, ask_said, wire};

@@ -1,3 +1,4 @@
+//! Reads the logs that an audit names.
 ghost use Rattle.std.specs.Prelude.{◌≡◌, ◌≤◌, true, length, IfOk};
 ghost use Rattle.std.specs.List.{All};
 ghost use Rattle.network_config.specs.NodeRules.{KeepsLog};

@@ -1,3 +1,4 @@
+//! The command `node`.
 ghost use Rattle.network_config.specs.NodeRules.{KeepsServe};
 ghost use Rattle.node_serve.specs.Desks.{serving};
 ghost use Rattle.planet_commands_fleet.specs.Nodes.{ServesAs, ServesFile};

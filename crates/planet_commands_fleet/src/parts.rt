@@ -1,3 +1,4 @@
+//! The command `cut`.
 ghost use Rattle.command_files.specs.Cuts.{KeepsCut};
 ghost use Rattle.command_files.specs.Texts.{cut_output};
 ghost use Rattle.planet_commands.specs.Takes.{TakesAndActs};

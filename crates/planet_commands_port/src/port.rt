@@ -1,3 +1,4 @@
+//! The command `port`.
 ghost use Rattle.std.specs.Prelude.{◌≡◌, map, IfOk};
 ghost use Rattle.service_registry.specs.RegistryState.{standing};
 ghost use Rattle.service_registry_spec.specs.Beginning.{opening_standing, present_without};

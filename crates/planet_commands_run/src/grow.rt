@@ -1,3 +1,4 @@
+//! The command `grow`.
 ghost use Rattle.std.specs.Prelude.{◌≤◌};
 ghost use Rattle.planet_commands_run.specs.Grown.{GrowsAs};
 

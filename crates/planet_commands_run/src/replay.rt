@@ -1,3 +1,4 @@
+//! The command `replay`.
 ghost use Rattle.std.specs.Prelude.{◌≡◌, ◌≤◌, ◌⊎◌, Err, length, IfOk, map};
 ghost use Rattle.network_config.specs.Rules.{KeepsRules};
 ghost use Rattle.network_config.specs.NodeRules.{KeepsLog};

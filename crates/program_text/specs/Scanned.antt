@@ -18,7 +18,8 @@ on_move (Err e) more = Err e
 abbrev pub scanned_tokens : ℕ → ℕ → List ℕ → Result (List Token) LexFault
 scanned_tokens n at [] = Ok []
 scanned_tokens zero at (b ∷ text) = Ok []
-scanned_tokens (suc n) at (b ∷ text) = on_move (move_at at (b ∷ text)) (λ m. before (with_move [] at m.0 m.1) (scanned_tokens n m.1 (rest_at at (b ∷ text) m.1)))
+scanned_tokens (suc n) at (b ∷ text) =
+    on_move (move_at at (b ∷ text)) (λ m. before (with_move [] at m.0 m.1) (scanned_tokens n m.1 (rest_at at (b ∷ text) m.1)))
 
 -- each move takes a byte
 unfoldable pub tokens_of : List ℕ → Result (List Token) LexFault

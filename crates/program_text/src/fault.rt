@@ -1,3 +1,4 @@
+//! Why a text is no typed program.
 use plan_base::NoMemory;
 use plan_lexer::LexFault;
 use plan_parser_exprs::ParseFault;

@@ -1,3 +1,4 @@
+//! A law: one pass over a text finds its tokens or its first refusal.
 ghost use Rattle.std.specs.Prelude.{◌≡◌, ℕ, List, Ok, Err};
 ghost use Rattle.plan_lexer.specs.Scanning.{Toks, Refuses};
 ghost use Rattle.plan_lexer.specs.declared.fault.LexFault.{LexFault};

@@ -1,3 +1,4 @@
+//! Reads a text into a typed program.
 ghost use Rattle.std.specs.Prelude.{◌≡◌, ◌≤◌, ◌⊎◌, List, length, Ok, Err, IfOk, IfErr, MatchResult};
 ghost use Rattle.plan_types_spec.specs.Typing.{Typed};
 ghost use Rattle.plan_types_spec.specs.TypingFills.{Fills};

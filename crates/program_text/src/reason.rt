@@ -1,3 +1,4 @@
+//! Writes why a text is refused, and where.
 ghost use Rattle.std.specs.Prelude.{◌≡◌, ◌++◌, OnOk, OnErr};
 ghost use Rattle.program_text.specs.Reasons.{lex_reason, lex_byte, parse_reason, parse_byte, mismatch_text, type_reason, reason_text, fault_byte};
 

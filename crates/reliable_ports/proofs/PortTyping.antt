@@ -13,8 +13,10 @@ use Rattle.plan_base.specs.declared.tree.Value.{Value, Value-F, out-Value}
 use Rattle.plan_base.specs.declared.tree.Value.TheVariants as value
 use Rattle.plan_base.specs.declared.tree.Chunk.{Chunk}
 use Rattle.plan_base.specs.Trees.{ValueLayer}
-use Rattle.plan_base.specs.Sizes.{type_size, svc_size, fun_size, expr_size, expr_nodes, code_size, program_nodes, weight_level, weight, chunk_weight, nesting_level, nesting, chunk_nesting, value_depth_level, value_depth, type_depth, expr_depth}
-use Rattle.plan_base.specs.WellFormed.{well_formed_type, well_formed_expr, well_formed_svc, well_formed_fun, well_formed_program, formed_value_level, formed_value, formed_chunk, well_formed_chunk, program_has_types, typed_value_level, value_has_types, chunk_has_types}
+use Rattle.plan_base.specs.Sizes.{type_size, svc_size, fun_size, expr_size, expr_nodes, code_size, program_nodes, weight_level, weight, chunk_weight, nesting_level, nesting, chunk_nesting}
+use Rattle.plan_base.specs.Sizes.{value_depth_level, value_depth, type_depth, expr_depth}
+use Rattle.plan_base.specs.WellFormed.{well_formed_type, well_formed_expr, well_formed_svc, well_formed_fun, well_formed_program, formed_value_level, formed_value, formed_chunk, well_formed_chunk}
+use Rattle.plan_base.specs.WellFormed.{program_has_types, typed_value_level, value_has_types, chunk_has_types}
 use Rattle.plan_base.proofs.SizeLaws.{weight_out, nesting_out, value_depth_out, chunk_weight_is, chunk_nesting_is}
 use Rattle.plan_base.proofs.FormLaws.{formed_value_out, value_has_types_out, formed_chunk_is, chunk_has_types_is}
 use Rattle.plan_types_spec.specs.Typing.{Ctx, literal_type, HasTy, literal, variable, tuple, serving, choice, packing, remote, no_parts, and_part, param_names, HasOwnNames, Typed, no_values, and_value, int, blob, host, within}
@@ -22,7 +24,8 @@ use Rattle.plan_types_spec.specs.TypingNames.{prim_of, are_new}
 use Rattle.checked_chunks.specs.Kept.{IsChecked, IsCheckedChunk}
 use Rattle.reliable_ports.specs.Programs as port
 use Rattle.reliable_ports.specs.Programs.{this_host_is, get_rb, deliver, delivered_type, port_services, port_program, data_fun, data_params, data_body, ack_fun, ack_params, ack_body, data_args, data_chunk, ack_args, ack_chunk}
-use Rattle.reliable_ports.proofs.TreeSizes.{TypeFits, host_fits, bool_fits, int_fits, blob_fits, unit_fits, delivered_fits, Fits, one_fits, two_fit, three_fit, no_parts_fit, wider, var_fits, number_fits, bytes_fit, tuple_fits, call_fits, packing_fits, choice_fits, remote_fits}
+use Rattle.reliable_ports.proofs.TreeSizes.{TypeFits, host_fits, bool_fits, int_fits, blob_fits, unit_fits, delivered_fits, Fits, one_fits, two_fit, three_fit, no_parts_fit, wider, var_fits}
+use Rattle.reliable_ports.proofs.TreeSizes.{number_fits, bytes_fit, tuple_fits, call_fits, packing_fits, choice_fits, remote_fits}
 
 -- ---- sizes and forms
 

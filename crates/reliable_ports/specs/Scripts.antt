@@ -28,7 +28,14 @@ nothing_yet = record { offers = []; sender = no_offers; receiver = no_messages; 
 
 -- a body is offered; nothing changes where the sender is full
 abbrev pub offer : Body → Exchange → Exchange
-offer body x = if is_full x.sender then x else record { offers = x.offers ++ body ∷ []; sender = with_offer body x.sender; receiver = x.receiver; messages = x.messages; acks = x.acks }
+offer body x =
+    if is_full x.sender then x else record {
+      offers = x.offers ++ body ∷ [];
+      sender = with_offer body x.sender;
+      receiver = x.receiver;
+      messages = x.messages;
+      acks = x.acks;
+    }
 
 -- the message with a number is sent, where its body is held
 abbrev pub transmit : ℕ → Option Body → Exchange → Exchange

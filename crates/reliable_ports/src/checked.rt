@@ -1,3 +1,4 @@
+//! Laws: the chunks of ports are typed.
 ghost use Rattle.std.specs.Prelude.{ℕ, ℤ, List, length, ◌≤◌};
 ghost use Rattle.plan_base.specs.declared.ids.Host.{Host};
 ghost use Rattle.checked_chunks.specs.Kept.{IsChecked, IsCheckedChunk};

@@ -1,3 +1,4 @@
+//! The program of a port, and the chunks of messages and acks.
 ghost use Rattle.std.specs.Prelude.{◌≡◌, ◌≤◌, ◌^◌, length, pos, IfOk, Ok};
 ghost use Rattle.program_text.specs.Texts.{program_of};
 ghost use Rattle.reliable_ports.specs.Programs as spec;

@@ -1,3 +1,4 @@
+//! A law: what is delivered is a prefix of what was offered, in order.
 ghost use Rattle.std.specs.Prelude.{List};
 ghost use Rattle.reliable_ports.specs.Scripts.{Action, run, nothing_yet, IsInOrder, IsAcked};
 

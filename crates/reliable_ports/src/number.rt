@@ -1,3 +1,4 @@
+//! The numbers of messages.
 ghost use Rattle.std.specs.Prelude.{◌≡◌};
 ghost use Rattle.reliable_ports.specs.Ends.{number_of};
 

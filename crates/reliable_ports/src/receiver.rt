@@ -1,3 +1,4 @@
+//! The end that delivers messages in order.
 ghost use Rattle.std.specs.Prelude.{◌≡◌, ◌+◌, ◌<◌, ◌^◌, length, IfOk, OnOk, Err, ◌↔◌, OnErr};
 ghost use Rattle.reliable_ports.specs.Ends as spec;
 

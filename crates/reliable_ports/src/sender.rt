@@ -1,3 +1,4 @@
+//! The end that offers messages until they are acknowledged.
 ghost use Rattle.std.specs.Prelude.{◌≡◌, ◌+◌, ◌<◌, ◌≤◌, ◌^◌, length, true, false, slice_get, IfOk, OnOk, Err, ◌↔◌, OnErr};
 ghost use Rattle.std.specs.Option.{option_copied};
 ghost use Rattle.reliable_ports.specs.Ends as spec;

@@ -18,7 +18,8 @@ use Rattle.reliable_ports.proofs.Scripts.{prefix_length}
 use Rattle.reliable_ports.proofs.Steps.{message, Sends, held_message}
 use Rattle.reliable_ports_world.specs.Known.{LineKnown, ComesKnown}
 use Rattle.reliable_ports_world.proofs.Worlds.{all_take, event_known}
-use Rattle.reliable_ports_world.specs.Ports.{PortState, PortEvent, Offer, Transmit, Wire, price, said_to, heard_by, makes, first_pays, second_pays, ack_event, message_event, acks, hears_message, hears_ack, hears_note, hears_line, hears, after, offers_one, transmits, happens_at, port_run}
+use Rattle.reliable_ports_world.specs.Ports.{PortState, PortEvent, Offer, Transmit, Wire, price, said_to, heard_by, makes, first_pays, second_pays, ack_event, message_event, acks, hears_message}
+use Rattle.reliable_ports_world.specs.Ports.{hears_ack, hears_note, hears_line, hears, after, offers_one, transmits, happens_at, port_run}
 use Rattle.reliable_ports_world.specs.Allowed.{body_numbered, PortChunk, port_allowed, IsWire}
 use Rattle.reliable_ports_world.proofs.Running.{Together, port_closed, hears_on, run_on, begun_on}
 use Rattle.reliable_ports_world.proofs.Opening.{opening_known}

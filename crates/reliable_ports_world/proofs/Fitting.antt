@@ -18,7 +18,8 @@ use Rattle.net_world_spec.specs.Sound.{event_fits, EventsFit}
 use Rattle.reliable_ports.proofs.PortTyping.{data_checked, ack_checked}
 use Rattle.reliable_ports.specs.Ends.{Body, IsShort, AllShort, Sending, number_of, is_full, with_offer, held_at, is_awaited, is_news, with_ack, next_of, with_message}
 use Rattle.reliable_ports.proofs.Held.{held_short, short_push, short_drop}
-use Rattle.reliable_ports_world.specs.Ports.{PortState, PortEvent, Offer, Transmit, Wire, first_host, second_host, price, said_to, heard_by, makes, first_pays, second_pays, ack_event, message_event, acks, hears_message, hears_ack, hears_note, hears_line, hears, after, offers_one, transmits, port_run, port_begun}
+use Rattle.reliable_ports_world.specs.Ports.{PortState, PortEvent, Offer, Transmit, Wire, first_host, second_host, price, said_to, heard_by, makes, first_pays, second_pays, ack_event, message_event}
+use Rattle.reliable_ports_world.specs.Ports.{acks, hears_message, hears_ack, hears_note, hears_line, hears, after, offers_one, transmits, port_run, port_begun}
 use Rattle.reliable_ports_world.specs.Paid.{ScriptFits}
 
 acked_short : (next : ℕ) (s : Sending) → AllShort s.held → AllShort (with_ack next s).held

@@ -36,7 +36,9 @@ use Rattle.node_core_spec.specs.State.{Links, Queues, NodeState, routing_of, is_
 use Rattle.plan_eval_settle.specs.declared.settling.Settled.{Settled}
 use Rattle.plan_eval_settle.specs.Settles.{handed_packet, telling_by, with_telling, visit_settled}
 use Rattle.node_core_spec.specs.Visits.{evaluated_packet, visit_end, visit_of, services_end, services_after, around, visit_at, settled_at}
-use Rattle.node_core_spec.specs.Node.{send_act, send_queues, sends_acts, has_room, packet_sending, visit_sends, handled_acts, visit_acts, visit_step, inject_step, next_serial, injected_packet, forward_by, forward_step, packet_step, advert_step, frame_step, drop_act, lane_room, mark, takes_as, stamped_as, stamped_step, tick_step, tick_sends, advert_sending, take_step, take_first, take_from, only_acts, hearing}
+use Rattle.node_core_spec.specs.Node.{send_act, send_queues, sends_acts, has_room, packet_sending, visit_sends, handled_acts, visit_acts, visit_step, inject_step, next_serial, injected_packet}
+use Rattle.node_core_spec.specs.Node.{forward_by, forward_step, packet_step, advert_step, frame_step, drop_act, lane_room, mark, takes_as, stamped_as, stamped_step, tick_step, tick_sends}
+use Rattle.node_core_spec.specs.Node.{advert_sending, take_step, take_first, take_from, only_acts, hearing}
 use Rattle.node_core_spec.proofs.Keeping.{Whatever, send_keeps, sends_keep, took}
 use Rattle.reliable_ports_world.specs.Only.{Allowed, MaySend}
 use Rattle.reliable_ports_world.specs.Visits.{EndsGood}
@@ -161,7 +163,9 @@ module _ (a : Allowed) (closed : IsClosed a) where
   unfolding inject_step
   inject_known node c b o k n = by (node.serial == 18446744073709551615)
     where
-      by : (t : Bool) → StepKnown a (cond t (record { acts = SerialsSpent ∷ []; frame = None; node = node }) (visit_step (Injected (record { source = node.here; serial = node.serial }) b ∷ []) (next_serial node) (injected_packet node c b o)))
+      by : (t : Bool)
+          → StepKnown a (cond t (record { acts = SerialsSpent ∷ []; frame = None; node = node })
+          (visit_step (Injected (record { source = node.here; serial = node.serial }) b ∷ []) (next_serial node) (injected_packet node c b o)))
       by true = record { node = n; acts = (tt, tt); frame = tt }
       by false = visited_known (Injected (record { source = node.here; serial = node.serial }) b ∷ []) (next_serial node) (injected_packet node c b o) (tt, tt) k (record { queues = n.queues; offer = n.offer })
 
@@ -179,7 +183,10 @@ module _ (a : Allowed) (closed : IsClosed a) where
   unfolding packet_step forward_step
   packet_known node d p k n = by (is_host p.dest node.here) (p.bound == 0)
     where
-      by : (t u : Bool) → StepKnown a (cond t (visit_step (Arrived d ∷ []) node p) (cond u (record { acts = Arrived d ∷ Dropped reason.NoBound p.family 0 ∷ []; frame = None; node = node }) (forward_by node d p (hop (all_routes (routing_of node)) p.route node.here p.dest))))
+      by : (t u : Bool)
+          → StepKnown a (cond t (visit_step (Arrived d ∷ []) node p)
+          (cond u (record { acts = Arrived d ∷ Dropped reason.NoBound p.family 0 ∷ []; frame = None; node = node })
+          (forward_by node d p (hop (all_routes (routing_of node)) p.route node.here p.dest))))
       by true u = visited_known (Arrived d ∷ []) node p (tt, tt) k n
       by false true = record { node = n; acts = (tt, (tt, tt)); frame = tt }
       by false false = by_known node d p (hop (all_routes (routing_of node)) p.route node.here p.dest) k n

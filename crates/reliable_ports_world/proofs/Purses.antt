@@ -13,7 +13,8 @@ use Rattle.net_world_spec.specs.declared.lines.Line.TheVariants as line
 use Rattle.net_world_spec.specs.World.{WorldState, happens, world_after}
 use Rattle.reliable_ports_world.proofs.Rules.{all_push}
 use Rattle.reliable_ports.specs.Ends.{Body, number_of, is_full, with_offer, held_at, with_message}
-use Rattle.reliable_ports_world.specs.Ports.{PortState, PortEvent, Offer, Transmit, Wire, price, said_to, heard_by, makes, first_pays, second_pays, ack_event, message_event, acks, hears_message, hears_ack, hears_note, hears_line, hears, after, offers_one, transmits, port_run, port_begun}
+use Rattle.reliable_ports_world.specs.Ports.{PortState, PortEvent, Offer, Transmit, Wire, price, said_to, heard_by, makes, first_pays, second_pays, ack_event, message_event, acks, hears_message}
+use Rattle.reliable_ports_world.specs.Ports.{hears_ack, hears_note, hears_line, hears, after, offers_one, transmits, port_run, port_begun}
 use Rattle.reliable_ports_world.specs.Allowed.{IsWire}
 use Rattle.reliable_ports_world.specs.Paid.{sum_of, event_bound, NotRaw}
 use Rattle.reliable_ports_world.proofs.Quiet.{sum_append}

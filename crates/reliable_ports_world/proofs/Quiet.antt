@@ -30,14 +30,17 @@ use Rattle.node_core_spec.specs.declared.acts.TxQueue.{TxQueue}
 use Rattle.node_core_spec.specs.State.{Links, Queues, NodeState, routing_of, is_host, leads_to}
 use Rattle.plan_eval_settle.specs.declared.settling.Settled.{Settled}
 use Rattle.node_core_spec.specs.Visits.{visit_at, settled_at}
-use Rattle.node_core_spec.specs.Node.{NodeStep, send_act, send_queues, sends_acts, has_room, packet_sending, visit_sends, handled_acts, visit_acts, visit_step, inject_step, next_serial, injected_packet, forward_by, forward_step, packet_step, advert_step, frame_step, drop_act, lane_room, mark, takes_as, stamped_as, stamped_step, take_first, tick_step, tick_sends, advert_sending, take_step, take_from, only_acts, hearing}
+use Rattle.node_core_spec.specs.Node.{NodeStep, send_act, send_queues, sends_acts, has_room, packet_sending, visit_sends, handled_acts, visit_acts, visit_step, inject_step, next_serial}
+use Rattle.node_core_spec.specs.Node.{injected_packet, forward_by, forward_step, packet_step, advert_step, frame_step, drop_act, lane_room, mark, takes_as, stamped_as, stamped_step, take_first}
+use Rattle.node_core_spec.specs.Node.{tick_step, tick_sends, advert_sending, take_step, take_from, only_acts, hearing}
 use Rattle.net_world_spec.specs.declared.lines.Line.{Line}
 use Rattle.net_world_spec.specs.declared.lines.Line.TheVariants.{Wire}
 use Rattle.net_world_spec.specs.declared.lines.LinkEnd.{LinkEnd}
 use Rattle.net_world_spec.specs.declared.lines.FrameOnWire.{FrameOnWire}
 use Rattle.net_world_spec.specs.declared.lines.Delivery.{Delivery}
 use Rattle.net_world_spec.specs.declared.lines.Delivery.TheVariants.{Taking, Leaving}
-use Rattle.net_world_spec.specs.World.{WorldState, nothing, lines_at, steps_at, step_at, step_place, steps, place_of, far_end, send_taken, send_at, send_over, send_place, sends, none_before, hand_line, wire_after, with_wire, wire_place, hand_at, hand_to, hand_frame, hand_place, hands, lose_frame, lose_place, loses, happens}
+use Rattle.net_world_spec.specs.World.{WorldState, nothing, lines_at, steps_at, step_at, step_place, steps, place_of, far_end, send_taken, send_at, send_over, send_place, sends, none_before}
+use Rattle.net_world_spec.specs.World.{hand_line, wire_after, with_wire, wire_place, hand_at, hand_to, hand_frame, hand_place, hands, lose_frame, lose_place, loses, happens}
 use Rattle.reliable_ports_world.specs.Paid.{sum_of, act_bound, line_bound, event_bound, NotRaw}
 
 pub sum_append : {X : Type 0} (f : X → ℕ) (xs ys : List X) → sum_of f (xs ++ ys) ≡ sum_of f xs + sum_of f ys
@@ -103,7 +106,9 @@ inject_bound : (node : NodeState) (c : Chunk) (b : ℕ) (o : Option Name) → Ac
 unfolding inject_step
 inject_bound node c b o = by (node.serial == 18446744073709551615)
   where
-    by : (t : Bool) → Acts (cond t (record { acts = SerialsSpent ∷ []; frame = None; node = node }) (visit_step (Injected (record { source = node.here; serial = node.serial }) b ∷ []) (next_serial node) (injected_packet node c b o))).acts ≤ b
+    by : (t : Bool)
+        → Acts (cond t (record { acts = SerialsSpent ∷ []; frame = None; node = node })
+        (visit_step (Injected (record { source = node.here; serial = node.serial }) b ∷ []) (next_serial node) (injected_packet node c b o))).acts ≤ b
     by true = omega arith
     by false = omega (arith, visited_quiet (Injected (record { source = node.here; serial = node.serial }) b ∷ []) (next_serial node) (injected_packet node c b o))
 
@@ -117,7 +122,11 @@ packet_quiet : (node : NodeState) (d : Dev) (p : Packet) → Acts (packet_step n
 unfolding packet_step forward_step
 packet_quiet node d p = by (is_host p.dest node.here) (p.bound == 0)
   where
-    by : (t u : Bool) → Acts (cond t (visit_step (Arrived d ∷ []) node p) (cond u (record { acts = Arrived d ∷ Dropped reason.NoBound p.family 0 ∷ []; frame = None; node = node }) (forward_by node d p (hop (all_routes (routing_of node)) p.route node.here p.dest)))).acts ≡ 0
+    by : (t u : Bool)
+        → Acts (cond t (visit_step (Arrived d ∷ []) node p)
+        (cond u (record { acts = Arrived d ∷ Dropped reason.NoBound p.family 0 ∷ []; frame = None; node = node })
+        (forward_by node d p (hop (all_routes (routing_of node)) p.route node.here p.dest)))).acts
+        ≡ 0
     by true u = visited_quiet (Arrived d ∷ []) node p
     by false true = refl
     by false false = by_quiet node d p (hop (all_routes (routing_of node)) p.route node.here p.dest)

@@ -29,7 +29,9 @@ use Rattle.plan_base.specs.declared.tree.Fun.{Fun}
 use Rattle.plan_base.specs.declared.tree.Expr.{Expr-F}
 use Rattle.plan_base.specs.declared.tree.Expr.TheVariants as expr
 use Rattle.plan_types_spec.specs.TypingNames.{place_of, service_of, prim_of}
-use Rattle.plan_meaning.specs.Meaning.{Env, is_paid, bound_of, no_bound, packet, sent_by, send_remote, values_behind, values, tuple, packed_chunk, call, called_name, called_by, served_or, choice, remote, as_bool, as_int, as_host, as_chunk, chunk_at, value_of, bound, entered_function, applied_at, visited_chunk, meaning, opened_at, opened_expression, node, run_to}
+use Rattle.plan_meaning.specs.Meaning.{Env, is_paid, bound_of, no_bound, packet, sent_by, send_remote, values_behind, values, tuple, packed_chunk, call, called_name, called_by, served_or, choice}
+use Rattle.plan_meaning.specs.Meaning.{remote, as_bool, as_int, as_host, as_chunk, chunk_at, value_of, bound, entered_function, applied_at, visited_chunk, meaning, opened_at, opened_expression, node}
+use Rattle.plan_meaning.specs.Meaning.{run_to}
 use Rattle.reliable_ports_world.specs.Only.{Allowed, Good, AnswerFits, Serves, MaySend}
 use Rattle.reliable_ports_world.specs.Visits.{EndsGood}
 
@@ -87,7 +89,9 @@ module _ (a : Allowed) where
   -- a service
   pub only_serve : (ok : Value → Type 0) (d : Svc) (args : List Value) → Serves a d args ok → Only ok (serve d args)
   unfolding serve
-  only_serve ok d args h s g = by (served_call s.services d args s.ctx).answer (subst (λ o. AnswerFits a.note ok (o.serve d args s.ctx s.services.rows).answer) (sym g.offer) (h s.ctx s.services.rows)) (served_call s.services d args s.ctx).rows
+  only_serve ok d args h s g =
+      by (served_call s.services d args s.ctx).answer
+      (subst (λ o. AnswerFits a.note ok (o.serve d args s.ctx s.services.rows).answer) (sym g.offer) (h s.ctx s.services.rows)) (served_call s.services d args s.ctx).rows
     where
       by : (r : Answer) → AnswerFits a.note ok r → (rows : Rows) → EndsGood a ok (answered_call r (record s { services = kept_rows rows s.services }))
       by (Gives v None) e rows = (record { offer = g.offer; sends = g.sends; notes = g.notes }, e.1)
@@ -173,15 +177,21 @@ module _ (a : Allowed) where
   pub gives_tuple : (code : Program) (seen : ℕ) (env : Env) (es : List Expr) (vs : List Value) → Give_values code seen env es vs → Gives_value code seen env (expr.Tuple es) (value.Tuple vs)
   unfolding tuple values
   gives_tuple code seen env es vs h = only_level (λ w. w ≡ value.Tuple vs) code seen env (expr.Tuple es) (Expr-F.Tuple es) (expr.outs-Tuple es)
-      (λ n. only_bind (λ ws. ws ≡ vs) (λ w. w ≡ value.Tuple vs) (values_behind (run_to n) [] code seen env es) (λ ws. pure (value.Tuple ws)) (only_values code seen env [] es vs h n) (λ ws e. only_pure (λ w. w ≡ value.Tuple vs) (value.Tuple ws) (ap value.Tuple e)))
+      (λ n.
+      only_bind (λ ws. ws ≡ vs) (λ w. w ≡ value.Tuple vs) (values_behind (run_to n) [] code seen env es) (λ ws. pure (value.Tuple ws)) (only_values code seen env [] es vs h n) (λ ws e.
+      only_pure (λ w. w ≡ value.Tuple vs) (value.Tuple ws) (ap value.Tuple e)))
 
-  pub gives_chunk : (code : Program) (seen : ℕ) (env : Env) (f : Name) (es : List Expr) (vs : List Value) → Give_values code seen env es vs → Gives_value code seen env (expr.ChunkOf f es) (value.Chunk (record { code = code; entry = f; args = vs }))
+  pub gives_chunk : (code : Program) (seen : ℕ) (env : Env) (f : Name) (es : List Expr) (vs : List Value) → Give_values code seen env es vs
+      → Gives_value code seen env (expr.ChunkOf f es) (value.Chunk (record { code = code; entry = f; args = vs }))
   unfolding packed_chunk values
   gives_chunk code seen env f es vs h = only_level (λ w. w ≡ value.Chunk (record { code = code; entry = f; args = vs })) code seen env (expr.ChunkOf f es) (Expr-F.ChunkOf f es) (expr.outs-ChunkOf f es)
-      (λ n. only_bind (λ ws. ws ≡ vs) (λ w. w ≡ value.Chunk (record { code = code; entry = f; args = vs })) (values_behind (run_to n) [] code seen env es) (λ ws. pure (value.Chunk (record { code = code; entry = f; args = ws }))) (only_values code seen env [] es vs h n)
+      (λ n.
+      only_bind (λ ws. ws ≡ vs) (λ w. w ≡ value.Chunk (record { code = code; entry = f; args = vs })) (values_behind (run_to n) [] code seen env es) (λ ws.
+      pure (value.Chunk (record { code = code; entry = f; args = ws }))) (only_values code seen env [] es vs h n)
       (λ ws e. only_pure (λ w. w ≡ value.Chunk (record { code = code; entry = f; args = vs })) (value.Chunk (record { code = code; entry = f; args = ws })) (ap (λ xs. value.Chunk (record { code = code; entry = f; args = xs })) e)))
 
-  pub calls_service : (ok : Value → Type 0) (code : Program) (seen : ℕ) (env : Env) (f : Name) (d : Svc) (es : List Expr) (vs : List Value) → prim_of f ≡ None → service_of f code.svcs ≡ Some d → Give_values code seen env es vs → Serves a d vs ok
+  pub calls_service : (ok : Value → Type 0) (code : Program) (seen : ℕ) (env : Env) (f : Name) (d : Svc) (es : List Expr) (vs : List Value) → prim_of f ≡ None → service_of f code.svcs ≡ Some d
+      → Give_values code seen env es vs → Serves a d vs ok
       → (n : ℕ) → Only ok (run_to n code seen env (expr.Call f es))
   unfolding call called_name values
   calls_service ok code seen env f d es vs p q h r = only_level ok code seen env (expr.Call f es) (Expr-F.Call f es) (expr.outs-Call f es)
@@ -189,7 +199,8 @@ module _ (a : Allowed) where
       (λ ws e. subst (λ xs. Only ok (called_name (run_to n) code seen f xs)) (sym e)
       (subst (λ o. Only ok (called_by (run_to n) o code seen f vs)) (sym p) (subst (λ o. Only ok (served_or (run_to n) o code seen f vs)) (sym q) (only_serve ok d vs r)))))
 
-  pub chooses : (code : Program) (seen : ℕ) (env : Env) (t x y : Expr) → ((n : ℕ) → Only (λ _. Unit {0}) (run_to n code seen env t)) → ((n : ℕ) → Only (λ _. Unit {0}) (run_to n code seen env x)) → ((n : ℕ) → Only (λ _. Unit {0}) (run_to n code seen env y))
+  pub chooses : (code : Program) (seen : ℕ) (env : Env) (t x y : Expr) → ((n : ℕ) → Only (λ _. Unit {0}) (run_to n code seen env t)) → ((n : ℕ) → Only (λ _. Unit {0}) (run_to n code seen env x))
+      → ((n : ℕ) → Only (λ _. Unit {0}) (run_to n code seen env y))
       → (n : ℕ) → Only (λ _. Unit {0}) (run_to n code seen env (expr.If t x y))
   unfolding choice
   chooses code seen env t x y h k l = only_level (λ _. Unit {0}) code seen env (expr.If t x y) (Expr-F.If t x y) (expr.outs-If t x y)
@@ -204,7 +215,8 @@ module _ (a : Allowed) where
   unfolding as_chunk
   chunk_out k = ap chunk_at (value.outs-Chunk k)
 
-  pub sends_on : (code : Program) (seen : ℕ) (env : Env) (e h b : Expr) (r : Name) (k : Chunk) → Gives_value code seen env e (value.Chunk k) → a.chunk k → ((n : ℕ) → Only (λ _. Unit {0}) (run_to n code seen env h)) → ((n : ℕ) → Only (λ _. Unit {0}) (run_to n code seen env b))
+  pub sends_on : (code : Program) (seen : ℕ) (env : Env) (e h b : Expr) (r : Name) (k : Chunk) → Gives_value code seen env e (value.Chunk k) → a.chunk k
+      → ((n : ℕ) → Only (λ _. Unit {0}) (run_to n code seen env h)) → ((n : ℕ) → Only (λ _. Unit {0}) (run_to n code seen env b))
       → (n : ℕ) → Only (λ _. Unit {0}) (run_to n code seen env (expr.OnRemote e h b r))
   unfolding remote
   sends_on code seen env e h b r k p c q u = only_level (λ _. Unit {0}) code seen env (expr.OnRemote e h b r) (Expr-F.OnRemote e h b r) (expr.outs-OnRemote e h b r)

@@ -29,7 +29,9 @@ use Rattle.reliable_ports_world.specs.Visits.{VisitIsGood, Any}
 use Rattle.reliable_ports_world.proofs.Closed.{data_closed, ack_closed}
 use Rattle.reliable_ports_world.specs.Known.{IsClosed, FrameKnown, StampedKnown, NodeKnown, WorldKnown, LineKnown, EventKnown, ComesKnown}
 use Rattle.reliable_ports_world.proofs.Worlds.{event_known}
-use Rattle.reliable_ports_world.specs.Ports.{PortState, PortEvent, Offer, Transmit, Wire, first_host, second_host, price, int_in, blob_in, pair_with, pair_in, said_to, heard_by, makes, first_pays, second_pays, ack_event, message_event, acks, hears_message, hears_ack, hears_note, hears_line, hears, after, offers_one, transmits, happens_at, port_run, port_begun}
+use Rattle.reliable_ports_world.specs.Ports.{PortState, PortEvent, Offer, Transmit, Wire, first_host, second_host, price, int_in, blob_in, pair_with, pair_in, said_to, heard_by, makes, first_pays}
+use Rattle.reliable_ports_world.specs.Ports.{second_pays, ack_event, message_event, acks, hears_message, hears_ack, hears_note, hears_line, hears, after, offers_one, transmits, happens_at, port_run}
+use Rattle.reliable_ports_world.specs.Ports.{port_begun}
 use Rattle.reliable_ports_world.specs.Allowed.{body_numbered, PortChunk, PortNote, port_allowed, NoNote, PortServes, IsWire}
 
 -- ---- what is allowed grows
@@ -198,7 +200,8 @@ module _ (offer : Offering) where
     hears_on (l ∷ ls) s k h =
         let o = line_on l s k.0 h in
         let t = hears_line l s in
-        hears_on ls t (all_weaker (LineKnown (port_allowed offer s.offers (next_of s.receiver))) (LineKnown (port_allowed offer t.offers (next_of t.receiver))) (line_grows s.offers t.offers (next_of s.receiver) (next_of t.receiver) o.grows) ls k.1) o.together
+        hears_on ls t (all_weaker (LineKnown (port_allowed offer s.offers (next_of s.receiver))) (LineKnown (port_allowed offer t.offers (next_of t.receiver)))
+        (line_grows s.offers t.offers (next_of s.receiver) (next_of t.receiver) o.grows) ls k.1) o.together
 
     after_on : (e : WorldEvent) (s : PortState) → ComesKnown (port_allowed offer s.offers (next_of s.receiver)) e → Together s → Together (after e s)
     after_on e s c h = let k = event_is_known s e c h in hears_on (happens s.world e).lines (makes e s) k.lines (record { receives = h.receives; sends = h.sends; acked = h.acked; world = k.world })
@@ -236,7 +239,11 @@ module _ (offer : Offering) where
       where
         by : (t : Bool) → Together (cond t s (after (message_event seq b) (first_pays s)))
         by true = h
-        by false = after_on (message_event seq b) (first_pays s) (PortChunk.message seq b (same_message seq s.offers ∙ held_message seq b s.offers s.sender h.sends e) refl, refl) (record { receives = h.receives; sends = h.sends; acked = h.acked; world = h.world })
+        by false =
+            after_on (message_event seq b) (first_pays s) (
+              PortChunk.message seq b (same_message seq s.offers ∙ held_message seq b s.offers s.sender h.sends e) refl,
+              refl,
+            ) (record { receives = h.receives; sends = h.sends; acked = h.acked; world = h.world })
 
     event_on : (e : PortEvent) (s : PortState) → IsWire e → Together s → Together (happens_at e s)
     event_on (Offer b) s w h = offer_on b s h

@@ -17,7 +17,8 @@ use Rattle.net_world_spec.specs.Sound.{event_fits}
 use Rattle.net_world.specs.Stands.{WorldStands}
 use Rattle.reliable_ports.specs.Ends.{Body, Sending, number_of, is_full, with_offer, held_at, is_held, with_ack, ack_from, with_message, Receiving}
 use Rattle.reliable_ports.proofs.Held.{none_not_held, some_held}
-use Rattle.reliable_ports_world.specs.Ports.{PortState, first_host, second_host, price, said_to, heard_by, acked_by, makes, first_pays, second_pays, ack_event, message_event, acks, hears_message, hears_ack, hears_note, hears_line, hears, after, offers_one, transmits}
+use Rattle.reliable_ports_world.specs.Ports.{PortState, first_host, second_host, price, said_to, heard_by, acked_by, makes, first_pays, second_pays, ack_event, message_event, acks, hears_message}
+use Rattle.reliable_ports_world.specs.Ports.{hears_ack, hears_note, hears_line, hears, after, offers_one, transmits}
 use Rattle.reliable_ports_world.specs.declared.ports.Ports.{Ports}
 use Rattle.reliable_ports_world.specs.declared.told.PortLine.TheVariants as told
 use Rattle.reliable_ports_world.specs.Told.{told_line, ack_told, message_told, note_told, heard_told, lines_told, wire_told, offer_told, transmit_told}
@@ -70,7 +71,8 @@ module _ {S : Type 0} (stands : S → ServiceState) where
   }
 
   -- the ack was made
-  pub acks_made : (q : Ports S) (n : ℕ) (s : PortState) (k : Chunk) (x : WorldEvent) (old : List ℕ) → 4 ≤ s.second → k ≡ ack_from first_host s.receiver → x ≡ event.Inject second_host k 4 None → PortStands stands q (makes x (second_pays s)) → Goes stands q (acks s) (ack_told n s) old old
+  pub acks_made : (q : Ports S) (n : ℕ) (s : PortState) (k : Chunk) (x : WorldEvent) (old : List ℕ) → 4 ≤ s.second → k ≡ ack_from first_host s.receiver → x ≡ event.Inject second_host k 4 None
+      → PortStands stands q (makes x (second_pays s)) → Goes stands q (acks s) (ack_told n s) old old
   acks_made q n s k x old l e f h = by (nat_lt s.second price) refl
     where
       is : x ≡ ack_event s.receiver
@@ -198,7 +200,8 @@ module _ {S : Type 0} (stands : S → ServiceState) where
     second = c ∙ h.second;
   }
 
-  pub transmit_none : (q : Ports S) (n seq : ℕ) (o : Option Body) (s : PortState) (old new : List ℕ) → o ≡ None → new ≡ old ++ told_line n told.Nothing → PortStands stands q s → Goes stands q (transmits seq o s) (transmit_told n seq o s) old new
+  pub transmit_none : (q : Ports S) (n seq : ℕ) (o : Option Body) (s : PortState) (old new : List ℕ) → o ≡ None → new ≡ old ++ told_line n told.Nothing → PortStands stands q s
+      → Goes stands q (transmits seq o s) (transmit_told n seq o s) old new
   transmit_none q n seq o s old new e x h =
       subst (λ (o : Option Body). Goes stands q (transmits seq o s) (transmit_told n seq o s) old new) (sym e) (record { is = h; text = x })
 
@@ -206,7 +209,8 @@ module _ {S : Type 0} (stands : S → ServiceState) where
   Transmits q n seq b s old new t =
       Goes stands q (cond t s (after (message_event seq b) (first_pays s))) (cond t (told_line n told.NoBound) (wire_told n (message_event seq b) (first_pays s))) old new
 
-  pub transmit_unpaid : (q : Ports S) (n seq : ℕ) (b : Body) (o : Option Body) (s : PortState) (old new : List ℕ) → o ≡ Some b → s.first < 4 → new ≡ old ++ told_line n told.NoBound → PortStands stands q s → Goes stands q (transmits seq o s) (transmit_told n seq o s) old new
+  pub transmit_unpaid : (q : Ports S) (n seq : ℕ) (b : Body) (o : Option Body) (s : PortState) (old new : List ℕ) → o ≡ Some b → s.first < 4 → new ≡ old ++ told_line n told.NoBound
+      → PortStands stands q s → Goes stands q (transmits seq o s) (transmit_told n seq o s) old new
   transmit_unpaid q n seq b o s old new e l x h = subst (λ (o : Option Body). Goes stands q (transmits seq o s) (transmit_told n seq o s) old new) (sym e) (by (nat_lt s.first price) refl)
     where
       by : (t : Bool) → nat_lt s.first price ≡ t → Transmits q n seq b s old new t

@@ -17,7 +17,9 @@ use Rattle.net_world_spec.specs.declared.lines.LinkEnd.{LinkEnd}
 use Rattle.net_world_spec.specs.declared.lines.FrameOnWire.{FrameOnWire}
 use Rattle.net_world_spec.specs.declared.lines.Delivery.{Delivery}
 use Rattle.net_world_spec.specs.declared.lines.Delivery.TheVariants.{Taking, Leaving}
-use Rattle.net_world_spec.specs.World.{WorldState, nothing, lines_at, steps_at, step_at, step_place, steps, place_of, far_end, send_taken, send_at, send_over, send_place, sends, none_before, hand_line, as_handed, wire_after, with_wire, without_frame, wire_place, hand_at, hand_to, hand_frame, hand_place, hands, lose_frame, lose_place, loses, acted_event, happens}
+use Rattle.net_world_spec.specs.World.{WorldState, nothing, lines_at, steps_at, step_at, step_place, steps, place_of, far_end, send_taken, send_at, send_over, send_place, sends, none_before}
+use Rattle.net_world_spec.specs.World.{hand_line, as_handed, wire_after, with_wire, without_frame, wire_place, hand_at, hand_to, hand_frame, hand_place, hands, lose_frame, lose_place, loses}
+use Rattle.net_world_spec.specs.World.{acted_event, happens}
 use Rattle.reliable_ports_world.specs.Only.{Allowed}
 use Rattle.reliable_ports_world.specs.Known.{IsClosed, StampedKnown, NodeKnown, ActKnown, TakenKnown, StepKnown, WorldKnown, LineKnown, EventKnown, ComesKnown}
 use Rattle.reliable_ports_world.proofs.KnownNodes.{all_append, inject_known, stamped_known, take_known, tick_known}

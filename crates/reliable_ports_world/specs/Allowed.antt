@@ -43,7 +43,8 @@ NoNote n = ⊥
 pub record PortServes (offer : Offering) : Type 0 where
   pub host : (h : Host) (ctx : Ctx) (rows : Rows) → AnswerFits NoNote Any (offer.serve this_host_is (value.Host h ∷ []) ctx rows).answer
   pub purse : (ctx : Ctx) (rows : Rows) → AnswerFits NoNote Any (offer.serve get_rb [] ctx rows).answer
-  pub delivers : (p : ℕ) (v : Value) (ctx : Ctx) (rows : Rows) → AnswerFits (λ n. n ≡ Port p v) Any (offer.serve deliver (value.Int (pos p) ∷ v ∷ []) ctx rows).answer
+  pub delivers : (p : ℕ) (v : Value) (ctx : Ctx) (rows : Rows)
+      → AnswerFits (λ n. n ≡ Port p v) Any (offer.serve deliver (value.Int (pos p) ∷ v ∷ []) ctx rows).answer
 
 -- no bytes come from outside, and nothing is injected but by the ends
 abbrev pub IsWire : PortEvent → Type 0

@@ -12,7 +12,8 @@ use Rattle.node_core_spec.specs.declared.acts.Act.TheVariants.{Noted}
 use Rattle.net_world_spec.specs.declared.lines.Line.{Line}
 use Rattle.net_world_spec.specs.declared.lines.Line.TheVariants.{At}
 use Rattle.net_world_spec.specs.World.{WorldState, happens}
-use Rattle.reliable_ports.specs.Ends.{Body, number_of, Sending, Receiving, no_offers, no_messages, is_full, with_offer, held_at, with_ack, next_of, with_message}
+use Rattle.reliable_ports.specs.Ends.{Body, number_of, Sending, Receiving, no_offers, no_messages, is_full, with_offer, held_at, with_ack}
+use Rattle.reliable_ports.specs.Ends.{next_of, with_message}
 use Rattle.reliable_ports.specs.Scripts.{IsPrefix}
 use Rattle.reliable_ports.specs.Programs.{data_chunk, ack_chunk}
 
@@ -83,14 +84,41 @@ acked_by x s = record { offers = s.offers; sender = x; receiver = s.receiver; wo
 
 -- an event of the network
 abbrev pub makes : WorldEvent → PortState → PortState
-makes e s = record { offers = s.offers; sender = s.sender; receiver = s.receiver; world = (happens s.world e).world; first = s.first; second = s.second; events = s.events ++ e ∷ [] }
+makes e s =
+    record {
+      offers = s.offers;
+      sender = s.sender;
+      receiver = s.receiver;
+      world = (happens s.world e).world;
+      first = s.first;
+      second = s.second;
+      events = s.events ++ e ∷ [];
+    }
 
 -- after the first end paid for a message, and the second for an ack
 abbrev pub first_pays : PortState → PortState
-first_pays s = record { offers = s.offers; sender = s.sender; receiver = s.receiver; world = s.world; first = s.first - price; second = s.second; events = s.events }
+first_pays s =
+    record {
+      offers = s.offers;
+      sender = s.sender;
+      receiver = s.receiver;
+      world = s.world;
+      first = s.first - price;
+      second = s.second;
+      events = s.events;
+    }
 
 abbrev pub second_pays : PortState → PortState
-second_pays s = record { offers = s.offers; sender = s.sender; receiver = s.receiver; world = s.world; first = s.first; second = s.second - price; events = s.events }
+second_pays s =
+    record {
+      offers = s.offers;
+      sender = s.sender;
+      receiver = s.receiver;
+      world = s.world;
+      first = s.first;
+      second = s.second - price;
+      events = s.events;
+    }
 
 -- the injection of an ack of all that was delivered
 abbrev pub ack_event : Receiving → WorldEvent
@@ -141,7 +169,15 @@ after e s = hears (happens s.world e).lines (makes e s)
 abbrev pub offers_one : Body → PortState → PortState
 offers_one b s =
     if is_full s.sender then s
-    else record { offers = s.offers ++ b ∷ []; sender = with_offer b s.sender; receiver = s.receiver; world = s.world; first = s.first; second = s.second; events = s.events }
+    else record {
+      offers = s.offers ++ b ∷ [];
+      sender = with_offer b s.sender;
+      receiver = s.receiver;
+      world = s.world;
+      first = s.first;
+      second = s.second;
+      events = s.events;
+    }
 
 -- a message is transmitted, where it is held and the purse pays
 abbrev pub transmits : ℕ → Option Body → PortState → PortState

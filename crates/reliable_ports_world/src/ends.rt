@@ -1,3 +1,4 @@
+//! Writes how two ends stand in the end.
 ghost use Rattle.std.specs.Prelude.{◌≡◌, ◌-◌, ◌++◌, length, OnOk, OnErr};
 ghost use Rattle.reliable_ports_world.specs.Ports.{PortState};
 ghost use Rattle.reliable_ports_world.specs.Texts as spec;

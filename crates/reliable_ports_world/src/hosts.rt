@@ -1,3 +1,4 @@
+//! The network of two ends.
 ghost use Rattle.std.specs.Prelude.{◌≡◌, ◌++◌, ◌∷◌, [], IfOk, OnOk};
 ghost use Rattle.reliable_ports_world.specs.Networks as spec;
 

@@ -1,3 +1,4 @@
+//! Laws of ports over a network: what is delivered, and what is paid.
 ghost use Rattle.std.specs.Prelude.{◌+◌, ℕ, List, []};
 ghost use Rattle.std.specs.List.{AllByRecursion};
 ghost use Rattle.plan_base.specs.declared.ids.Family.{Family};

@@ -1,3 +1,4 @@
+//! Laws of a whole file: messages come in order, and purses are kept.
 ghost use Rattle.command_files.specs.declared.port.PortFile.{PortFile};
 ghost use Rattle.command_files.specs.PortRules.{KeepsPort};
 ghost use Rattle.reliable_ports_world.specs.Keeping.{KeepsOrder, KeepsPurses};

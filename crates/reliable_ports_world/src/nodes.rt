@@ -1,3 +1,4 @@
+//! Laws: a network of known packets stays one.
 ghost use Rattle.std.specs.Prelude.{◌≡◌, ℤ, ℕ, List, None};
 ghost use Rattle.plan_base.specs.declared.ids.Host.{Host};
 ghost use Rattle.service_api.specs.Services.{Offer};

@@ -1,3 +1,4 @@
+//! What a note says to a port.
 ghost use Rattle.std.specs.Prelude.{◌≡◌};
 ghost use Rattle.std.specs.Option.{option_copied, option_map};
 ghost use Rattle.plan_base.specs.declared.tree.Value.{out-Value};

@@ -1,3 +1,4 @@
+//! Two ends, their purses, and the network between them.
 ghost use Rattle.std.specs.Prelude.{◌≡◌, ◌≤◌, ◌<◌, ◌+◌, ◌*◌, ◌^◌, [], length, map, None, IfOk, OnOk};
 ghost use Rattle.plan_base.specs.declared.stamp.Version.TheVariants.{Two};
 ghost use Rattle.network_config.specs.declared.event.WorldEvent.TheVariants as happens;

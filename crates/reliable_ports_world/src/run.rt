@@ -1,3 +1,4 @@
+//! Runs the events of two ends, and writes what they met.
 ghost use Rattle.std.specs.Prelude.{◌≡◌, ◌≤◌, ◌++◌, map, IfOk, OnOk};
 ghost use Rattle.net_world_spec.specs.World.{opening, opening_services};
 ghost use Rattle.reliable_ports_world.specs.Ports.{port_begun, port_run};

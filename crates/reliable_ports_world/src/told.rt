@@ -1,3 +1,4 @@
+//! Writes the line of an event.
 ghost use Rattle.std.specs.Prelude.{◌≡◌, ◌++◌, OnOk, OnErr};
 ghost use Rattle.reliable_ports_world.specs.Told as spec;
 

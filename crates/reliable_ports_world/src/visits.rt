@@ -1,3 +1,4 @@
+//! Laws: what the visits of messages and acks do.
 ghost use Rattle.std.specs.Prelude.{ℤ, pos, ℕ, List};
 ghost use Rattle.plan_base.specs.declared.ids.Host.{Host};
 ghost use Rattle.service_api.specs.Services.{Offer};

@@ -1,3 +1,4 @@
+//! Why a chunk isn't sent.
 ghost use Rattle.std.specs.Prelude.{◌≡◌};
 ghost use Rattle.remote_calls.specs.declared.fault.SendFault.{SendFault as Fault};
 

@@ -1,3 +1,4 @@
+//! The purse, which pays hops and evals.
 ghost use Rattle.std.specs.Prelude.{◌≡◌, ◌+◌, ◌≤◌, IsTrue, Some, None, IfSome, if◌then◌else◌, OnOk, OnErr, false};
 ghost use Rattle.plan_meaning.specs.Meaning.{is_paid, bound_of};
 

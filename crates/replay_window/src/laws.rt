@@ -1,3 +1,4 @@
+//! A law: a stamp that was taken is never fresh again.
 ghost use Rattle.std.specs.Prelude.{◌≡◌, false};
 ghost use Rattle.replay_window.specs.Seen.{Seen, took, seen_after, is_fresh};
 ghost use Rattle.plan_base.specs.declared.stamp.Stamp.{Stamp};

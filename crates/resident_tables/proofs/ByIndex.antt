@@ -22,7 +22,8 @@ module _ {R : Type 0} (key : R → Key) where
 
   -- ---- look-ups
 
-  pub found_read : (k : Key) (xs : List R) (order : List ℕ) (j : ℕ) (x : R) → IsUnique key xs → IsIndex (map key xs) order → j < length order → ◌≡◌ {A = Key} (ranked_at (map key xs) order j) k → x ≡ get_or xs (slice_index order j) x → Some x ≡ first_of_key key k xs
+  pub found_read : (k : Key) (xs : List R) (order : List ℕ) (j : ℕ) (x : R) → IsUnique key xs → IsIndex (map key xs) order → j < length order → ◌≡◌ {A = Key} (ranked_at (map key xs) order j) k
+      → x ≡ get_or xs (slice_index order j) x → Some x ≡ first_of_key key k xs
   found_read k xs order j x u ix h e r = ap Some r ∙ sym (found_at key k xs (slice_index order j) x u (place_within xs order j ix h) (key_read xs (slice_index order j) x (place_within xs order j ix h) ∙ e))
 
   pub found_absent : (k : Key) (xs : List R) (order : List ℕ) (i : ℕ) → IsIndex (map key xs) order → Splits (map key xs) order k i i → first_of_key key k xs ≡ None
@@ -84,7 +85,8 @@ module _ {R : Type 0} (key : R → Key) where
   index_removed xs order j ix h = rw (keys_remove xs (slice_index order j)) (index_less (map key xs) order j ix h)
 
   -- an item's key stands in the index with that item's place
-  pub same_removed : (xs : List R) (order : List ℕ) (j p : ℕ) (x : R) → IsUnique key xs → IsIndex (map key xs) order → j < length order → ◌≡◌ {A = Key} (ranked_at (map key xs) order j) (key x) → p < length xs → x ≡ get_or xs p x → remove xs (slice_index order j) ≡ remove xs p
+  pub same_removed : (xs : List R) (order : List ℕ) (j p : ℕ) (x : R) → IsUnique key xs → IsIndex (map key xs) order → j < length order → ◌≡◌ {A = Key} (ranked_at (map key xs) order j) (key x)
+      → p < length xs → x ≡ get_or xs p x → remove xs (slice_index order j) ≡ remove xs p
   same_removed xs order j p x u ix h e w r = sym (without_found (key x) xs order j u ix h e) ∙ without_at key (key x) xs p x u w (ap key (sym r))
 
   pub present : (xs : List R) (order : List ℕ) (i p : ℕ) (x : R) → IsIndex (map key xs) order → Splits (map key xs) order (key x) i i → p < length xs → x ≡ get_or xs p x → ⊥
@@ -98,7 +100,8 @@ module _ {R : Type 0} (key : R → Key) where
   place_read : (order : List ℕ) (j p : ℕ) → j < length order → p ≡ get_or order j p → p ≡ slice_index order j
   place_read order j p h e = e ∙ get_or_default order j p 0 h
 
-  module _ (xs new : List R) (order : List ℕ) (j p : ℕ) (r : R) (kept : IsUnique key xs × IsIndex (map key xs) order) (spot : (j < length order) × (◌≡◌ {A = Key} (ranked_at (map key xs) order j) (key r))) (e : p ≡ get_or order j p) (f : new ≡ set xs p r) where
+  module _ (xs new : List R) (order : List ℕ) (j p : ℕ) (r : R) (kept : IsUnique key xs × IsIndex (map key xs) order)
+      (spot : (j < length order) × (◌≡◌ {A = Key} (ranked_at (map key xs) order j) (key r))) (e : p ≡ get_or order j p) (f : new ≡ set xs p r) where
     swap_is_set : new ≡ set xs (slice_index order j) r
     swap_is_set = f ∙ ap (λ q. set xs q r) (place_read order j p spot.0 e)
 
@@ -108,7 +111,8 @@ module _ {R : Type 0} (key : R → Key) where
     pub swapped_is : new ≡ put key r xs
     swapped_is = swap_is_set ∙ sym (put_found xs order j r kept.0 kept.1 spot.0 spot.1)
 
-  module _ (xs new : List R) (order later : List ℕ) (i n : ℕ) (r : R) (kept : IsUnique key xs × IsIndex (map key xs) order) (s : Splits (map key xs) order (key r) i i) (e : n ≡ length xs) (f : new ≡ xs ++ r ∷ []) (g : later ≡ insert order i n) where
+  module _ (xs new : List R) (order later : List ℕ) (i n : ℕ) (r : R) (kept : IsUnique key xs × IsIndex (map key xs) order) (s : Splits (map key xs) order (key r) i i) (e : n ≡ length xs)
+      (f : new ≡ xs ++ r ∷ []) (g : later ≡ insert order i n) where
     pub added_kept : IsUnique key new × IsIndex (map key new) later
     added_kept = rw (f, g, e) (put_absent_unique xs order i r kept.0 kept.1 s, put_absent_index xs order i r kept.0 kept.1 s)
 

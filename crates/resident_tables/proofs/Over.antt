@@ -55,7 +55,8 @@ forget_new y z name wanted gone mid new base y-is e f h g =
     forget_one (record { name = name; key = y }) gone new base (h ∙ ap (λ (j : Key). first_of_key gone_key j gone) (sym k)) (g ∙ ap (put gone_key (record { name = name; key = y })) f)
     ∙ ap (λ (j : Key). without_row j (without_all gone base)) k
 
-pub removed_over : (k : Key) (puts later : List Row) (gone new : List Gone) (base : List Row) → without_all new base ≡ without_row k (without_all gone base) → later ≡ without_row k puts → put_all later (without_all new base) ≡ without_row k (put_all puts (without_all gone base))
+pub removed_over : (k : Key) (puts later : List Row) (gone new : List Gone) (base : List Row) → without_all new base ≡ without_row k (without_all gone base) → later ≡ without_row k puts
+    → put_all later (without_all new base) ≡ without_row k (put_all puts (without_all gone base))
 removed_over k puts later gone new base e f = ap (λ ys. put_all ys (without_all new base)) f ∙ (ap (put_all (without_row k puts)) e ∙ sym (without_among k puts (without_all gone base)))
 
 less_bytes : (n s : ℕ) → nat_le n 1048576 ≡ true → nat_le (n - s) 1048576 ≡ true
@@ -66,7 +67,9 @@ less_rows n h = grind (arith, nat_tests)
 
 pub less_within : (o : Option Row) (c : Counts) → within c ≡ true → within (counts_less o c) ≡ true
 less_within None c h = h
-less_within (Some r) c h = and_both (nat_le (c.rows - 1) 1024) (nat_le (c.bytes - row_size r) 1048576) (less_rows c.rows (and_left (nat_le c.rows 1024) (nat_le c.bytes 1048576) h)) (less_bytes c.bytes (row_size r) (and_right (nat_le c.rows 1024) (nat_le c.bytes 1048576) h))
+less_within (Some r) c h =
+    and_both (nat_le (c.rows - 1) 1024) (nat_le (c.bytes - row_size r) 1048576) (less_rows c.rows (and_left (nat_le c.rows 1024) (nat_le c.bytes 1048576) h))
+    (less_bytes c.bytes (row_size r) (and_right (nat_le c.rows 1024) (nat_le c.bytes 1048576) h))
 
 pub removed_counts : (k : Key) (xs : List Row) (o : Option Row) (c d : Counts) → IsUnique row_key xs → o ≡ found_row k xs → c ≡ counts_of xs → within c ≡ true → d ≡ counts_less o c → (d ≡ counts_of (without_row k xs)) × (within d ≡ true)
 removed_counts k xs o c d u e f w h = (

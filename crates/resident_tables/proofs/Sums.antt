@@ -50,7 +50,8 @@ counts_put_is r [] = counts_path _ _ (omega arith) (let s = sum_by-cons row_size
 counts_put_is r (x ∷ xs) = elim (same_or_not (row_key x) (row_key r)) [
   | inl e ↦ rw (found_here row_key (row_key r) x xs e, put_here row_key r x xs e) (counts_path _ _ (omega arith) (let s = sum_by-cons row_size x xs in let t = sum_by-cons row_size r xs in omega arith))
   | inr n ↦ rw (found_on row_key (row_key r) x xs n, put_on row_key r x xs n)
-      (ap (counts_put (found_row (row_key r) xs) (row_size r)) (counts_more x xs) ∙ put_front (found_row (row_key r) xs) (row_size r) x (counts_of xs) (has_row (row_key r) xs) ∙ ap (front x) (counts_put_is r xs) ∙ sym (counts_more x (put_row r xs)))
+      (ap (counts_put (found_row (row_key r) xs) (row_size r)) (counts_more x xs) ∙ put_front (found_row (row_key r) xs) (row_size r) x (counts_of xs) (has_row (row_key r) xs) ∙ ap (front x)
+      (counts_put_is r xs) ∙ sym (counts_more x (put_row r xs)))
 ]
 
 -- ---- a removal

@@ -19,7 +19,16 @@ pub record Layer : Type 0 where
   pub «next» : ℤ
 
 abbrev pub layer_code : Coded Layer
-layer_code = code_by (List Gone × (List Row × (Option Counts × ℤ))) (coded× (coded_list gone.the_row.coded) (coded× (coded_list row.the_row.coded) (coded× (coded_option counts.the_row.coded) coded_ℤ))) (λ o. (o.gone, (o.puts, (o.counted, o.«next»)))) (λ p. record { gone = p.0; puts = p.1.0; counted = p.1.1.0; «next» = p.1.1.1 }) (λ _. refl)
+layer_code = code_by (List Gone × (List Row × (Option Counts × ℤ)))
+    (coded× (coded_list gone.the_row.coded)
+    (coded× (coded_list row.the_row.coded)
+    (coded× (coded_option counts.the_row.coded) coded_ℤ))) (λ o. (o.gone, (o.puts, (o.counted, o.«next»)))) (λ p. record {
+      gone =
+          p.0;
+      puts = p.1.0;
+      counted = p.1.1.0;
+      «next» = p.1.1.1;
+    }) (λ _. refl)
 
 abbrev pub gone_key : Gone → Key
 gone_key g = record { name = g.name; number = g.key }

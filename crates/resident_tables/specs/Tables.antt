@@ -15,7 +15,10 @@ pub record Table : Type 0 where
   pub spare : ℕ
 
 abbrev pub table_code : Coded Table
-table_code = code_by (List Row × (ℤ × ℕ)) (coded× (coded_list row.the_row.coded) (coded× coded_ℤ coded_ℕ)) (λ t. (t.rows, (t.«next», t.spare))) (λ p. record { rows = p.0; «next» = p.1.0; spare = p.1.1 }) (λ _. refl)
+table_code = code_by (List Row × (ℤ × ℕ))
+    (coded× (coded_list row.the_row.coded)
+    (coded× coded_ℤ coded_ℕ)) (λ t. (t.rows, (t.«next», t.spare))) (λ p. record { rows = p.0; «next» = p.1.0; spare = p.1.1 }) (λ _.
+    refl)
 
 -- the row of these parts
 abbrev pub row_of : List ℕ → ℤ → Ty → Value → ℕ → Row

@@ -1,3 +1,4 @@
+//! How many rows and bytes a table has.
 ghost use Rattle.std.specs.Prelude.{◌≡◌, true};
 ghost use Rattle.std.specs.Option.{option_copied};
 ghost use Rattle.resident_tables.specs.Counted.{within, counts_less, counts_put, if_within, HasRow, bytes_after};

@@ -1,3 +1,4 @@
+//! Edits of a list and its index.
 ghost use Rattle.std.specs.Prelude.{◌≡◌, ◌+◌, ◌<◌, ◌≤◌, length, map, slice_set, slice_index};
 ghost use Rattle.std.specs.List.{insert, remove};
 ghost use Rattle.std.specs.Vec.{vec_len, vec_capacity};

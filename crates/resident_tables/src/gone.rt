@@ -1,3 +1,4 @@
+//! The key of a row that was removed.
 use containers::HasKey;
 use plan_base::Text;
 

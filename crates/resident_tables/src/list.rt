@@ -1,3 +1,4 @@
+//! A list of items with keys, with an index by key.
 ghost use Rattle.std.specs.Prelude.{◌≡◌, ◌+◌, ◌<◌, ◌≤◌, [], length, reverse, OnOk, IfOk, IsTrue, ◌↔◌};
 ghost use Rattle.std.specs.List.{remove};
 ghost use Rattle.std.specs.Option.{option_copied};

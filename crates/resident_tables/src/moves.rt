@@ -1,3 +1,4 @@
+//! Moves of rows: puts, removals, expiry and copies.
 ghost use Rattle.std.specs.Prelude.{◌≡◌, ◌≤◌, [], ◌∷◌, ◌++◌, min, IfOk, OnOk, OnErr};
 ghost use Rattle.service_api.specs.Rows.{put_row, without_row, living, rows_size};
 ghost use Rattle.resident_tables.specs.Expiries.{least_expiry};

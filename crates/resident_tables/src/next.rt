@@ -1,3 +1,4 @@
+//! The next key to be given out.
 ghost use Rattle.std.specs.Prelude.{◌≡◌};
 ghost use Rattle.service_api.specs.Rows.{fresh_key, key_after};
 

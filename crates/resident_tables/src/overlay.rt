@@ -1,3 +1,4 @@
+//! The changes of a visit, over the rows of a table.
 ghost use Rattle.std.specs.Prelude.{◌≡◌, ◌≤◌, [], true, None, pos, ◌≤ℤ◌, OnOk, OnErr};
 ghost use Rattle.std.specs.Option.{option_copied};
 ghost use Rattle.containers.specs.Keys.{IsUnique};

@@ -1,3 +1,4 @@
+//! The parts of a row that is to be put.
 ghost use Rattle.std.specs.Prelude.{◌≡◌, min, IfOk};
 ghost use Rattle.service_api.specs.Rows.{row_size};
 ghost use Rattle.resident_tables.specs.PartRows.{part_row};

@@ -1,3 +1,4 @@
+//! A key to look for.
 use containers::HasKey;
 
 /// A key to look for.

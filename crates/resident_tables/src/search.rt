@@ -1,3 +1,4 @@
+//! Searches an index by key.
 ghost use Rattle.std.specs.Prelude.{◌≡◌, ◌<◌, length, map, Option};
 ghost use Rattle.std.specs.Option.{option_copied};
 ghost use Rattle.std.specs.Ordering.{nat_cmp};

@@ -1,3 +1,4 @@
+//! The rows that programs keep on a node.
 ghost use Rattle.std.specs.Prelude.{◌≡◌, ◌≤◌, [], true, pos, ◌≤ℤ◌, OnOk, IfOk};
 ghost use Rattle.std.specs.Option.{option_copied};
 ghost use Rattle.containers.specs.Keys.{IsUnique};

@@ -27,7 +27,8 @@ use Rattle.schedule_text.specs.declared.reading.Stage.TheVariants as stages
 use Rattle.schedule_text.specs.declared.reading.ScheduleFile.{ScheduleFile}
 use Rattle.schedule_text.specs.Answers.{Says, IsRefused, Accepted, Refused}
 use Rattle.schedule_text.specs.Parts.{is_called}
-use Rattle.schedule_text.specs.Schedules.{network_word, frames_line, host_line, link_line, begun_at, program_line, close_program, network_rest, network_line, event_line, with_more, staying, begun_by, step, schedule_of_reading, finish, file_after, schedule_format, nothing_read, schedule_of}
+use Rattle.schedule_text.specs.Schedules.{network_word, frames_line, host_line, link_line, begun_at, program_line, close_program, network_rest, network_line, event_line, with_more, staying, begun_by}
+use Rattle.schedule_text.specs.Schedules.{step, schedule_of_reading, finish, file_after, schedule_format, nothing_read, schedule_of}
 
 -- a stage's program began at a line up to one
 abbrev pub Begun : ℕ → Stage → Type 0
@@ -87,7 +88,9 @@ unfolding network_rest
 rest_begun network.Frames number ws s low = then_keeps (BegunNext number) (frames_line ws s) _ (λ t ht. done_keeps (BegunNext number) (stages.Network, t) tt)
 rest_begun network.Host number ws s low = then_keeps (BegunNext number) (host_line ws s) _ (λ t ht. done_keeps (BegunNext number) (stages.Network, t) tt)
 rest_begun network.Link number ws s low = then_keeps (BegunNext number) (link_line ws s) _ (λ t ht. done_keeps (BegunNext number) (stages.Network, t) tt)
-rest_begun network.Program number ws s low = then_keeps (BegunNext number) (program_line number ws s) _ (λ begun hb. done_keeps (BegunNext number) (stages.Inside begun, s) (omega (arith, opens number ws s begun hb, low), omega (arith, opens number ws s begun hb)))
+rest_begun network.Program number ws s low =
+    then_keeps (BegunNext number) (program_line number ws s) _ (λ begun hb.
+    done_keeps (BegunNext number) (stages.Inside begun, s) (omega (arith, opens number ws s begun hb, low), omega (arith, opens number ws s begun hb)))
 rest_begun network.Events number ws s low = then_keeps (BegunNext number) (end_at ws) _ (λ u hu. done_keeps (BegunNext number) (stages.Events, s) tt)
 
 line_begun : (number : ℕ) (ws : List (List ℕ)) (s : Reading) → 1 ≤ number → IfRead (BegunNext number) (network_line number ws s)
@@ -104,12 +107,16 @@ staying_begun number stage (Err r) b y e = absurd cc
 step_begun : (number : ℕ) (line : List ℕ) (stage : Stage) (s : Reading) → 1 ≤ number → Begun number stage → IfStep (BegunNext number) (step number line stage s)
 unfolding step
 step_begun number line stages.Header s low b = version_keeps (BegunNext number) number (begun_by s) (version_in (codes "planet schedule ") line) (λ version. tt)
-step_begun number line stages.Network s low b = either_keeps (BegunNext number) (is_skipped line) _ _ (step_done (BegunNext number) (stages.Network, s) tt) (at_line_keeps (BegunNext number) number (network_line number (words line) s) (line_begun number (words line) s low))
+step_begun number line stages.Network s low b =
+    either_keeps (BegunNext number) (is_skipped line) _ _ (step_done (BegunNext number) (stages.Network, s) tt)
+    (at_line_keeps (BegunNext number) number (network_line number (words line) s) (line_begun number (words line) s low))
 step_begun number line (stages.Inside begun) s low b =
     either_keeps (BegunNext number) (bytes_eq line (codes "end program")) _ _
     (at_line_keeps (BegunNext number) begun.source.line (staying stages.Network (close_program begun s)) (staying_begun number stages.Network (close_program begun s) tt))
     (step_done (BegunNext number) (stages.Inside (with_more begun line), s) b)
-step_begun number line stages.Events s low b = either_keeps (BegunNext number) (is_skipped line) _ _ (step_done (BegunNext number) (stages.Events, s) tt) (at_line_keeps (BegunNext number) number (staying stages.Events (event_line (words line) s)) (staying_begun number stages.Events (event_line (words line) s) tt))
+step_begun number line stages.Events s low b =
+    either_keeps (BegunNext number) (is_skipped line) _ _ (step_done (BegunNext number) (stages.Events, s) tt)
+    (at_line_keeps (BegunNext number) number (staying stages.Events (event_line (words line) s)) (staying_begun number stages.Events (event_line (words line) s) tt))
 
 -- ---- a whole file
 

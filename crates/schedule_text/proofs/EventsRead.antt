@@ -1,5 +1,6 @@
 -- The events of a schedule are read as they are written.
-use Rattle.std.proofs.Common.{◌≡◌, ℕ, ◌+◌, ◌^◌, ◌<◌, ◌≤◌, Bool, true, false, cond, not, leb, ◌&&◌, List, [], ◌∷◌, ◌++◌, length, map, Option, Some, None, Result, Ok, Err, refl, sym, ap, subst, ◌∙◌, arith, append-nil, append_assoc, length-append}
+use Rattle.std.proofs.Common.{◌≡◌, ℕ, ◌+◌, ◌^◌, ◌<◌, ◌≤◌, Bool, true, false, cond, not, leb, ◌&&◌, List, [], ◌∷◌, ◌++◌, length, map, Option, Some, None, Result, Ok, Err, refl, sym, ap, subst, ◌∙◌}
+use Rattle.std.proofs.Common.{arith, append-nil, append_assoc, length-append}
 use Rattle.std.specs.Prelude.{is_some}
 use Rattle.std.specs.List.{All, find}
 use Rattle.std.specs.Fmt.{decimal}
@@ -68,7 +69,8 @@ found_same : (name : List ℕ) (ps : List NamedText) (p : NamedText) → find (�
 found_same name [] p e = absurd cc
 found_same name (q ∷ qs) p e = by (bytes_eq q.name name) (λ h. found_same name qs p h) e
   where
-    by : (t : Bool) → (find (λ r. bytes_eq r.name name) qs ≡ Some p → find (is_called name) (map titled_program qs) ≡ Some (titled_program p)) → cond t (Some q) (find (λ r. bytes_eq r.name name) qs) ≡ Some p → cond t (Some (titled_program q)) (find (is_called name) (map titled_program qs)) ≡ Some (titled_program p)
+    by : (t : Bool) → (find (λ r. bytes_eq r.name name) qs ≡ Some p → find (is_called name) (map titled_program qs) ≡ Some (titled_program p))
+        → cond t (Some q) (find (λ r. bytes_eq r.name name) qs) ≡ Some p → cond t (Some (titled_program q)) (find (is_called name) (map titled_program qs)) ≡ Some (titled_program p)
     by true more h = let same : q ≡ p = cc in ap (λ r. Some (titled_program r)) same
     by false more h = more h
 
@@ -98,7 +100,8 @@ chunk_ok : (c : Chunk) → not (is_some (refusal_of c)) ≡ true → typed_chunk
 unfolding typed_chunk
 chunk_ok c e = then_ok _ tt _ _ (allowed_ok (not (is_some (refusal_of c))) BadArgument e) refl
 
-handler_ok : (version : Version) (c : Chunk) (handler : Option Name) (text : List ℕ) → MayName version c handler → IsNamed handler → args_of_text text ≡ Some c.args → handler_at version c.code (handler_words handler ++ words text) ≡ Ok (handler, words text)
+handler_ok : (version : Version) (c : Chunk) (handler : Option Name) (text : List ℕ) → MayName version c handler → IsNamed handler → args_of_text text ≡ Some c.args
+    → handler_at version c.code (handler_words handler ++ words text) ≡ Ok (handler, words text)
 unfolding handler_at named_handler
 handler_ok One c None text may named e = refl
 handler_ok One c (Some name) text may named e = absurd cc
@@ -140,7 +143,8 @@ pub record IsReady (ps : List NamedText) (by : Chunk → Written) (s : Reading) 
 abbrev call_words : Written → Chunk → ℕ → Option Name → List (List ℕ)
 call_words w c bound handler = c.entry ∷ decimal bound ∷ (handler_words handler ++ words w.args)
 
-injected_ok : (ps : List NamedText) (by : Chunk → Written) (s : Reading) (h : Host) (c : Chunk) (bound : ℕ) (handler : Option Name) → IsReady ps by s → has_host h s.hosts ≡ true → KeepsInjection s.version c bound handler → IsWritten ps (by c) c → IsNamed handler
+injected_ok : (ps : List NamedText) (by : Chunk → Written) (s : Reading) (h : Host) (c : Chunk) (bound : ℕ) (handler : Option Name) → IsReady ps by s → has_host h s.hosts ≡ true
+    → KeepsInjection s.version c bound handler → IsWritten ps (by c) c → IsNamed handler
     → injected_at s (decimal h.0 ∷ (by c).program ∷ call_words (by c) c bound handler) ≡ Ok (h, c, bound, handler)
 unfolding injected_at
 injected_ok ps by s h c bound handler ready known keeps k named =
@@ -166,7 +170,8 @@ weight_of e = weights (e ∷ [])
 abbrev pub behind_event : Reading → WorldEvent → Reading
 behind_event s e = record (with_event s e) { weight = s.weight + weight_of e }
 
-inject_ok : (ps : List NamedText) (by : Chunk → Written) (s : Reading) (h : Host) (c : Chunk) (bound : ℕ) (handler : Option Name) → IsReady ps by s → has_host h s.hosts ≡ true → KeepsInjection s.version c bound handler → IsWritten ps (by c) c → IsNamed handler
+inject_ok : (ps : List NamedText) (by : Chunk → Written) (s : Reading) (h : Host) (c : Chunk) (bound : ℕ) (handler : Option Name) → IsReady ps by s → has_host h s.hosts ≡ true
+    → KeepsInjection s.version c bound handler → IsWritten ps (by c) c → IsNamed handler
     → s.weight + (1 + chunk_weight c) ≤ 16777216 → inject_line (decimal h.0 ∷ (by c).program ∷ call_words (by c) c bound handler) s ≡ Ok (behind_event s (happens.Inject h c bound handler))
 unfolding inject_line
 inject_ok ps by s h c bound handler ready known keeps k named few =
@@ -250,7 +255,8 @@ event_said ps by s (happens.Raw h d bytes) ready room keeps k few = event_known 
 host_free : (hosts : List HostSpec) (h : Host) → SmallHosts hosts → has_host h hosts ≡ true → (without 32 (decimal h.0) ≡ true) × (without 10 (decimal h.0) ≡ true)
 host_free hosts h small known = number_free h.0 (let n = small h known in omega (arith, n))
 
-pub handler_free : (sep : ℕ) (handler : Option Name) → IsNamed handler → ((w : List ℕ) → is_name w ≡ true → without sep w ≡ true) → without sep (codes "handler") ≡ true → (rest : List (List ℕ)) → Free sep rest → Free sep (handler_words handler ++ rest)
+pub handler_free : (sep : ℕ) (handler : Option Name) → IsNamed handler → ((w : List ℕ) → is_name w ≡ true → without sep w ≡ true) → without sep (codes "handler") ≡ true → (rest : List (List ℕ))
+    → Free sep rest → Free sep (handler_words handler ++ rest)
 handler_free sep None named free word rest k = k
 handler_free sep (Some name) named free word rest k = (word, (free name named, k))
 
@@ -283,7 +289,8 @@ event_line_free ps by version hosts (happens.Raw h d bytes) small keeps k = (ref
 abbrev front_words : Written → Host → Chunk → ℕ → Option Name → List (List ℕ)
 front_words w h c bound handler = decimal h.0 ∷ w.program ∷ c.entry ∷ decimal bound ∷ handler_words handler
 
-event_words_are : (ps : List NamedText) (by : Chunk → Written) (version : Version) (hosts : List HostSpec) (e : WorldEvent) → SmallHosts hosts → KeepsEvent version hosts e → EventIsWritten ps by e → words (spaced_words (event_words by e)) ≡ read_words by e
+event_words_are : (ps : List NamedText) (by : Chunk → Written) (version : Version) (hosts : List HostSpec) (e : WorldEvent) → SmallHosts hosts → KeepsEvent version hosts e → EventIsWritten ps by e
+    → words (spaced_words (event_words by e)) ≡ read_words by e
 event_words_are ps by version hosts (happens.Inject h c bound handler) small keeps k =
     words_rest (codes "inject") (front_words (by c) h c bound handler) (by c).args (
       refl,
@@ -317,7 +324,8 @@ says_something by (happens.Lose n) = refl
 says_something by (happens.Tick h) = refl
 says_something by (happens.Raw h d bytes) = refl
 
-event_step_ok : (line : List ℕ) (ws : List (List ℕ)) (s t : Reading) (number : ℕ) → is_skipped line ≡ false → words line ≡ ws → event_line ws s ≡ said_reading t → schedule_format.step number line (file_at stages.Events s) ≡ Ok (file_at stages.Events t)
+event_step_ok : (line : List ℕ) (ws : List (List ℕ)) (s t : Reading) (number : ℕ) → is_skipped line ≡ false → words line ≡ ws → event_line ws s ≡ said_reading t
+    → schedule_format.step number line (file_at stages.Events s) ≡ Ok (file_at stages.Events t)
 unfolding step
 event_step_ok line ws s t number some are is =
     ap (λ b. file_after (cond b (Ok (stages.Events, s)) (at_line number (staying stages.Events (event_line (words line) s))))) some
@@ -336,7 +344,8 @@ more_weight (happens.Tick h) es = nothing_more (happens.Tick h) es refl
 more_weight (happens.Raw h d bytes) es = nothing_more (happens.Raw h d bytes) es refl
 
 -- events are read behind others
-pub events_read : (ps : List NamedText) (by : Chunk → Written) (rest seen : List WorldEvent) (s : Reading) (weight : ℕ) → IsReady ps by s → length (seen ++ rest) ≤ 50000 → All (KeepsEvent s.version s.hosts) rest → All (EventIsWritten ps by) rest → weight + weights rest ≤ 16777216
+pub events_read : (ps : List NamedText) (by : Chunk → Written) (rest seen : List WorldEvent) (s : Reading) (weight : ℕ) → IsReady ps by s → length (seen ++ rest) ≤ 50000
+    → All (KeepsEvent s.version s.hosts) rest → All (EventIsWritten ps by) rest → weight + weights rest ≤ 16777216
     → Leads (map (λ e. spaced_words (event_words by e)) rest) (file_at stages.Events (with_events s seen weight)) (file_at stages.Events (with_events s (seen ++ rest) (weight + weights rest)))
 events_read ps by [] seen s weight ready few keeps written light =
     let n : weight ≡ weight + weights [] = omega arith in
@@ -352,8 +361,18 @@ events_read ps by (e ∷ rest) seen s weight ready few keeps written light =
     let is_ready : IsReady ps by (with_events s seen weight) = record { programs = ready.programs; small = ready.small } in
     let one = event_said ps by (with_events s seen weight) e is_ready room k w (omega (arith, light, sum)) in
     let most : weight + weight_of e + weights rest ≤ 16777216 = omega (arith, light, sum) in
-    let last = events_read ps by rest (seen ++ e ∷ []) s (weight + weight_of e) ready (subst (λ es. length es ≤ 50000) (sym join) few) (All-tail (KeepsEvent s.version s.hosts) e rest keeps) (All-tail (EventIsWritten ps by) e rest written) most in
-    let moved = subst (λ es. Leads (map (λ x. spaced_words (event_words by x)) rest) (file_at stages.Events (with_events s (seen ++ e ∷ []) (weight + weight_of e))) (file_at stages.Events (with_events s es (weight + weights (e ∷ rest))))) join
-    (subst (λ (n : ℕ). Leads (map (λ x. spaced_words (event_words by x)) rest) (file_at stages.Events (with_events s (seen ++ e ∷ []) (weight + weight_of e))) (file_at stages.Events (with_events s ((seen ++ e ∷ []) ++ rest) n))) sum last) in
-    leads-cons (spaced_words (event_words by e)) (map (λ x. spaced_words (event_words by x)) rest) (file_at stages.Events (with_events s seen weight)) (file_at stages.Events (with_events s (seen ++ e ∷ []) (weight + weight_of e))) (file_at stages.Events (with_events s (seen ++ e ∷ rest) (weight + weights (e ∷ rest))))
-    (λ number. event_step_ok (spaced_words (event_words by e)) (read_words by e) (with_events s seen weight) (with_events s (seen ++ e ∷ []) (weight + weight_of e)) number (says_something by e) (event_words_are ps by s.version s.hosts e ready.small k w) one) moved
+    let last = events_read ps by rest (seen ++ e ∷ []) s (weight + weight_of e) ready (subst (λ es. length es ≤ 50000) (sym join) few) (All-tail (KeepsEvent s.version s.hosts) e rest keeps)
+    (All-tail (EventIsWritten ps by) e rest written) most in
+    let moved = subst (λ es.
+    Leads (map (λ x. spaced_words (event_words by x)) rest)
+    (file_at stages.Events (with_events s (seen ++ e ∷ []) (weight + weight_of e))) (file_at stages.Events (with_events s es (weight + weights (e ∷ rest))))) join
+    (subst
+    (λ (n : ℕ).
+    Leads (map (λ x. spaced_words (event_words by x)) rest)
+    (file_at stages.Events (with_events s (seen ++ e ∷ []) (weight + weight_of e))) (file_at stages.Events (with_events s ((seen ++ e ∷ []) ++ rest) n))) sum last) in
+    leads-cons (spaced_words (event_words by e)) (map (λ x. spaced_words (event_words by x)) rest) (file_at stages.Events (with_events s seen weight))
+    (file_at stages.Events (with_events s (seen ++ e ∷ []) (weight + weight_of e)))
+    (file_at stages.Events (with_events s (seen ++ e ∷ rest) (weight + weights (e ∷ rest))))
+    (λ number.
+    event_step_ok (spaced_words (event_words by e)) (read_words by e) (with_events s seen weight) (with_events s (seen ++ e ∷ []) (weight + weight_of e)) number (says_something by e)
+    (event_words_are ps by s.version s.hosts e ready.small k w) one) moved

@@ -27,7 +27,8 @@ use Rattle.schedule_text.specs.declared.reading.Stage.{Stage}
 use Rattle.schedule_text.specs.declared.reading.Stage.TheVariants as stages
 use Rattle.schedule_text.specs.Answers.{IsRefused}
 use Rattle.schedule_text.specs.Parts.{is_called}
-use Rattle.schedule_text.specs.Schedules.{network_word, frames_line, host_line, link_line, begun_at, program_line, close_program, network_rest, network_line, event_line, staying, begun_by, step, finish, file_after, schedule_format, nothing_read, schedule_of}
+use Rattle.schedule_text.specs.Schedules.{network_word, frames_line, host_line, link_line, begun_at, program_line, close_program, network_rest, network_line, event_line, staying, begun_by, step}
+use Rattle.schedule_text.specs.Schedules.{finish, file_after, schedule_format, nothing_read, schedule_of}
 use Rattle.schedule_text.proofs.AnswerLaws.{refuses}
 use Rattle.schedule_text.specs.Lines.{IsOutside, EndOutside, later_program, later_stage, later_file}
 
@@ -115,7 +116,9 @@ stage_later first number line (stages.Inside begun) s lt =
     (ap (λ r. staying stages.Network r) (close_same first begun s) ∙ staying_later first stages.Network (close_program begun s) refl))
     refl
 stage_later first number line stages.Events s lt =
-    either_later first (is_skipped line) _ _ _ _ refl (at_later first number (staying stages.Events (event_line (words line) s)) (staying stages.Events (event_line (words line) s)) lt (staying_later first stages.Events (event_line (words line) s) refl))
+    either_later first (is_skipped line) _ _ _ _ refl
+    (at_later first number (staying stages.Events (event_line (words line) s)) (staying stages.Events (event_line (words line) s)) lt
+    (staying_later first stages.Events (event_line (words line) s) refl))
 
 end_later : (first number : ℕ) (stage : Stage) (s : Reading) → first < number → finish (number + 1) (later_stage first stage) s ≡ moved_by first (λ t. t) (finish number stage s)
 end_later first number stages.Header s lt = ap (λ (n : ℕ). Err (faults.Line n BadHeader)) (sym (moved_more first number lt))

@@ -134,7 +134,8 @@ hosts_read (h ∷ rest) seen s few differ small lacks =
     let one = host_line_ok h (with_hosts s seen) room (All-head IsNumbered h rest small) (fresh_host seen h rest differ) (All-head LacksEach h rest lacks) in
     let last = subst (λ hs. Leads (map (λ g. spaced_words (host_words g)) rest) (file_at stages.Network (with_hosts s (seen ++ h ∷ []))) (file_at stages.Network (with_hosts s hs))) e
     (hosts_read rest (seen ++ h ∷ []) s (subst (λ hs. length hs ≤ 32) (sym e) few) (subst HostsDiffer (sym e) differ) (All-tail IsNumbered h rest small) (All-tail LacksEach h rest lacks)) in
-    leads-cons (spaced_words (host_words h)) (map (λ g. spaced_words (host_words g)) rest) (file_at stages.Network (with_hosts s seen)) (file_at stages.Network (with_hosts s (seen ++ h ∷ []))) (file_at stages.Network (with_hosts s (seen ++ h ∷ rest)))
+    leads-cons (spaced_words (host_words h)) (map (λ g. spaced_words (host_words g)) rest) (file_at stages.Network (with_hosts s seen)) (file_at stages.Network (with_hosts s (seen ++ h ∷ [])))
+    (file_at stages.Network (with_hosts s (seen ++ h ∷ rest)))
     (λ number. network_step_ok (codes "host") _ (with_hosts s seen) (with_hosts s (seen ++ h ∷ [])) stages.Network number (host_words_free h (All-head IsNumbered h rest small)).0 refl (host_said h (with_hosts s seen) _ number one)) last
 
 -- ---- links
@@ -191,5 +192,6 @@ links_read (l ∷ rest) seen s apart keeps small =
     let one = link_line_ok l (with_links s seen) k n free.0 free.1 in
     let last = subst (λ ls. Leads (map (λ m. spaced_words (link_words m)) rest) (file_at stages.Network (with_links s (seen ++ l ∷ []))) (file_at stages.Network (with_links s ls))) e
     (links_read rest (seen ++ l ∷ []) s (subst LinksApart (sym e) apart) (All-tail (KeepsLink s.hosts) l rest keeps) (All-tail IsSmallLink l rest small)) in
-    leads-cons (spaced_words (link_words l)) (map (λ m. spaced_words (link_words m)) rest) (file_at stages.Network (with_links s seen)) (file_at stages.Network (with_links s (seen ++ l ∷ []))) (file_at stages.Network (with_links s (seen ++ l ∷ rest)))
+    leads-cons (spaced_words (link_words l)) (map (λ m. spaced_words (link_words m)) rest) (file_at stages.Network (with_links s seen)) (file_at stages.Network (with_links s (seen ++ l ∷ [])))
+    (file_at stages.Network (with_links s (seen ++ l ∷ rest)))
     (λ number. network_step_ok (codes "link") _ (with_links s seen) (with_links s (seen ++ l ∷ [])) stages.Network number (link_words_free s.hosts l k n).0 refl (link_said l (with_links s seen) _ number one)) last

@@ -53,7 +53,8 @@ begins_said p s number begun e = then_ok (program_line number (p.name ∷ []) s)
 
 -- ---- the lines of the text
 
-text_step : (line : List ℕ) (begun : BegunProgram) (s : Reading) (number : ℕ) → bytes_eq line (codes "end program") ≡ false → schedule_format.step number line (file_at (stages.Inside begun) s) ≡ Ok (file_at (stages.Inside (with_more begun line)) s)
+text_step : (line : List ℕ) (begun : BegunProgram) (s : Reading) (number : ℕ) → bytes_eq line (codes "end program") ≡ false
+    → schedule_format.step number line (file_at (stages.Inside begun) s) ≡ Ok (file_at (stages.Inside (with_more begun line)) s)
 unfolding step
 text_step line begun s number e = ap (λ b. file_after (cond b (at_line begun.source.line (staying stages.Network (close_program begun s))) (Ok (stages.Inside (with_more begun line), s)))) e
 
@@ -66,7 +67,8 @@ end_step : (begun : BegunProgram) (s : Reading) (program : Program) (number : �
 unfolding step
 end_step begun s program number e = ap (λ r. file_after (at_line begun.source.line (staying stages.Network r))) (close_ok begun s program e)
 
-more_text : (begun : BegunProgram) (line : List ℕ) (text : List (List ℕ)) (program : Program) → program_in (begun.source.text ++ spread (line ∷ text)) ≡ Ok program → program_in ((with_more begun line).source.text ++ spread text) ≡ Ok program
+more_text : (begun : BegunProgram) (line : List ℕ) (text : List (List ℕ)) (program : Program) → program_in (begun.source.text ++ spread (line ∷ text)) ≡ Ok program
+    → program_in ((with_more begun line).source.text ++ spread text) ≡ Ok program
 unfolding spread
 more_text begun line text program e =
     let front = begun.source.text in
@@ -116,7 +118,11 @@ map-push f (y ∷ ys) x = ap (λ z. f y ∷ z) (map-push f ys x)
 -- programs are read behind others
 pub programs_read : (rest seen : List NamedText) (s : Reading) → length (seen ++ rest) ≤ 64 → NamesDiffer (seen ++ rest) → All IsNamedText rest
     → Leads (flat_map program_lines rest) (file_at stages.Network (with_programs s (map titled_program seen))) (file_at stages.Network (with_programs s (map titled_program (seen ++ rest))))
-programs_read [] seen s few differ all = subst (λ ps. Leads [] (file_at stages.Network (with_programs s (map titled_program seen))) (file_at stages.Network (with_programs s (map titled_program ps)))) (sym (append-nil seen)) (leads-nil (file_at stages.Network (with_programs s (map titled_program seen))))
+programs_read [] seen s few differ all =
+    subst (λ ps.
+    Leads [] (file_at stages.Network
+    (with_programs s (map titled_program seen))) (file_at stages.Network (with_programs s (map titled_program ps)))) (sym (append-nil seen)) (leads-nil (file_at stages.Network
+    (with_programs s (map titled_program seen))))
 programs_read (p ∷ rest) seen s few differ all =
     let e : (seen ++ p ∷ []) ++ rest ≡ seen ++ p ∷ rest = append_assoc seen (p ∷ []) rest in
     let room : length (map titled_program seen) < 64 = omega (arith, few, length-append seen (p ∷ rest), map-length titled_program seen) in
@@ -124,4 +130,6 @@ programs_read (p ∷ rest) seen s few differ all =
     let first = subst (λ ps. Leads (program_lines p) (file_at stages.Network (with_programs s (map titled_program seen))) (file_at stages.Network (with_programs s ps))) (map-push titled_program seen p) one in
     let last = subst (λ ps. Leads (flat_map program_lines rest) (file_at stages.Network (with_programs s (map titled_program (seen ++ p ∷ [])))) (file_at stages.Network (with_programs s (map titled_program ps)))) e
     (programs_read rest (seen ++ p ∷ []) s (subst (λ ps. length ps ≤ 64) (sym e) few) (subst NamesDiffer (sym e) differ) (All-tail IsNamedText p rest all)) in
-    leads-append (program_lines p) (flat_map program_lines rest) (file_at stages.Network (with_programs s (map titled_program seen))) (file_at stages.Network (with_programs s (map titled_program (seen ++ p ∷ [])))) (file_at stages.Network (with_programs s (map titled_program (seen ++ p ∷ rest)))) first last
+    leads-append (program_lines p) (flat_map program_lines rest) (file_at stages.Network (with_programs s (map titled_program seen)))
+    (file_at stages.Network (with_programs s (map titled_program (seen ++ p ∷ []))))
+    (file_at stages.Network (with_programs s (map titled_program (seen ++ p ∷ rest)))) first last

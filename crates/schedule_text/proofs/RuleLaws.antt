@@ -51,7 +51,9 @@ use Rattle.schedule_text.specs.declared.reading.Stage.{Stage}
 use Rattle.schedule_text.specs.declared.reading.Stage.TheVariants as stages
 use Rattle.schedule_text.specs.declared.reading.ScheduleFile.{ScheduleFile}
 use Rattle.schedule_text.specs.Parts.{host_at, device_at, free_device_at, is_called, program_at}
-use Rattle.schedule_text.specs.Schedules.{network_word, event_word, is_first, frames_line, host_spec, host_line, link_line, program_line, named_program, close_program, network_rest, network_line, with_event, injected_at, inject_line, send_line, frame_at, deliver_line, repeat_line, lose_line, tick_line, raw_line, event_rest, event_line, staying, begun_by, step, schedule_of_reading, finish, file_after, schedule_format, nothing_read, schedule_of}
+use Rattle.schedule_text.specs.Schedules.{network_word, event_word, is_first, frames_line, host_spec, host_line, link_line, program_line, named_program, close_program, network_rest, network_line}
+use Rattle.schedule_text.specs.Schedules.{with_event, injected_at, inject_line, send_line, frame_at, deliver_line, repeat_line, lose_line, tick_line, raw_line, event_rest, event_line, staying}
+use Rattle.schedule_text.specs.Schedules.{begun_by, step, schedule_of_reading, finish, file_after, schedule_format, nothing_read, schedule_of}
 use Rattle.schedule_text.proofs.FormatLaws.{same}
 use Rattle.line_reader.proofs.NetworkRules.{differ_push, link_stays, event_stays, apart_push}
 
@@ -377,12 +379,16 @@ header_keeps number v s k none = version_keeps KeepsNext number (begun_by s) v (
 step_keeps : (number : ℕ) (line : List ℕ) (stage : Stage) (s : Reading) → Keeps s → Begins stage s → IfStep KeepsNext (step number line stage s)
 unfolding step
 step_keeps number line stages.Header s k b = header_keeps number (version_in (codes "planet schedule ") line) s k b
-step_keeps number line stages.Network s k b = either_keeps KeepsNext (is_skipped line) _ _ (step_done KeepsNext (stages.Network, s) (k, tt)) (at_line_keeps KeepsNext number (network_line number (words line) s) (network_keeps number (words line) s k))
+step_keeps number line stages.Network s k b =
+    either_keeps KeepsNext (is_skipped line) _ _ (step_done KeepsNext (stages.Network, s) (k, tt))
+    (at_line_keeps KeepsNext number (network_line number (words line) s) (network_keeps number (words line) s k))
 step_keeps number line (stages.Inside begun) s k b =
     either_keeps KeepsNext (bytes_eq line (codes "end program")) _ _
     (at_line_keeps KeepsNext begun.source.line (staying stages.Network (close_program begun s)) (staying_keeps stages.Network (close_program begun s) (λ t. tt) (close_keeps begun s k)))
     (step_done KeepsNext _ (k, tt))
-step_keeps number line stages.Events s k b = either_keeps KeepsNext (is_skipped line) _ _ (step_done KeepsNext (stages.Events, s) (k, tt)) (at_line_keeps KeepsNext number (staying stages.Events (event_line (words line) s)) (staying_keeps stages.Events (event_line (words line) s) (λ t. tt) (event_keeps (words line) s k)))
+step_keeps number line stages.Events s k b =
+    either_keeps KeepsNext (is_skipped line) _ _ (step_done KeepsNext (stages.Events, s) (k, tt))
+    (at_line_keeps KeepsNext number (staying stages.Events (event_line (words line) s)) (staying_keeps stages.Events (event_line (words line) s) (λ t. tt) (event_keeps (words line) s k)))
 
 abbrev KeepsFile : ScheduleFile → Type 0
 KeepsFile f = Keeps f.reading × Begins f.stage f.reading

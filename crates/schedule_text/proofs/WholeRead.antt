@@ -91,10 +91,12 @@ module _ (ps : List NamedText) (by : Chunk → Written) (s : Schedule) (is : IsS
   links_small = small_links s.topology.hosts s.topology.links small is.rules.network.links
 
   links_free : Free 10 (map (λ l. spaced_words (link_words l)) s.topology.links)
-  links_free = all_free (λ l. spaced_words (link_words l)) (BothLink s.topology.hosts) (λ l k. line_is (link_words l) (link_words_free s.topology.hosts l k.0 k.1).1) s.topology.links (λ k d h. (is.rules.network.links k d h, links_small k d h))
+  links_free = all_free (λ l. spaced_words (link_words l)) (BothLink s.topology.hosts) (λ l k.
+      line_is (link_words l) (link_words_free s.topology.hosts l k.0 k.1).1) s.topology.links (λ k d h. (is.rules.network.links k d h, links_small k d h))
 
   events_free : Free 10 (map (λ e. spaced_words (event_words by e)) s.events)
-  events_free = all_free (λ e. spaced_words (event_words by e)) (Both ps by s.topology.version s.topology.hosts) (λ e k. line_is (event_words by e) (event_line_free ps by s.topology.version s.topology.hosts e small k.0 k.1)) s.events (λ k d h. (is.rules.events k d h, is.injected k d h))
+  events_free = all_free (λ e. spaced_words (event_words by e)) (Both ps by s.topology.version s.topology.hosts) (λ e k.
+      line_is (event_words by e) (event_line_free ps by s.topology.version s.topology.hosts e small k.0 k.1)) s.events (λ k d h. (is.rules.events k d h, is.injected k d h))
 
   lines_free : Free 10 (schedule_lines ps by s)
   unfolding schedule_lines

@@ -43,7 +43,12 @@ use Rattle.schedule_text.specs.Parts.{host_at, device_at, free_device_at, is_cal
 
 -- the first word of a line of the network
 abbrev pub network_word : List ℕ → Option NetworkWord
-network_word w = if bytes_eq w (codes "frames") then Some network.Frames else (if bytes_eq w (codes "host") then Some network.Host else (if bytes_eq w (codes "link") then Some network.Link else (if bytes_eq w (codes "program") then Some network.Program else (if bytes_eq w (codes "events") then Some network.Events else None))))
+network_word w =
+    if bytes_eq w (codes "frames") then Some network.Frames else
+    (if bytes_eq w (codes "host") then Some network.Host else
+    (if bytes_eq w (codes "link") then Some network.Link else
+    (if bytes_eq w (codes "program") then Some network.Program else
+    (if bytes_eq w (codes "events") then Some network.Events else None))))
 
 -- whether a word is `repeat`, which version 2 alone knows
 abbrev pub is_repeat : Version → List ℕ → Bool
@@ -52,7 +57,13 @@ is_repeat Two w = bytes_eq w (codes "repeat")
 
 -- the first word of an event
 abbrev pub event_word : Version → List ℕ → Option EventWord
-event_word version w = if bytes_eq w (codes "inject") then Some event.Inject else (if bytes_eq w (codes "send") then Some event.Send else (if bytes_eq w (codes "deliver") then Some event.Deliver else (if bytes_eq w (codes "lose") then Some event.Lose else (if bytes_eq w (codes "tick") then Some event.Tick else (if bytes_eq w (codes "raw") then Some event.Raw else (if is_repeat version w then Some event.Repeat else None))))))
+event_word version w =
+    if bytes_eq w (codes "inject") then Some event.Inject else
+    (if bytes_eq w (codes "send") then Some event.Send else
+    (if bytes_eq w (codes "deliver") then Some event.Deliver else
+    (if bytes_eq w (codes "lose") then Some event.Lose else
+    (if bytes_eq w (codes "tick") then Some event.Tick else
+    (if bytes_eq w (codes "raw") then Some event.Raw else (if is_repeat version w then Some event.Repeat else None))))))
 
 -- whether no line of the network was read; a link needs hosts
 abbrev pub is_first : Reading → Bool
@@ -246,7 +257,9 @@ network_step number line s = if is_skipped line then Ok (stages.Network, s) else
 
 -- a line of a program, or the line that ends it
 abbrev pub program_step : List ℕ → BegunProgram → Reading → Result (Stage × Reading) LineFault
-program_step line begun s = if bytes_eq line (codes "end program") then at_line begun.source.line (staying stages.Network (close_program begun s)) else Ok (stages.Inside (with_more begun line), s)
+program_step line begun s =
+    if bytes_eq line (codes "end program") then at_line begun.source.line (staying stages.Network (close_program begun s)) else Ok
+    (stages.Inside (with_more begun line), s)
 
 -- an event
 abbrev pub event_step : ℕ → List ℕ → Reading → Result (Stage × Reading) LineFault
@@ -279,7 +292,10 @@ schedule_format = record { step = λ number line f. file_after (step number line
 
 -- nothing read yet
 abbrev pub nothing_read : ScheduleFile
-nothing_read = record { stage = stages.Header; reading = record { version = One; frames = false; hosts = []; links = []; programs = []; events = []; weight = 0 } }
+nothing_read = record {
+  stage = stages.Header;
+  reading = record { version = One; frames = false; hosts = []; links = []; programs = []; events = []; weight = 0 };
+}
 
 -- what a file says: its schedule, or its first line outside the format with the reason
 unfoldable pub schedule_of : List ℕ → Result Schedule LineFault

@@ -65,7 +65,8 @@ handler_words (Some name) = codes "handler" ∷ name ∷ []
 
 -- an event; the arguments of an injection are the rest of its line
 abbrev pub event_words : (Chunk → Written) → WorldEvent → List (List ℕ)
-event_words by (happens.Inject h chunk bound handler) = codes "inject" ∷ decimal h.0 ∷ (by chunk).program ∷ chunk.entry ∷ decimal bound ∷ (handler_words handler ++ (by chunk).args ∷ [])
+event_words by (happens.Inject h chunk bound handler) =
+    codes "inject" ∷ decimal h.0 ∷ (by chunk).program ∷ chunk.entry ∷ decimal bound ∷ (handler_words handler ++ (by chunk).args ∷ [])
 event_words by (happens.Send h d) = codes "send" ∷ decimal h.0 ∷ decimal d.0 ∷ []
 event_words by (happens.Deliver k) = codes "deliver" ∷ decimal k ∷ []
 event_words by (happens.Repeat k) = codes "repeat" ∷ decimal k ∷ []
@@ -88,7 +89,10 @@ frames_lines false = []
 -- a schedule line by line: the header, hosts, links, programs, and then the events
 unfoldable pub schedule_lines : List NamedText → (Chunk → Written) → Schedule → List (List ℕ)
 schedule_lines programs by s =
-    header_line s.topology.version ∷ (frames_lines s.frames ++ (map (λ h. spaced_words (host_words h)) s.topology.hosts ++ (map (λ l. spaced_words (link_words l)) s.topology.links
+    header_line s.topology.version ∷
+    (
+    frames_lines s.frames
+    ++ (map (λ h. spaced_words (host_words h)) s.topology.hosts ++ (map (λ l. spaced_words (link_words l)) s.topology.links
     ++ (flat_map program_lines programs ++ (codes "events" ∷ map (λ e. spaced_words (event_words by e)) s.events)))))
 
 -- a schedule as a text

@@ -1,3 +1,4 @@
+//! Reads the events of a schedule.
 ghost use Rattle.std.specs.Prelude.{◌≡◌};
 ghost use Rattle.line_reader.specs.Reads.{Leaves, Gives};
 ghost use Rattle.schedule_text.specs.Schedules.{injected_at, inject_line, send_line, frame_at, deliver_line, repeat_line, lose_line, tick_line, raw_line, event_rest, event_line};

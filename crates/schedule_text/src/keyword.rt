@@ -1,3 +1,4 @@
+//! The first words of a schedule's lines.
 ghost use Rattle.std.specs.Prelude.{◌≡◌};
 ghost use Rattle.schedule_text.specs.Schedules as spec;
 ghost use Rattle.schedule_text.specs.Schedules.{network_word, event_word};

@@ -1,3 +1,4 @@
+//! A law: a schedule's text has one answer.
 ghost use Rattle.std.specs.Prelude.{◌≡◌, ◌⊎◌, ℕ, List};
 ghost use Rattle.line_reader.specs.declared.fault.LineReason.{LineReason};
 ghost use Rattle.network_config.specs.declared.schedule.Schedule.{Schedule};

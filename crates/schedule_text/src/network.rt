@@ -1,3 +1,4 @@
+//! Reads the network of a schedule.
 ghost use Rattle.std.specs.Prelude.{◌≡◌};
 ghost use Rattle.line_reader.specs.Reads.{Leaves, Gives};
 ghost use Rattle.schedule_text.specs.Schedules.{is_first, frames_line, host_line, link_line, program_line, close_program, network_rest, network_line};

@@ -1,3 +1,4 @@
+//! The public call: reads a schedule line by line.
 ghost use Rattle.std.specs.Prelude.{◌≡◌, ◌≤◌, ◌⊎◌, length, Ok, Err, IfOk, IfErr, MatchResult};
 ghost use Rattle.line_reader.specs.declared.fault.LineFault.TheVariants.{NoMemory};
 ghost use Rattle.network_config.specs.declared.schedule.Schedule.{Schedule};

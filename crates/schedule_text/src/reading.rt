@@ -1,3 +1,4 @@
+//! What the lines read so far have said.
 ghost use Rattle.std.specs.Prelude.{◌≡◌};
 ghost use Rattle.schedule_text.specs.Schedules.{schedule_of_reading};
 

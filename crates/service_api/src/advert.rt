@@ -1,3 +1,4 @@
+//! What a node tells its neighbours of its routes.
 use containers::Items;
 use plan_base::Host;
 

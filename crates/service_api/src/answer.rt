@@ -1,3 +1,4 @@
+//! What a service answers, and what it tells the owner.
 use containers::Items;
 use plan_base::{Exn, Value};
 

@@ -1,3 +1,4 @@
+//! The context of a visit.
 ghost use Rattle.std.specs.Prelude.{◌≡◌, IfOk};
 
 use crate::router::Router;

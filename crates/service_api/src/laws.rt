@@ -1,3 +1,4 @@
+//! A law: which declarations are instances of a service's type.
 ghost use Rattle.std.specs.Prelude.{◌≡◌, ◌↔◌, Some};
 ghost use Rattle.plan_base.specs.declared.tree.Ty.{Ty};
 ghost use Rattle.plan_base.specs.declared.tree.Svc.{Svc};

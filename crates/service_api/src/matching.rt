@@ -1,3 +1,4 @@
+//! Matches a declared service with the type of an offered one.
 ghost use Rattle.std.specs.Prelude.{◌≡◌, ◌↔◌, Some, IfOk, IsTrue, MatchOption, Option, None, option_copied};
 ghost use Rattle.plan_base.specs.declared.tree.Ty.{Ty as AType};
 ghost use Rattle.service_api.specs.Schemes as spec;

@@ -1,3 +1,4 @@
+//! The packages of services.
 use containers::Items;
 
 /// A package of services.

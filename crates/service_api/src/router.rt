@@ -1,3 +1,4 @@
+//! The routes of a node by host, and the next hop.
 ghost use Rattle.std.specs.Prelude.{◌≡◌, IfOk};
 ghost use Rattle.std.specs.Str.{bytes_eq};
 ghost use Rattle.service_api.specs.Routes as spec;

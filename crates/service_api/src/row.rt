@@ -1,3 +1,4 @@
+//! A row of a table.
 ghost use Rattle.std.specs.Prelude.{◌≡◌, ◌+◌, length, min, IfOk};
 ghost use Rattle.service_api.specs.Rows.{row_key, row_size, is_live};
 

@@ -1,3 +1,4 @@
+//! The types of services, which may leave a place open.
 use containers::Items;
 use plan_base::Ty;
 

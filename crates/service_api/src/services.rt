@@ -1,3 +1,4 @@
+//! What services are, with their laws.
 ghost use Rattle.std.specs.Prelude.{◌≡◌, ◌≤◌, length, IfOk, OnOk, OnErr, IsSome, IsTrue, None};
 ghost use Rattle.service_api.specs.Services.{ServiceState, Answers, AreGoodRows, AreGoodValues, begun_now, made_ready, kept_services, abandoned_services, unexpired_services, IsGoodServe, RefusesOthers};
 

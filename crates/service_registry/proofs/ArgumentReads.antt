@@ -92,7 +92,8 @@ module _ (f : List ℕ → ℤ → Served) (rows : Rows) where
   named_other (x ∷ y ∷ z ∷ zs) h = refl
 
   -- by what its arguments are
-  pub named_by : (args : List Value) (x y : Value) (o : Option (List ℕ)) (p : Option ℤ) → args ≡ x ∷ y ∷ [] → o ≡ text_in (out-Value x) → p ≡ int_in (out-Value y) → Named f rows args ≡ taken_argument (List ℕ) (λ name. taken_argument ℤ (f name) p rows) o rows
+  pub named_by : (args : List Value) (x y : Value) (o : Option (List ℕ)) (p : Option ℤ) → args ≡ x ∷ y ∷ [] → o ≡ text_in (out-Value x) → p ≡ int_in (out-Value y)
+      → Named f rows args ≡ taken_argument (List ℕ) (λ name. taken_argument ℤ (f name) p rows) o rows
   named_by args x y o p e g h =
       ap (Named f rows) e
       ∙ text_read rows (λ name. of_int (f name) (out-Value y) rows) (out-Value x) o g

@@ -28,11 +28,13 @@ pub served_none : (p : InstalledPackages) (svc : Svc) (args : List Value) (ctx :
 unfolding serve
 served_none p svc args ctx rows e = ap (λ (o : Option Service). serve_offered o svc args ctx rows) (sym e)
 
-pub served_some : (p : InstalledPackages) (svc : Svc) (args : List Value) (ctx : Ctx) (rows : Rows) (s : Service) (t : Option Ty) → Some s ≡ offered_service p svc.name → t ≡ instance (type_of s) svc → serve p svc args ctx rows ≡ serve_at t s args ctx rows
+pub served_some : (p : InstalledPackages) (svc : Svc) (args : List Value) (ctx : Ctx) (rows : Rows) (s : Service) (t : Option Ty) → Some s ≡ offered_service p svc.name → t ≡ instance (type_of s) svc
+    → serve p svc args ctx rows ≡ serve_at t s args ctx rows
 unfolding serve
 served_some p svc args ctx rows s t e f = ap (λ (o : Option Service). serve_offered o svc args ctx rows) (sym e) ∙ ap (λ (u : Option Ty). serve_at u s args ctx rows) (sym f)
 
-pub meets_good : (p : InstalledPackages) (svc : Svc) (args : List Value) (ctx : Ctx) (old new : Rows) (r : Result Answer NoMemory) → Meets (serve p svc args ctx old) old r new → AreGoodRows old → AreGoodValues svc.params args → length ctx.neighbours ≤ 8 → AreGoodRows new
+pub meets_good : (p : InstalledPackages) (svc : Svc) (args : List Value) (ctx : Ctx) (old new : Rows) (r : Result Answer NoMemory) → Meets (serve p svc args ctx old) old r new → AreGoodRows old
+    → AreGoodValues svc.params args → length ctx.neighbours ≤ 8 → AreGoodRows new
 meets_good p svc args ctx old new (Ok a) e g ga near = subst (λ (s : Served). AreGoodRows s.rows) e (serve_good p svc args ctx old g ga near).rows
 meets_good p svc args ctx old new (Err x) e g ga near = subst AreGoodRows (sym e) g
 

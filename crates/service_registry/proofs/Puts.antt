@@ -38,7 +38,8 @@ module _ (a : Ty) (ctx : Ctx) (rows : Rows) where
   kept_short name number v life other e h = ap (kept_answer a ctx rows name number v) e ∙ rw h refl
 
   -- the row as it was put is the row of the arguments
-  pub kept_full : (name : List ℕ) (number n : ℤ) (v : Value) (life other : ℤ) (expiry : ℕ) → number ≡ n → life ≡ other → int_lt other (pos 1) ≡ false → expiry ≡ expiry_after ctx.now other → fits (put_row (row_of name n a v expiry) rows.rows) ≡ false → kept_answer a ctx rows name number v life ≡ raised_answer table_full rows
+  pub kept_full : (name : List ℕ) (number n : ℤ) (v : Value) (life other : ℤ) (expiry : ℕ) → number ≡ n → life ≡ other → int_lt other (pos 1) ≡ false → expiry ≡ expiry_after ctx.now other
+      → fits (put_row (row_of name n a v expiry) rows.rows) ≡ false → kept_answer a ctx rows name number v life ≡ raised_answer table_full rows
   kept_full name number n v life other expiry e f h x full =
       (λ i. kept_answer a ctx rows name (e i) v (f i))
       ∙ ap (λ (b : Bool). if b then raised_answer bad_index rows else put_answer (row_of name n a v (expiry_after ctx.now other)) rows) h

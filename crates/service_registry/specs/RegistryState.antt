@@ -17,13 +17,24 @@ pub record RegistryState : Type 0 where
   pub ready : Bool
 
 abbrev pub present_code : Coded InstalledPackages
-present_code = code_by (Bool × (Bool × Bool)) (coded× coded_bool (coded× coded_bool coded_bool)) (λ p. (p.net, (p.resident, p.host))) (λ p. record { net = p.0; resident = p.1.0; host = p.1.1 }) (λ _. refl)
+present_code = code_by (Bool × (Bool × Bool)) (coded× coded_bool (coded× coded_bool coded_bool)) (λ p. (p.net, (p.resident, p.host)))
+    (λ p. record { net = p.0; resident = p.1.0; host = p.1.1 }) (λ _. refl)
 
 abbrev pub rows_code : Coded Rows
-rows_code = code_by (List Row × ℤ) (coded× (coded_list row.the_row.coded) coded_ℤ) (λ r. (r.rows, r.«next»)) (λ p. record { rows = p.0; «next» = p.1 }) (λ _. refl)
+rows_code = code_by (List Row × ℤ) (coded× (coded_list row.the_row.coded) coded_ℤ) (λ r. (r.rows, r.«next»))
+    (λ p. record { rows = p.0; «next» = p.1 }) (λ _. refl)
 
 abbrev pub held_code : Coded RegistryState
-held_code = code_by (InstalledPackages × (Rows × (Option Rows × Bool))) (coded× present_code (coded× rows_code (coded× (coded_option rows_code) coded_bool))) (λ h. (h.there, (h.rows, (h.begun, h.ready)))) (λ p. record { there = p.0; rows = p.1.0; begun = p.1.1.0; ready = p.1.1.1 }) (λ _. refl)
+held_code = code_by (InstalledPackages × (Rows × (Option Rows × Bool)))
+    (coded× present_code
+    (coded× rows_code
+    (coded× (coded_option rows_code) coded_bool))) (λ h. (h.there, (h.rows, (h.begun, h.ready)))) (λ p. record {
+      there =
+          p.0;
+      rows = p.1.0;
+      begun = p.1.1.0;
+      ready = p.1.1.1;
+    }) (λ _. refl)
 
 abbrev pub standing : RegistryState → ServiceState
 standing h = record { offer = offer h.there; rows = h.rows; begun = h.begun; ready = h.ready }

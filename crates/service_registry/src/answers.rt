@@ -1,3 +1,4 @@
+//! The exceptions that services raise.
 ghost use Rattle.plan_base.specs.Words.{IsName};
 ghost use Rattle.service_api.specs.Services as api;
 ghost use Rattle.service_registry_spec.specs.Answers as spec;

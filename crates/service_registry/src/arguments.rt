@@ -1,3 +1,4 @@
+//! Reads arguments of services.
 ghost use Rattle.std.specs.Prelude.{◌≡◌, option_copied};
 ghost use Rattle.plan_base.specs.declared.tree.Value.{out-Value};
 ghost use Rattle.service_registry.specs.Arguments.{host_in, int_in, text_in};

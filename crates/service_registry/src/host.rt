@@ -1,3 +1,4 @@
+//! The services of the owner: `print` and `deliver`.
 ghost use Rattle.plan_base.specs.declared.tree.Ty.{Ty as AType};
 ghost use Rattle.service_api.specs.declared.ctx.Ctx.{Ctx as ACtx};
 ghost use Rattle.service_registry_spec.specs.Answers as spec;

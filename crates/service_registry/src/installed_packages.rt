@@ -1,3 +1,4 @@
+//! Which packages a node has.
 ghost use Rattle.std.specs.Prelude.{◌≡◌};
 ghost use Rattle.service_registry_spec.specs.Beginning.{is_package, is_missing, one_less, present_without};
 ghost use Rattle.service_registry_spec.specs.Offered.{is_there};

@@ -1,3 +1,4 @@
+//! The services of the network.
 ghost use Rattle.std.specs.Prelude.{◌≡◌, IfOk, map};
 ghost use Rattle.plan_base.specs.declared.tree.Ty.{Ty as AType};
 ghost use Rattle.plan_base.specs.declared.tree.Value.TheVariants as value;

@@ -1,3 +1,4 @@
+//! Which service a name is.
 ghost use Rattle.std.specs.Prelude.{◌≡◌, ◌∷◌, []};
 ghost use Rattle.std.specs.Str.{bytes_eq};
 ghost use Rattle.service_registry_spec.specs.Offered as spec;

@@ -1,3 +1,4 @@
+//! The standard services of a node.
 ghost use Rattle.std.specs.Prelude.{◌≡◌, None};
 ghost use Rattle.service_registry_spec.specs.Beginning.{one_less, present_without, opening_standing};
 ghost use Rattle.service_registry.specs.RegistryState.{standing};

@@ -1,3 +1,4 @@
+//! The services of tables.
 ghost use Rattle.std.specs.Prelude.{List};
 ghost use Rattle.plan_base.specs.declared.tree.Ty.{Ty as AType};
 ghost use Rattle.resident_tables.specs.Layers.{IsOver};

@@ -1,3 +1,4 @@
+//! Serves a call by the type at which it was declared.
 ghost use Rattle.std.specs.Prelude.{◌≡◌, IfOk, None};
 ghost use Rattle.std.specs.Option.{option_copied};
 ghost use Rattle.resident_tables.specs.Layers.{IsOver};

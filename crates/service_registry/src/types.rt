@@ -1,3 +1,4 @@
+//! The types of the standard services.
 ghost use Rattle.std.specs.Prelude.{◌≡◌, [], IfOk, OnOk};
 ghost use Rattle.service_registry_spec.specs.Offered as spec;
 

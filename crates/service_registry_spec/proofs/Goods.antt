@@ -28,7 +28,8 @@ use Rattle.service_api.proofs.InstanceLaws.{found_is}
 use Rattle.service_registry_spec.specs.declared.service.Service.{Service}
 use Rattle.service_registry_spec.specs.declared.service.Service.TheVariants as service
 use Rattle.service_registry_spec.specs.Offered.{InstalledPackages, offered_service, name_of, type_of, hop_type}
-use Rattle.service_registry_spec.specs.Answers.{given_answer, noted_answer, raised_answer, without_arguments, of_one, of_two, of_four, of_host, of_int, of_text, key_of, cost_in, distance, hop_answer, put_answer, kept_answer, got_answer, key_answer, delivered_answer, serve_as, no_route, table_full, not_found, expiry_after}
+use Rattle.service_registry_spec.specs.Answers.{given_answer, noted_answer, raised_answer, without_arguments, of_one, of_two, of_four, of_host, of_int, of_text, key_of, cost_in, distance, hop_answer}
+use Rattle.service_registry_spec.specs.Answers.{put_answer, kept_answer, got_answer, key_answer, delivered_answer, serve_as, no_route, table_full, not_found, expiry_after}
 use Rattle.service_registry_spec.specs.Serving.{serve_at, serve_offered, serve}
 use Rattle.service_registry_spec.proofs.Refusals.{offered_is}
 use Rattle.service_registry_spec.proofs.Leaves.{good_unit, good_bool, good_int, good_host}
@@ -111,7 +112,8 @@ module _ (svc : Svc) (rows : Rows) (gr : AreGoodRows rows) where
   two_good t u f g (v ∷ w ∷ []) h = g v w h.1.0
   two_good t u f g (v ∷ w ∷ x ∷ vs) h = refused_good
 
-  four_good : (t u a b : Ty) (f : Value → Value → Value → Value → Served) → ((v w x y : Value) → IsGoodValue a x → IsGoodServed svc (f v w x y)) → (args : List Value) → AreGoodValues (t ∷ u ∷ a ∷ b ∷ []) args → IsGoodServed svc (of_four f args rows)
+  four_good : (t u a b : Ty) (f : Value → Value → Value → Value → Served) → ((v w x y : Value) → IsGoodValue a x → IsGoodServed svc (f v w x y)) → (args : List Value)
+      → AreGoodValues (t ∷ u ∷ a ∷ b ∷ []) args → IsGoodServed svc (of_four f args rows)
   four_good t u a b f g [] h = refused_good
   four_good t u a b f g (v ∷ []) h = refused_good
   four_good t u a b f g (v ∷ w ∷ []) h = refused_good
@@ -139,7 +141,8 @@ module _ (svc : Svc) (rows : Rows) (gr : AreGoodRows rows) where
 
   -- ---- the package resident
 
-  put_if : (r : Row) → svc.result ≡ ty.Unit → MayRaise svc table_full → IsGoodValue r.ty r.value → (b : Bool) → fits (put_row r rows.rows) ≡ b → IsGoodServed svc (if b then given_answer value.Unit (record rows { rows = put_row r rows.rows }) else raised_answer table_full rows)
+  put_if : (r : Row) → svc.result ≡ ty.Unit → MayRaise svc table_full → IsGoodValue r.ty r.value → (b : Bool) → fits (put_row r rows.rows) ≡ b
+      → IsGoodServed svc (if b then given_answer value.Unit (record rows { rows = put_row r rows.rows }) else raised_answer table_full rows)
   put_if r e m g true f = record { answer = (subst (λ (u : Ty). IsGoodValue u value.Unit) (sym e) good_unit, tt); rows = put_good r rows g gr f }
   put_if r e m g false f = raised_good table_full m
 
@@ -167,20 +170,42 @@ module _ (svc : Svc) (rows : Rows) (gr : AreGoodRows rows) where
 abbrev Params : Service → Ty → List Ty
 Params s a = map (stands_for a) (type_of s).params
 
-as_good : (s : Service) (a : Ty) (svc : Svc) (args : List Value) (ctx : Ctx) (rows : Rows) → svc.name ≡ name_of s → svc.result ≡ stands_for a (type_of s).result → AreGoodRows rows → AreGoodValues (Params s a) args → length ctx.neighbours ≤ 8 → IsGoodServed svc (serve_as s a args ctx rows)
+as_good : (s : Service) (a : Ty) (svc : Svc) (args : List Value) (ctx : Ctx) (rows : Rows) → svc.name ≡ name_of s → svc.result ≡ stands_for a (type_of s).result → AreGoodRows rows
+    → AreGoodValues (Params s a) args → length ctx.neighbours ≤ 8 → IsGoodServed svc (serve_as s a args ctx rows)
 as_good service.ThisHost a svc args ctx rows n e gr ga near = none_good svc rows gr _ (given_good svc rows gr ty.Host _ e (good_host ctx.here)) args
 as_good service.ThisHostIs a svc args ctx rows n e gr ga near = one_good svc rows gr ty.Host _ (λ v g. host_good svc rows gr _ (λ h. given_good svc rows gr ty.Bool _ e (good_bool (h.0 == ctx.here.0))) (out-Value v)) args ga
 as_good service.GetRb a svc args ctx rows n e gr ga near = none_good svc rows gr _ (given_good svc rows gr ty.Int _ e (good_int (pos ctx.purse))) args
 as_good service.GetSource a svc args ctx rows n e gr ga near = none_good svc rows gr _ (given_good svc rows gr ty.Host _ e (good_host ctx.source)) args
 as_good service.GetNeighbors a svc args ctx rows n e gr ga near = none_good svc rows gr _ (given_good svc rows gr (ty.List hop_type) _ e (good_hops ctx.neighbours near)) args
-as_good service.GetDist a svc args ctx rows n e gr ga near = one_good svc rows gr ty.Host _ (λ v g. host_good svc rows gr (distance ctx rows) (distance_good svc rows gr e (raises_of svc (name_of service.GetDist) no_route n (1, lit< tt, refl)) ctx) (out-Value v)) args ga
-as_good service.NextHop a svc args ctx rows n e gr ga near = one_good svc rows gr ty.Host _ (λ v g. host_good svc rows gr _ (λ h. hop_good svc rows gr e (raises_of svc (name_of service.NextHop) no_route n (1, lit< tt, refl)) (hop ctx.router default_route ctx.here h)) (out-Value v)) args ga
-as_good service.Put a svc args ctx rows n e gr ga near = four_good svc rows gr ty.Str ty.Int a ty.Int _ (λ v w x y g. text_good svc rows gr _ (λ name. int_good svc rows gr _ (λ z. int_good svc rows gr (kept_answer a ctx rows name z x) (λ life. kept_good svc rows gr a ctx name z x life e (raises_of svc (name_of service.Put) bad_index n (1, lit< tt, refl)) (raises_of svc (name_of service.Put) table_full n (2, lit< tt, refl)) g) (out-Value y)) (out-Value w)) (out-Value v)) args ga
-as_good service.Get a svc args ctx rows n e gr ga near = two_good svc rows gr ty.Str ty.Int _ (λ v w g. text_good svc rows gr _ (λ name. int_good svc rows gr _ (λ z. got_answer_good svc rows gr a (got (key_of name z) a ctx.now rows.rows) e (raises_of svc (name_of service.Get) not_found n (1, lit< tt, refl)) (λ x f. got_good (key_of name z) a ctx.now rows x gr f)) (out-Value w)) (out-Value v)) args ga
-as_good service.Remove a svc args ctx rows n e gr ga near = two_good svc rows gr ty.Str ty.Int _ (λ v w g. text_good svc rows gr _ (λ name. int_good svc rows gr _ (λ z. record { answer = (subst (λ (u : Ty). IsGoodValue u value.Unit) (sym e) good_unit, tt); rows = without_good (key_of name z) rows gr }) (out-Value w)) (out-Value v)) args ga
+as_good service.GetDist a svc args ctx rows n e gr ga near =
+    one_good svc rows gr ty.Host _ (λ v g.
+    host_good svc rows gr (distance ctx rows) (distance_good svc rows gr e (raises_of svc (name_of service.GetDist) no_route n (1, lit< tt, refl)) ctx) (out-Value v)) args ga
+as_good service.NextHop a svc args ctx rows n e gr ga near =
+    one_good svc rows gr ty.Host _ (λ v g.
+    host_good svc rows gr _ (λ h. hop_good svc rows gr e (raises_of svc (name_of service.NextHop) no_route n (1, lit< tt, refl)) (hop ctx.router default_route ctx.here h)) (out-Value v)) args ga
+as_good service.Put a svc args ctx rows n e gr ga near =
+    four_good svc rows gr ty.Str ty.Int a ty.Int _ (λ v w x y g.
+    text_good svc rows gr _ (λ name.
+    int_good svc rows gr _ (λ z.
+    int_good svc rows gr (kept_answer a ctx rows name z x) (λ life.
+    kept_good svc rows gr a ctx name z x life e (raises_of svc (name_of service.Put) bad_index n (1, lit< tt, refl))
+    (raises_of svc (name_of service.Put) table_full n (2, lit< tt, refl)) g) (out-Value y)) (out-Value w)) (out-Value v)) args ga
+as_good service.Get a svc args ctx rows n e gr ga near =
+    two_good svc rows gr ty.Str ty.Int _ (λ v w g.
+    text_good svc rows gr _ (λ name.
+    int_good svc rows gr _ (λ z.
+    got_answer_good svc rows gr a (got (key_of name z) a ctx.now rows.rows) e
+    (raises_of svc (name_of service.Get) not_found n (1, lit< tt, refl)) (λ x f. got_good (key_of name z) a ctx.now rows x gr f)) (out-Value w)) (out-Value v)) args ga
+as_good service.Remove a svc args ctx rows n e gr ga near =
+    two_good svc rows gr ty.Str ty.Int _ (λ v w g.
+    text_good svc rows gr _ (λ name.
+    int_good svc rows gr _ (λ z.
+    record { answer = (subst (λ (u : Ty). IsGoodValue u value.Unit) (sym e) good_unit, tt); rows = without_good (key_of name z) rows gr }) (out-Value w)) (out-Value v)) args ga
 as_good service.GenerateKey a svc args ctx rows n e gr ga near = none_good svc rows gr _ (key_answer_good svc rows gr (fresh_key rows.«next») e (raises_of svc (name_of service.GenerateKey) overflow n (1, lit< tt, refl))) args
 as_good service.Print a svc args ctx rows n e gr ga near = one_good svc rows gr a _ (λ v g. noted_good svc rows gr (Print v) e (a, g)) args ga
-as_good service.Deliver a svc args ctx rows n e gr ga near = two_good svc rows gr ty.Int a _ (λ v w g. int_good svc rows gr _ (λ z. delivered_good svc rows gr a z w e (raises_of svc (name_of service.Deliver) bad_index n (1, lit< tt, refl)) g) (out-Value v)) args ga
+as_good service.Deliver a svc args ctx rows n e gr ga near =
+    two_good svc rows gr ty.Int a _ (λ v w g.
+    int_good svc rows gr _ (λ z. delivered_good svc rows gr a z w e (raises_of svc (name_of service.Deliver) bad_index n (1, lit< tt, refl)) g) (out-Value v)) args ga
 
 -- ---- together
 
@@ -192,13 +217,15 @@ params_good a (x ∷ xs) [] args s g = absurd s
 params_good a (x ∷ xs) (t ∷ ts) [] s g = absurd g
 params_good a (x ∷ xs) (t ∷ ts) (v ∷ vs) s g = (subst (λ (u : Ty). IsGoodValue u v) s.0 g.0, params_good a xs ts vs s.1 g.1)
 
-at_good : (s : Service) (t : Option Ty) (svc : Svc) (args : List Value) (ctx : Ctx) (rows : Rows) → instance (type_of s) svc ≡ t → svc.name ≡ name_of s → AreGoodRows rows → AreGoodValues svc.params args → length ctx.neighbours ≤ 8 → IsGoodServed svc (serve_at t s args ctx rows)
+at_good : (s : Service) (t : Option Ty) (svc : Svc) (args : List Value) (ctx : Ctx) (rows : Rows) → instance (type_of s) svc ≡ t → svc.name ≡ name_of s → AreGoodRows rows
+    → AreGoodValues svc.params args → length ctx.neighbours ≤ 8 → IsGoodServed svc (serve_at t s args ctx rows)
 at_good s (Some a) svc args ctx rows f n gr ga near =
     let i = found_is (type_of s) svc a f in
     as_good s a svc args ctx rows n i.result gr (params_good a (type_of s).params svc.params args i.params ga) near
 at_good s None svc args ctx rows f n gr ga near = refused_good svc rows gr
 
-offered_good : (p : InstalledPackages) (o : Option Service) (svc : Svc) (args : List Value) (ctx : Ctx) (rows : Rows) → offered_service p svc.name ≡ o → AreGoodRows rows → AreGoodValues svc.params args → length ctx.neighbours ≤ 8 → IsGoodServed svc (serve_offered o svc args ctx rows)
+offered_good : (p : InstalledPackages) (o : Option Service) (svc : Svc) (args : List Value) (ctx : Ctx) (rows : Rows) → offered_service p svc.name ≡ o → AreGoodRows rows
+    → AreGoodValues svc.params args → length ctx.neighbours ≤ 8 → IsGoodServed svc (serve_offered o svc args ctx rows)
 offered_good p (Some s) svc args ctx rows e gr ga near = at_good s (instance (type_of s) svc) svc args ctx rows refl (offered_is p svc.name s e) gr ga near
 offered_good p None svc args ctx rows e gr ga near = refused_good svc rows gr
 

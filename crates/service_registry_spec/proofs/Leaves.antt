@@ -30,7 +30,8 @@ good_sized t v w d h s l k = record {
   formed = (λ i. s.formed i && (nat_le (s.deep i) 8 && nat_le (s.nests i) 4)) ∙ ap (λ b. b && true) k;
 }
 
-leaf : (v : Value) (l : ValueLayer) (w : ℕ) → out-Value v ≡ l → weight_level weight chunk_weight l ≡ w → nesting_level nesting chunk_nesting l ≡ 0 → value_depth_level value_depth l ≡ 0 → formed_value_level formed_value formed_chunk l ≡ true → Sized v w 0
+leaf : (v : Value) (l : ValueLayer) (w : ℕ) → out-Value v ≡ l → weight_level weight chunk_weight l ≡ w → nesting_level nesting chunk_nesting l ≡ 0 → value_depth_level value_depth l ≡ 0
+    → formed_value_level formed_value formed_chunk l ≡ true → Sized v w 0
 leaf v l w e a b c d = record {
   weighs = weight_out v ∙ (ap (λ x. weight_level weight chunk_weight x) e ∙ a);
   nests = nesting_out v ∙ (ap (λ x. nesting_level nesting chunk_nesting x) e ∙ b);

@@ -131,12 +131,25 @@ serve_as service.ThisHost a args ctx rows = without_arguments (given_answer (val
 serve_as service.ThisHostIs a args ctx rows = of_one (λ v. of_host (λ h. given_answer (value.Bool (h.0 == ctx.here.0)) rows) (out-Value v) rows) args rows
 serve_as service.GetRb a args ctx rows = without_arguments (given_answer (value.Int (pos ctx.purse)) rows) args rows
 serve_as service.GetSource a args ctx rows = without_arguments (given_answer (value.Host ctx.source) rows) args rows
-serve_as service.GetNeighbors a args ctx rows = without_arguments (given_answer (value.List hop_type (map (λ n. hop_value n.0 n.1) ctx.neighbours)) rows) args rows
+serve_as service.GetNeighbors a args ctx rows =
+    without_arguments (given_answer (value.List hop_type (map (λ n. hop_value n.0 n.1) ctx.neighbours)) rows) args rows
 serve_as service.GetDist a args ctx rows = of_one (λ v. of_host (distance ctx rows) (out-Value v) rows) args rows
 serve_as service.NextHop a args ctx rows = of_one (λ v. of_host (λ h. hop_answer (hop ctx.router default_route ctx.here h) rows) (out-Value v) rows) args rows
-serve_as service.Put a args ctx rows = of_four (λ n k v l. of_text (λ name. of_int (λ number. of_int (kept_answer a ctx rows name number v) (out-Value l) rows) (out-Value k) rows) (out-Value n) rows) args rows
-serve_as service.Get a args ctx rows = of_two (λ n k. of_text (λ name. of_int (λ number. got_answer (got (key_of name number) a ctx.now rows.rows) rows) (out-Value k) rows) (out-Value n) rows) args rows
-serve_as service.Remove a args ctx rows = of_two (λ n k. of_text (λ name. of_int (λ number. given_answer value.Unit (record rows { rows = without_row (key_of name number) rows.rows })) (out-Value k) rows) (out-Value n) rows) args rows
+serve_as service.Put a args ctx rows =
+    of_four (λ n k v l.
+    of_text (λ name.
+    of_int (λ number.
+    of_int (kept_answer a ctx rows name number v) (out-Value l) rows) (out-Value k) rows) (out-Value n) rows) args rows
+serve_as service.Get a args ctx rows =
+    of_two (λ n k.
+    of_text (λ name.
+    of_int (λ number. got_answer (got (key_of name number) a ctx.now rows.rows) rows) (out-Value k) rows) (out-Value n) rows) args rows
+serve_as service.Remove a args ctx rows =
+    of_two (λ n k.
+    of_text (λ name.
+    of_int (λ number.
+    given_answer value.Unit (record rows
+    { rows = without_row (key_of name number) rows.rows })) (out-Value k) rows) (out-Value n) rows) args rows
 serve_as service.GenerateKey a args ctx rows = without_arguments (key_answer (fresh_key rows.«next») rows) args rows
 serve_as service.Print a args ctx rows = of_one (λ v. noted_answer (Print v) rows) args rows
 serve_as service.Deliver a args ctx rows = of_two (λ p v. of_int (λ z. delivered_answer z v rows) (out-Value p) rows) args rows

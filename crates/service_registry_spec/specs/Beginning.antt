@@ -23,7 +23,12 @@ present_without missing = record { net = not (is_missing missing Net); resident 
 
 -- the packages that are there but for this one
 abbrev pub one_less : InstalledPackages → PackageName → InstalledPackages
-one_less p missing = record { net = p.net && not (is_package Net missing); resident = p.resident && not (is_package Resident missing); host = p.host && not (is_package Host missing) }
+one_less p missing =
+    record {
+      net = p.net && not (is_package Net missing);
+      resident = p.resident && not (is_package Resident missing);
+      host = p.host && not (is_package Host missing);
+    }
 
 -- no rows, and 1 as the next key
 abbrev pub no_rows : Rows

@@ -9,7 +9,8 @@ use Rattle.service_api.specs.declared.scheme.Scheme.{Scheme}
 use Rattle.service_api.specs.declared.scheme.SchemeTy.{SchemeTy}
 use Rattle.service_api.specs.declared.scheme.SchemeTy.TheVariants.{Any, Is}
 use Rattle.service_registry_spec.specs.declared.service.Service.{Service}
-use Rattle.service_registry_spec.specs.declared.service.Service.TheVariants.{ThisHost, ThisHostIs, GetRb, GetSource, GetNeighbors, GetDist, NextHop, Put, Get, Remove, GenerateKey, Print, Deliver}
+use Rattle.service_registry_spec.specs.declared.service.Service.TheVariants.{ThisHost, ThisHostIs, GetRb, GetSource, GetNeighbors, GetDist}
+use Rattle.service_registry_spec.specs.declared.service.Service.TheVariants.{NextHop, Put, Get, Remove, GenerateKey, Print, Deliver}
 
 abbrev pub all_services : List Service
 all_services = ThisHost ∷ ThisHostIs ∷ GetRb ∷ GetSource ∷ GetNeighbors ∷ GetDist ∷ NextHop ∷ Put ∷ Get ∷ Remove ∷ GenerateKey ∷ Print ∷ Deliver ∷ []

@@ -1,3 +1,4 @@
+//! Laws of the standard services, as the trait asks for them.
 ghost use Rattle.service_api.specs.Services.{IsGoodServe, RefusesOthers};
 ghost use Rattle.service_registry_spec.specs.Offered.{InstalledPackages};
 ghost use Rattle.service_registry_spec.specs.Serving.{serve, offer};

@@ -219,7 +219,8 @@ chunk_read e name es t d most r l ks = record {
     chunk_operand room n f rest h = took_by (operand_is (expr_to room) room f _ h) (chunk_took room (largest_by expr_depth es) (omega (arith, n, d.depth)) name es r l f rest e t d most h)
 
 -- a tuple
-pub tuple_read : (e a b : Expr) (es : List Expr) → x.Tuple (a ∷ b ∷ es) ≡ e → Measured e (1 + largest_by expr_depth (a ∷ b ∷ es)) (1 + sum_by expr_nodes (a ∷ b ∷ es)) → expr_depth e ≤ 64 → AreRead (largest_by expr_depth (a ∷ b ∷ es)) (a ∷ b ∷ es) → length es ≤ 6
+pub tuple_read : (e a b : Expr) (es : List Expr) → x.Tuple (a ∷ b ∷ es) ≡ e → Measured e (1 + largest_by expr_depth (a ∷ b ∷ es)) (1 + sum_by expr_nodes (a ∷ b ∷ es)) → expr_depth e ≤ 64
+    → AreRead (largest_by expr_depth (a ∷ b ∷ es)) (a ∷ b ∷ es) → length es ≤ 6
     → expr_kinds e ≡ kind.Symbol symbols.ParenOpen ∷ (expr_kinds a ++ (listed_pieces (mark symbols.Comma) (mark symbols.Comma) expr_kinds (b ∷ es) ++ (kind.Symbol symbols.ParenClose ∷ []))) → IsRead e
 tuple_read e a b es t d most r l ks = record {
   starts = starts_by (expr_kinds e) _ ks (paren_starts _);

@@ -117,21 +117,27 @@ module _ (text : List (List ℕ)) (args : List ℕ) (a : AskFile) (is : IsAsk te
 
   from_step : ask_format.step 3 (spaced_words (from_words a)) (state (stages.Wants word.From) a.to 1 0) ≡ Ok (state (stages.Wants word.Bound) a.to a.from 0)
   unfolding ask_step_at wanted_line
-  from_step = usual_again 3 (codes "from") (decimal a.from ∷ []) (state (stages.Wants word.From) a.to 1 0) (state (stages.Wants word.Bound) a.to a.from 0) (λ ws. from_line ws (state (stages.Wants word.From) a.to 1 0)) refl from_clean from_reads
+  from_step = usual_again 3 (codes "from") (decimal a.from ∷ []) (state (stages.Wants word.From) a.to 1 0) (state (stages.Wants word.Bound) a.to a.from 0) (λ ws.
+      from_line ws (state (stages.Wants word.From) a.to 1 0)) refl from_clean from_reads
 
   bound_step : ask_format.step 4 (spaced_words (bound_words a)) (state (stages.Wants word.Bound) a.to a.from 0) ≡ Ok (state (stages.Wants word.Entry) a.to a.from a.bound)
   unfolding ask_step_at wanted_line
-  bound_step = usual_again 4 (codes "bound") (decimal a.bound ∷ []) (state (stages.Wants word.Bound) a.to a.from 0) (state (stages.Wants word.Entry) a.to a.from a.bound) (λ ws. bound_line ws (state (stages.Wants word.Bound) a.to a.from 0)) refl bound_clean bound_reads
+  bound_step = usual_again 4 (codes "bound") (decimal a.bound ∷ []) (state (stages.Wants word.Bound) a.to a.from 0) (state (stages.Wants word.Entry) a.to a.from a.bound) (λ ws.
+      bound_line ws (state (stages.Wants word.Bound) a.to a.from 0)) refl bound_clean bound_reads
 
   entry_step : ask_format.step 5 (spaced_words (entry_words args a)) (state (stages.Wants word.Entry) a.to a.from a.bound) ≡ Ok (called_reading (stages.Wants word.Program) (opened_program 1) None)
   unfolding ask_step_at wanted_line
   entry_step =
-      usual_by 5 (spaced_words (entry_words args a)) (codes "entry" ∷ a.chunk.entry ∷ words args) (state (stages.Wants word.Entry) a.to a.from a.bound) (called_reading (stages.Wants word.Program) (opened_program 1) None) (λ ws. entry_line 5 ws (state (stages.Wants word.Entry) a.to a.from a.bound)) refl
+      usual_by 5 (spaced_words (entry_words args a)) (codes "entry" ∷ a.chunk.entry ∷ words args) (state (stages.Wants word.Entry) a.to a.from a.bound)
+      (called_reading (stages.Wants word.Program) (opened_program 1) None)
+      (λ ws.
+      entry_line 5 ws (state (stages.Wants word.Entry) a.to a.from a.bound)) refl
       (words_rest (codes "entry") (a.chunk.entry ∷ []) args (refl, ((name_free a.chunk.entry is.call.entry).0, tt))) entry_reads
 
   program_step : ask_format.step 6 (codes "program") (called_reading (stages.Wants word.Program) (opened_program 1) None) ≡ Ok (called_reading stages.Inside (opened_program 6) None)
   unfolding ask_step_at wanted_line
-  program_step = usual_again 6 (codes "program") [] (called_reading (stages.Wants word.Program) (opened_program 1) None) (called_reading stages.Inside (opened_program 6) None) (λ ws. program_line 6 ws (called_reading (stages.Wants word.Program) (opened_program 1) None)) refl ((refl, tt), (refl, tt)) program_reads
+  program_step = usual_again 6 (codes "program") [] (called_reading (stages.Wants word.Program) (opened_program 1) None) (called_reading stages.Inside (opened_program 6) None) (λ ws.
+      program_line 6 ws (called_reading (stages.Wants word.Program) (opened_program 1) None)) refl ((refl, tt), (refl, tt)) program_reads
 
   -- ---- the program
 

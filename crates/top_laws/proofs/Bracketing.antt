@@ -105,7 +105,8 @@ sequence_took e a b t d most ra rb room n g rest h =
     then_took _ first (λ na g1 h1 q1. rw (symbol_is symbols.Semicolon g1 second h1) (rw (begins_starts (behind g1) (expr_kinds b) close (behind_is g1 (kind.Symbol symbols.Semicolon) (expr_kinds b ++ close) h1) rb.starts)
     (then_took _ (take_open room (behind g1) (expr_kinds b ++ close) (omega (arith, n)) (behind_is g1 (kind.Symbol symbols.Semicolon) (expr_kinds b ++ close) h1)) (λ u2 g2 h2 q2.
     then_took _ (level_took b rb room (omega (arith, n, d.depth)) levels.Whole (behind g1) close (behind_is g1 (kind.Symbol symbols.Semicolon) (expr_kinds b ++ close) h1) ends_paren) (λ nb g3 h3 q3.
-    took _ g3 h3 (is_over e (x.Then na.tree nb.tree) na.at (both (below_of na) (below_of nb)) (ap (λ z. x.Then z nb.tree) q1.tree ∙ (ap (λ z. x.Then a z) q3.tree ∙ t)) (omega (arith, q1.depth, q3.depth, d.depth)) most (simp length-append (omega (arith, q1.nodes, q3.nodes, d.nodes)))))))))
+    took _ g3 h3 (is_over e (x.Then na.tree nb.tree) na.at (both (below_of na) (below_of nb)) (ap (λ z. x.Then z nb.tree) q1.tree ∙ (ap (λ z. x.Then a z) q3.tree ∙ t))
+    (omega (arith, q1.depth, q3.depth, d.depth)) most (simp length-append (omega (arith, q1.nodes, q3.nodes, d.nodes)))))))))
 
 pub sequence_read : (e a b : Expr) → x.Then a b ≡ e → Measured e (1 + max (expr_depth a) (expr_depth b)) (1 + expr_nodes a + expr_nodes b) → expr_depth e ≤ 64 → IsRead a → IsRead b
     → expr_kinds e ≡ kind.Symbol symbols.ParenOpen ∷ (expr_kinds a ++ (kind.Symbol symbols.Semicolon ∷ (expr_kinds b ++ (kind.Symbol symbols.ParenClose ∷ [])))) → IsRead e
@@ -148,7 +149,9 @@ not_read e a t d most ra ks = record {
     inside (suc room) n g rest h =
         let close : Kinds = kind.Symbol symbols.ParenClose ∷ rest in
         let inner : Level → Reader Node = expr_to room in
-        took_by (whole_is room g) (up_whole inner room g close refl (up_low inner room g close (key_is keys.If g (kind.Key keys.Not ∷ (expr_kinds a ++ close)) h) (up_disjunction inner room g close refl (up_conjunction inner room g close refl
+        took_by (whole_is room g) (
+        up_whole inner room g close refl
+        (up_low inner room g close (key_is keys.If g (kind.Key keys.Not ∷ (expr_kinds a ++ close)) h) (up_disjunction inner room g close refl (up_conjunction inner room g close refl
         (negation_took e a t d most ra room (omega (arith, n)) g rest h)))))
 
 -- ---- an item before a list

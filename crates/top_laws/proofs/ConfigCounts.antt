@@ -22,7 +22,8 @@ use Rattle.node_files.specs.declared.config.TailWord.{TailWord}
 use Rattle.node_files.specs.declared.config.TailWord.TheVariants as tail
 use Rattle.node_files.specs.Nodes.{host_line, hosts_line, neighbour_at}
 use Rattle.node_files.specs.Parts.{behind_word, last_number}
-use Rattle.node_files.specs.Configs.{port_line, free_port, control_line, period_line, log_line, wanted_line, tail_word, may_come, device_line, missing_line, program_line, inject_line, tail_rest, tail_line, close_program, begun_by, config_step_at, config_end, config_format, nothing_read}
+use Rattle.node_files.specs.Configs.{port_line, free_port, control_line, period_line, log_line, wanted_line, tail_word, may_come, device_line, missing_line, program_line, inject_line, tail_rest}
+use Rattle.node_files.specs.Configs.{tail_line, close_program, begun_by, config_step_at, config_end, config_format, nothing_read}
 use Rattle.top_laws.specs.Outside.{IsConfigOutside, ConfigOutside}
 use Rattle.top_laws.specs.Later.{later_config}
 use Rattle.top_laws.specs.Skipping.{SkipsLines}
@@ -121,7 +122,8 @@ close_moved first s = then_changed (later_config first) (program_in s.program.te
 
 -- ---- whole lines
 
-step_moved : (first number : ℕ) (line : List ℕ) (stage : ConfigStage) (s : ConfigReading) → config_step_at stage (moved_line first number) line (later_config first s) ≡ moved_by first (later_config first) (config_step_at stage number line s)
+step_moved : (first number : ℕ) (line : List ℕ) (stage : ConfigStage) (s : ConfigReading)
+    → config_step_at stage (moved_line first number) line (later_config first s) ≡ moved_by first (later_config first) (config_step_at stage number line s)
 unfolding config_step_at
 step_moved first number line stages.Header s = version_moved (codes "planet node ") first number line (later_config first) (begun_by s) (begun_by (later_config first s)) (λ v. refl)
 step_moved first number line (stages.Wants w) s =

@@ -107,7 +107,24 @@ module _ (c : ServeConfig) (rules : KeepsServe c) (named : IsOneWord c.log) wher
 
   -- a state in front of them
   abbrev early : ConfigStage → Host → List Host → ℕ → ℕ → ℕ → List ℕ → ConfigReading
-  early stage h hs port control period log = record { stage = stage; version = c.node.version; here = h; hosts = hs; port = port; control = control; period = period; log = log; neighbours = []; devs = []; missing = []; program = opened_program 1; checked = None; at = []; weight = 0 }
+  early stage h hs port control period log =
+      record {
+        stage = stage;
+        version = c.node.version;
+        here = h;
+        hosts = hs;
+        port = port;
+        control = control;
+        period = period;
+        log = log;
+        neighbours = [];
+        devs = [];
+        missing = [];
+        program = opened_program 1;
+        checked = None;
+        at = [];
+        weight = 0;
+      }
 
   hosts_are_clean : Clean (hosts_words hosts)
   hosts_are_clean = clean_more (codes "hosts") (map (λ h. decimal h.0) hosts) (refl, refl) (hosts_clean hosts rules.node.numbers)
@@ -127,7 +144,8 @@ module _ (c : ServeConfig) (rules : KeepsServe c) (named : IsOneWord c.log) wher
   host_step : (number : ℕ) → config_format.step number (spaced_words (host_words here)) (early (stages.Wants head.Host) (host_of 0) [] 0 0 0 []) ≡ Ok (early (stages.Wants head.Hosts) here [] 0 0 0 [])
   unfolding config_step_at wanted_line
   host_step number =
-      usual_again number (codes "host") (decimal here.0 ∷ []) (early (stages.Wants head.Host) (host_of 0) [] 0 0 0 []) (early (stages.Wants head.Hosts) here [] 0 0 0 []) (λ ws. wanted_line head.Host ws (early (stages.Wants head.Host) (host_of 0) [] 0 0 0 [])) refl (host_clean here here_small)
+      usual_again number (codes "host") (decimal here.0 ∷ []) (early (stages.Wants head.Host) (host_of 0) [] 0 0 0 []) (early (stages.Wants head.Hosts) here [] 0 0 0 []) (λ ws.
+      wanted_line head.Host ws (early (stages.Wants head.Host) (host_of 0) [] 0 0 0 [])) refl (host_clean here here_small)
       (then_ok _ here _ _ (host_reads here here_small) refl)
 
   says_hosts : (ws : List (List ℕ)) → is_skipped (spaced_words (codes "hosts" ∷ ws)) ≡ false
@@ -136,13 +154,15 @@ module _ (c : ServeConfig) (rules : KeepsServe c) (named : IsOneWord c.log) wher
   hosts_step : (number : ℕ) → config_format.step number (spaced_words (hosts_words hosts)) (early (stages.Wants head.Hosts) here [] 0 0 0 []) ≡ Ok (early (stages.Wants head.Port) here hosts 0 0 0 [])
   unfolding config_step_at wanted_line
   hosts_step number =
-      usual_again number (codes "hosts") (map (λ h. decimal h.0) hosts) (early (stages.Wants head.Hosts) here [] 0 0 0 []) (early (stages.Wants head.Port) here hosts 0 0 0 []) (λ ws. wanted_line head.Hosts ws (early (stages.Wants head.Hosts) here [] 0 0 0 [])) (says_hosts (map (λ h. decimal h.0) hosts)) hosts_are_clean
+      usual_again number (codes "hosts") (map (λ h. decimal h.0) hosts) (early (stages.Wants head.Hosts) here [] 0 0 0 []) (early (stages.Wants head.Port) here hosts 0 0 0 []) (λ ws.
+      wanted_line head.Hosts ws (early (stages.Wants head.Hosts) here [] 0 0 0 [])) (says_hosts (map (λ h. decimal h.0) hosts)) hosts_are_clean
       (then_ok _ hosts _ _ (hosts_read here hosts rules.node.few rules.node.ascend rules.node.numbers rules.node.here) refl)
 
   port_step : (number : ℕ) → config_format.step number (spaced_words (port_words c.port)) (early (stages.Wants head.Port) here hosts 0 0 0 []) ≡ Ok (early (stages.Wants head.Control) here hosts c.port 0 0 [])
   unfolding config_step_at wanted_line port_line behind_word
   port_step number =
-      usual_again number (codes "port") (decimal c.port ∷ []) (early (stages.Wants head.Port) here hosts 0 0 0 []) (early (stages.Wants head.Control) here hosts c.port 0 0 []) (λ ws. wanted_line head.Port ws (early (stages.Wants head.Port) here hosts 0 0 0 [])) refl port_are_clean
+      usual_again number (codes "port") (decimal c.port ∷ []) (early (stages.Wants head.Port) here hosts 0 0 0 []) (early (stages.Wants head.Control) here hosts c.port 0 0 []) (λ ws.
+      wanted_line head.Port ws (early (stages.Wants head.Port) here hosts 0 0 0 [])) refl port_are_clean
       (then_ok _ c.port _ _ (last_reads 1 65535 c.port (let few = own_port.1 in omega (arith, few)) own_port.0 own_port.1) refl)
 
   free_ok : (s : ConfigReading) (p : ℕ) (ws : List (List ℕ)) → IsPort p → is_used s p ≡ false → free_port s (decimal p ∷ ws) ≡ Ok (p, ws)
@@ -159,24 +179,51 @@ module _ (c : ServeConfig) (rules : KeepsServe c) (named : IsOneWord c.log) wher
   control_step : (number : ℕ) → config_format.step number (spaced_words (control_words c.control)) (early (stages.Wants head.Control) here hosts c.port 0 0 []) ≡ Ok (early (stages.Wants head.Period) here hosts c.port c.control 0 [])
   unfolding config_step_at wanted_line control_line behind_word
   control_step number =
-      usual_again number (codes "control") (decimal c.control ∷ []) (early (stages.Wants head.Control) here hosts c.port 0 0 []) (early (stages.Wants head.Period) here hosts c.port c.control 0 []) (λ ws. wanted_line head.Control ws (early (stages.Wants head.Control) here hosts c.port 0 0 [])) refl control_are_clean
+      usual_again number (codes "control") (decimal c.control ∷ []) (early (stages.Wants head.Control) here hosts c.port 0 0 []) (early (stages.Wants head.Period) here hosts c.port c.control 0 [])
+      (λ ws.
+      wanted_line head.Control ws (early (stages.Wants head.Control) here hosts c.port 0 0 [])) refl control_are_clean
       (then_ok _ (c.control, []) _ _ (free_ok (early (stages.Wants head.Control) here hosts c.port 0 0 []) c.control [] owners_port control_free) refl)
 
   period_step : (number : ℕ) → config_format.step number (spaced_words (period_words c.period)) (early (stages.Wants head.Period) here hosts c.port c.control 0 []) ≡ Ok (early (stages.Wants head.Log) here hosts c.port c.control c.period [])
   unfolding config_step_at wanted_line period_line behind_word
   period_step number =
-      usual_again number (codes "period") (decimal c.period ∷ []) (early (stages.Wants head.Period) here hosts c.port c.control 0 []) (early (stages.Wants head.Log) here hosts c.port c.control c.period []) (λ ws. wanted_line head.Period ws (early (stages.Wants head.Period) here hosts c.port c.control 0 [])) refl period_are_clean
+      usual_again number (codes "period") (decimal c.period ∷ []) (early (stages.Wants head.Period) here hosts c.port c.control 0 [])
+      (early (stages.Wants head.Log) here hosts c.port c.control c.period [])
+      (λ ws.
+      wanted_line head.Period ws (early (stages.Wants head.Period) here hosts c.port c.control 0 [])) refl period_are_clean
       (then_ok _ c.period _ _ (last_reads 1 60000 c.period (let few = rules.period.1 in omega (arith, few)) rules.period.0 rules.period.1) refl)
 
-  log_step : (number : ℕ) → config_format.step number (spaced_words (log_words c.log)) (early (stages.Wants head.Log) here hosts c.port c.control c.period []) ≡ Ok (early (stages.Tail parts.Devices) here hosts c.port c.control c.period c.log)
+  log_step : (number : ℕ)
+      → config_format.step number (spaced_words (log_words c.log)) (early (stages.Wants head.Log) here hosts c.port c.control c.period [])
+      ≡ Ok (early (stages.Tail parts.Devices) here hosts c.port c.control c.period c.log)
   unfolding config_step_at wanted_line log_line behind_word
   log_step number =
-      usual_again number (codes "log") (c.log ∷ []) (early (stages.Wants head.Log) here hosts c.port c.control c.period []) (early (stages.Tail parts.Devices) here hosts c.port c.control c.period c.log) (λ ws. wanted_line head.Log ws (early (stages.Wants head.Log) here hosts c.port c.control c.period [])) refl log_are_clean
+      usual_again number (codes "log") (c.log ∷ []) (early (stages.Wants head.Log) here hosts c.port c.control c.period [])
+      (early (stages.Tail parts.Devices) here hosts c.port c.control c.period c.log)
+      (λ ws.
+      wanted_line head.Log ws (early (stages.Wants head.Log) here hosts c.port c.control c.period [])) refl log_are_clean
       (then_ok _ (c.log, []) _ _ (file_ok c.log [] rules.log) refl)
 
   -- a state behind them
   abbrev pub state : ConfigStage → List (Host × Dev) → List (Dev × ℕ) → List PackageName → OpenProgram → Option Program → List Injection → ℕ → ConfigReading
-  state stage ns ds missing program checked at weight = record { stage = stage; version = c.node.version; here = here; hosts = hosts; port = c.port; control = c.control; period = c.period; log = c.log; neighbours = ns; devs = ds; missing = missing; program = program; checked = checked; at = at; weight = weight }
+  state stage ns ds missing program checked at weight =
+      record {
+        stage = stage;
+        version = c.node.version;
+        here = here;
+        hosts = hosts;
+        port = c.port;
+        control = c.control;
+        period = c.period;
+        log = c.log;
+        neighbours = ns;
+        devs = ds;
+        missing = missing;
+        program = program;
+        checked = checked;
+        at = at;
+        weight = weight;
+      }
 
   pub head_leads : Leads config_format (head_lines c) nothing_read (state (stages.Tail parts.Devices) [] [] [] (opened_program 1) None [] 0)
   head_leads =
@@ -225,7 +272,8 @@ module _ (c : ServeConfig) (rules : KeepsServe c) (named : IsOneWord c.log) wher
     port : IsPort d.1
     free : is_used (at_devices seen ports) d.1 ≡ false
 
-  device_reads : (seen : List (Host × Dev)) (ports : List (Dev × ℕ)) (n : Host × Dev) (d : Dev × ℕ) → Next seen ports n d → device_line (decimal n.1.0 ∷ decimal n.0.0 ∷ decimal d.1 ∷ []) (at_devices seen ports) ≡ Ok (at_devices (seen ++ n ∷ []) (ports ++ d ∷ []))
+  device_reads : (seen : List (Host × Dev)) (ports : List (Dev × ℕ)) (n : Host × Dev) (d : Dev × ℕ) → Next seen ports n d
+      → device_line (decimal n.1.0 ∷ decimal n.0.0 ∷ decimal d.1 ∷ []) (at_devices seen ports) ≡ Ok (at_devices (seen ++ n ∷ []) (ports ++ d ∷ []))
   unfolding device_line
   device_reads seen ports n d k =
       let behind : placed_items port_device (n.1, d.1) ports ≡ ports ++ d ∷ [] = ap (λ (x : Dev). placed_items port_device (x, d.1) ports) (sym k.same) ∙ placed_last port_device ports d k.below in
@@ -234,10 +282,12 @@ module _ (c : ServeConfig) (rules : KeepsServe c) (named : IsOneWord c.log) wher
       (ap (λ (ns : List (Host × Dev)). Ok (at_devices ns (placed_items port_device (n.1, d.1) ports))) (placed_last device_of seen n k.lower)
       ∙ ap (λ (ds : List (Dev × ℕ)). Ok (at_devices (seen ++ n ∷ []) ds)) behind))
 
-  device_step : (seen : List (Host × Dev)) (ports : List (Dev × ℕ)) (n : Host × Dev) (d : Dev × ℕ) → Next seen ports n d → (number : ℕ) → config_format.step number (spaced_words (device_words n d.1)) (at_devices seen ports) ≡ Ok (at_devices (seen ++ n ∷ []) (ports ++ d ∷ []))
+  device_step : (seen : List (Host × Dev)) (ports : List (Dev × ℕ)) (n : Host × Dev) (d : Dev × ℕ) → Next seen ports n d → (number : ℕ)
+      → config_format.step number (spaced_words (device_words n d.1)) (at_devices seen ports) ≡ Ok (at_devices (seen ++ n ∷ []) (ports ++ d ∷ []))
   unfolding config_step_at tail_line tail_rest
   device_step seen ports n d k number =
-      usual_again number (codes "dev") (decimal n.1.0 ∷ decimal n.0.0 ∷ decimal d.1 ∷ []) (at_devices seen ports) (at_devices (seen ++ n ∷ []) (ports ++ d ∷ [])) (λ ws. tail_line parts.Devices number ws (at_devices seen ports)) refl (device_clean n d.1 k.small k.is.device.1 k.port.1) (device_reads seen ports n d k)
+      usual_again number (codes "dev") (decimal n.1.0 ∷ decimal n.0.0 ∷ decimal d.1 ∷ []) (at_devices seen ports) (at_devices (seen ++ n ∷ []) (ports ++ d ∷ [])) (λ ws.
+      tail_line parts.Devices number ws (at_devices seen ports)) refl (device_clean n d.1 k.small k.is.device.1 k.port.1) (device_reads seen ports n d k)
 
   ports_apart : PortsDiffer (map port_of c.devs)
   ports_apart = rules.apart.1.1
@@ -274,7 +324,8 @@ module _ (c : ServeConfig) (rules : KeepsServe c) (named : IsOneWord c.log) wher
       ∙ (ap (λ (l : List Dev). l ++ d.0 ∷ []) same_above ∙ (ap (λ (x : Dev). map (λ m. m.1) seen ++ x ∷ []) same ∙ map-push {X = Host × Dev} {Y = Dev} (λ m. m.1) seen n))
 
   -- neighbours are read behind others
-  devices_lead : (ns : List (Host × Dev)) (ds : List (Dev × ℕ)) (seen : List (Host × Dev)) (ports : List (Dev × ℕ)) → seen ++ ns ≡ c.node.neighbours → ports ++ ds ≡ c.devs → map (λ e. e.0) ports ≡ map (λ m. m.1) seen → map (λ e. e.0) ds ≡ map (λ m. m.1) ns
+  devices_lead : (ns : List (Host × Dev)) (ds : List (Dev × ℕ)) (seen : List (Host × Dev)) (ports : List (Dev × ℕ)) → seen ++ ns ≡ c.node.neighbours → ports ++ ds ≡ c.devs
+      → map (λ e. e.0) ports ≡ map (λ m. m.1) seen → map (λ e. e.0) ds ≡ map (λ m. m.1) ns
       → Leads config_format (device_lines ns ds) (at_devices seen ports) (at_devices c.node.neighbours c.devs)
   unfolding device_lines
   devices_lead [] [] seen ports all_seen all_ports same_above same =

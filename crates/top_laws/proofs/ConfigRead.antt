@@ -145,7 +145,8 @@ module _ (given : Option ProgramText) (by : Chunk → List ℕ) (c : ServeConfig
       (then_ok _ (seen ++ p ∷ [], []) _ _ (package_reads seen p new) refl))
 
   -- missing packages are read behind others
-  missing_lead : (ps seen : List PackageName) (part : TailPart) → seen ++ ps ≡ c.missing → may_come part tail.Without ≡ true → Leads config_format (map (λ p. spaced_words (missing_words p)) ps) (lacks part seen) (lacks (part_after part ps) c.missing)
+  missing_lead : (ps seen : List PackageName) (part : TailPart) → seen ++ ps ≡ c.missing → may_come part tail.Without ≡ true
+      → Leads config_format (map (λ p. spaced_words (missing_words p)) ps) (lacks part seen) (lacks (part_after part ps) c.missing)
   missing_lead [] seen part e free = subst (λ (l : List PackageName). Leads config_format [] (lacks part seen) (lacks part l)) (sym (append-nil seen) ∙ e) (leads-nil config_format (lacks part seen))
   missing_lead (p ∷ ps) seen part e free =
       leads-cons config_format (spaced_words (missing_words p)) (map (λ q. spaced_words (missing_words q)) ps) (lacks part seen) (lacks parts.Missing (seen ++ p ∷ [])) (lacks (part_after parts.Missing ps) c.missing)
@@ -178,7 +179,8 @@ module _ (given : Option ProgramText) (by : Chunk → List ℕ) (c : ServeConfig
   abbrev behind : ProgramText → OpenProgram → List Injection → ℕ → ConfigReading
   behind p begun at weight = state parts.Behind c.missing begun (Some p.program) at weight
 
-  end_step : (p : ProgramText) (first number : ℕ) → IsTextOf p.program p.text → config_format.step number (codes "end program") (inside (with_text (opened_program first) p.text)) ≡ Ok (behind p (with_text (opened_program first) p.text) [] 0)
+  end_step : (p : ProgramText) (first number : ℕ) → IsTextOf p.program p.text
+      → config_format.step number (codes "end program") (inside (with_text (opened_program first) p.text)) ≡ Ok (behind p (with_text (opened_program first) p.text) [] 0)
   unfolding config_step_at close_program
   end_step p first number k = ap (λ r. at_line first (r >>= λ q. Ok (state parts.Behind c.missing (with_text (opened_program first) p.text) (Some q) [] 0))) k.says
 
@@ -186,8 +188,11 @@ module _ (given : Option ProgramText) (by : Chunk → List ℕ) (c : ServeConfig
   program_leads p k number =
       let last = behind p (with_text (opened_program number) p.text) [] 0 in
       then_lines config_format number (codes "program") _ plain (inside (opened_program number)) last (program_step number)
-      (behind_lines config_format p.text (codes "end program" ∷ []) (number + 1) (inside (opened_program number)) (inside (with_text (opened_program number) p.text)) last (text_leads config_format inside text_step p.text (opened_program number) k.lines (number + 1))
-      (then_lines config_format (number + 1 + length p.text) (codes "end program") [] (inside (with_text (opened_program number) p.text)) last last (end_step p number (number + 1 + length p.text) k) (no_lines config_format (number + 1 + length p.text + 1) last)))
+      (
+      behind_lines config_format p.text (codes "end program" ∷ []) (number + 1) (inside (opened_program number)) (inside (with_text (opened_program number) p.text)) last
+      (text_leads config_format inside text_step p.text (opened_program number) k.lines (number + 1))
+      (then_lines config_format (number + 1 + length p.text) (codes "end program") [] (inside (with_text (opened_program number) p.text)) last last (end_step p number (number + 1 + length p.text) k)
+      (no_lines config_format (number + 1 + length p.text + 1) last)))
 
   -- ---- what is injected
 
@@ -207,11 +212,14 @@ module _ (given : Option ProgramText) (by : Chunk → List ℕ) (c : ServeConfig
       → config_format.step number (spaced_words (inject_words by i)) (behind p begun seen weight) ≡ Ok (behind p begun (seen ++ i ∷ []) (weight + (1 + chunk_weight i.chunk)))
   unfolding config_step_at tail_line tail_rest
   inject_step p begun seen weight i k w few number =
-      usual_by number (spaced_words (inject_words by i)) (codes "at" ∷ read_words by i) (behind p begun seen weight) (behind p begun (seen ++ i ∷ []) (weight + (1 + chunk_weight i.chunk))) (λ ws. tail_line parts.Behind number ws (behind p begun seen weight)) (says_something i) (inject_words_are p by c i k w)
+      usual_by number (spaced_words (inject_words by i)) (codes "at" ∷ read_words by i) (behind p begun seen weight)
+      (behind p begun (seen ++ i ∷ [])
+      (weight + (1 + chunk_weight i.chunk))) (λ ws. tail_line parts.Behind number ws (behind p begun seen weight)) (says_something i) (inject_words_are p by c i k w)
       (inject_reads p begun seen weight i k w few)
 
   -- injections are read behind others
-  injects_lead : (p : ProgramText) (begun : OpenProgram) (rest seen : List Injection) (weight total : ℕ) → seen ++ rest ≡ c.at → weight + weights rest ≡ total → total ≤ 16777216 → All (KeepsInject c.node.version) rest → All (Injected p by) rest
+  injects_lead : (p : ProgramText) (begun : OpenProgram) (rest seen : List Injection) (weight total : ℕ) → seen ++ rest ≡ c.at → weight + weights rest ≡ total → total ≤ 16777216
+      → All (KeepsInject c.node.version) rest → All (Injected p by) rest
       → Leads config_format (map (λ i. spaced_words (inject_words by i)) rest) (behind p begun seen weight) (behind p begun c.at total)
   injects_lead p begun [] seen weight total e sum few k w =
       let same : weight ≡ total = omega (arith, sum) in
@@ -219,7 +227,8 @@ module _ (given : Option ProgramText) (by : Chunk → List ℕ) (c : ServeConfig
       (subst (λ (l : List Injection). Leads config_format [] (behind p begun seen weight) (behind p begun l weight)) (sym (append-nil seen) ∙ e) (leads-nil config_format (behind p begun seen weight)))
   injects_lead p begun (i ∷ rest) seen weight total e sum few k w =
       let next : weight + (1 + chunk_weight i.chunk) + weights rest ≡ total = omega (arith, sum) in
-      leads-cons config_format (spaced_words (inject_words by i)) (map (λ x. spaced_words (inject_words by x)) rest) (behind p begun seen weight) (behind p begun (seen ++ i ∷ []) (weight + (1 + chunk_weight i.chunk))) (behind p begun c.at total)
+      leads-cons config_format (spaced_words (inject_words by i)) (map (λ x. spaced_words (inject_words by x)) rest) (behind p begun seen weight)
+      (behind p begun (seen ++ i ∷ []) (weight + (1 + chunk_weight i.chunk))) (behind p begun c.at total)
       (inject_step p begun seen weight i (All-head (KeepsInject c.node.version) i rest k) (All-head (Injected p by) i rest w) (omega (arith, next, few)))
       (injects_lead p begun rest (seen ++ i ∷ []) (weight + (1 + chunk_weight i.chunk)) total (more_to c.at seen i rest e) next few (All-tail (KeepsInject c.node.version) i rest k) (All-tail (Injected p by) i rest w))
 
@@ -285,7 +294,8 @@ module _ (given : Option ProgramText) (by : Chunk → List ℕ) (c : ServeConfig
       let first = top.state c is.rules is.log (stages.Tail parts.Devices) [] [] [] (opened_program 1) None [] 0 in
       behind_lines config_format (head_lines c) _ 1 nothing_read first whole (top.head_leads c is.rules is.log 1)
       (behind_lines config_format neighbour_lines _ (1 + length (head_lines c)) first (lacks parts.Devices []) whole (top.neighbours_lead c is.rules is.log (1 + length (head_lines c)))
-      (behind_lines config_format missing_lines rest_lines (1 + length (head_lines c) + length neighbour_lines) (lacks parts.Devices []) plain whole (missing_lead c.missing [] parts.Devices refl refl (1 + length (head_lines c) + length neighbour_lines)) says.leads))
+      (behind_lines config_format missing_lines rest_lines (1 + length (head_lines c) + length neighbour_lines) (lacks parts.Devices []) plain whole
+      (missing_lead c.missing [] parts.Devices refl refl (1 + length (head_lines c) + length neighbour_lines)) says.leads))
 
   rest_free : (o : Option ProgramText) → IsGiven o → All (IsInjected o by) c.at → Free 10 (given_lines o ++ injected_lines c.at)
   rest_free None g w = subst (λ (l : List Injection). Free 10 (injected_lines l)) (none_injected c.at w) tt

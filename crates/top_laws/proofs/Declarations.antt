@@ -70,8 +70,11 @@ service_grew : (s : Svc) → IsProperSvc s → length s.params ≤ 8 → (g : Ga
     → Took (with_declaration g f) rest (Grew g (s ∷ []) [] [] 0)
 unfolding with_declaration with_service
 service_grew s p l g n f rest h w =
-    let ks : kinds_at f ≡ kind.Key keys.Svc ∷ kind.Word s.name ∷ kind.Symbol symbols.Colon ∷ kind.Symbol symbols.ParenOpen ∷ (listed_pieces (mark symbols.Comma) [] type_kinds s.params ++ (kind.Symbol symbols.ParenClose ∷ kind.Symbol symbols.Arrow ∷ (type_kinds s.result ++ rest)))
-    = h ∙ ap (λ l. kind.Key keys.Svc ∷ kind.Word s.name ∷ kind.Symbol symbols.Colon ∷ kind.Symbol symbols.ParenOpen ∷ l) (svc_regroup (listed_pieces (mark symbols.Comma) [] type_kinds s.params) (type_kinds s.result) rest (kind.Symbol symbols.ParenClose) (kind.Symbol symbols.Arrow)) in
+    let ks : kinds_at f ≡ kind.Key keys.Svc ∷ kind.Word s.name ∷ kind.Symbol symbols.Colon ∷ kind.Symbol symbols.ParenOpen ∷
+    (listed_pieces (mark symbols.Comma) [] type_kinds s.params ++ (kind.Symbol symbols.ParenClose ∷ kind.Symbol symbols.Arrow ∷ (type_kinds s.result ++ rest)))
+    = h
+    ∙ ap (λ l. kind.Key keys.Svc ∷ kind.Word s.name ∷ kind.Symbol symbols.Colon ∷ kind.Symbol symbols.ParenOpen ∷ l)
+    (svc_regroup (listed_pieces (mark symbols.Comma) [] type_kinds s.params) (type_kinds s.result) rest (kind.Symbol symbols.ParenClose) (kind.Symbol symbols.Arrow)) in
     rw (key_is keys.Svc f _ ks)
     (then_took _ (take_more (length g.svcs) Limit.Services f _ n ks) (λ u0 g0 k0 q0.
     then_took _ (service_took s p l (behind f) rest (behind_is f (kind.Key keys.Svc) _ ks) w) (λ v g1 k1 q1.
@@ -90,8 +93,12 @@ function_grew : (d : Fun) → IsProperFun d → IsShortFun d → (g : Gathered) 
 unfolding with_declaration with_function with_body
 function_grew d p s g n many f rest h w =
     let body : Kinds = expr_kinds d.body ++ rest in
-    let ks : kinds_at f ≡ kind.Key keys.Fun ∷ kind.Word d.name ∷ kind.Symbol symbols.ParenOpen ∷ (listed_pieces (mark symbols.Comma) [] param_kinds d.params ++ (kind.Symbol symbols.ParenClose ∷ kind.Symbol symbols.Colon ∷ (type_kinds d.result ++ (kind.Symbol symbols.Equal ∷ body))))
-    = h ∙ ap (λ l. kind.Key keys.Fun ∷ kind.Word d.name ∷ kind.Symbol symbols.ParenOpen ∷ l) (fun_regroup (listed_pieces (mark symbols.Comma) [] param_kinds d.params) (type_kinds d.result) (expr_kinds d.body) rest (kind.Symbol symbols.ParenClose) (kind.Symbol symbols.Colon) (kind.Symbol symbols.Equal)) in
+    let ks : kinds_at f ≡ kind.Key keys.Fun ∷ kind.Word d.name ∷ kind.Symbol symbols.ParenOpen ∷
+    (listed_pieces (mark symbols.Comma) [] param_kinds d.params ++ (kind.Symbol symbols.ParenClose ∷ kind.Symbol symbols.Colon ∷ (type_kinds d.result ++ (kind.Symbol symbols.Equal ∷ body))))
+    = h
+    ∙ ap (λ l. kind.Key keys.Fun ∷ kind.Word d.name ∷ kind.Symbol symbols.ParenOpen ∷ l)
+    (fun_regroup (listed_pieces (mark symbols.Comma) [] param_kinds d.params) (type_kinds d.result) (expr_kinds d.body) rest (kind.Symbol symbols.ParenClose) (kind.Symbol symbols.Colon)
+    (kind.Symbol symbols.Equal)) in
     let small = s.1 in
     rw (key_is keys.Svc f _ ks) (rw (key_is keys.Exception f _ ks) (rw (key_is keys.Fun f _ ks)
     (then_took _ (take_more (length g.funs) Limit.Functions f _ n ks) (λ u0 g0 k0 q0.
@@ -233,7 +240,8 @@ program_reads p ts end h w k =
     let a = enough svc_kinds (λ s. omega arith) p.svcs in
     let b = enough exn_kinds (λ s. omega arith) p.exns in
     let c = enough fun_kinds (λ s. omega arith) p.funs in
-    let n : length ts ≡ length (flat_map svc_kinds p.svcs) + (length (flat_map exn_kinds p.exns) + length (flat_map fun_kinds p.funs)) = sym (kinds_count ts) ∙ (ap length ks ∙ (length-append (flat_map svc_kinds p.svcs) _ ∙ ap (λ m. length (flat_map svc_kinds p.svcs) + m) (length-append (flat_map exn_kinds p.exns) (flat_map fun_kinds p.funs)))) in
+    let n : length ts ≡ length (flat_map svc_kinds p.svcs) + (length (flat_map exn_kinds p.exns) + length (flat_map fun_kinds p.funs)) = sym (kinds_count ts)
+    ∙ (ap length ks ∙ (length-append (flat_map svc_kinds p.svcs) _ ∙ ap (λ m. length (flat_map svc_kinds p.svcs) + m) (length-append (flat_map exn_kinds p.exns) (flat_map fun_kinds p.funs)))) in
     let r = svcs_gather p.svcs h.svcs w.short_svcs p.exns p.funs h.funs w.short_funs (length ts) (omega (arith, a, b, c, n)) nothing (omega (arith, w.svcs)) (omega (arith, w.exns)) (omega (arith, w.funs)) (omega (arith, w.nodes)) f ks in
     let s : nat_lt 0 (length r.value.funs) ≡ true = ap (λ fs. nat_lt 0 (length fs)) r.funs ∙ below_limit 0 (length p.funs) w.some in
     record {

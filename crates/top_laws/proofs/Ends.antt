@@ -24,7 +24,8 @@ use Rattle.node_core_spec.specs.declared.acts.Act.{Act}
 use Rattle.node_core_spec.specs.declared.acts.Act.TheVariants.{Injected, Arrived, Noted, Ended}
 use Rattle.node_core_spec.specs.State.{NodeState, is_host}
 use Rattle.node_core_spec.specs.Visits.{visit_at, settled_at}
-use Rattle.node_core_spec.specs.Node.{NodeStep, mark, visit_sends, handled_acts, sends_acts, visit_acts, visit_step, next_serial, injected_packet, inject_step, packet_step, frame_step, takes_as, stamped_as, stamped_step, arrived_read, arrive_step}
+use Rattle.node_core_spec.specs.Node.{NodeStep, mark, visit_sends, handled_acts, sends_acts, visit_acts, visit_step, next_serial, injected_packet, inject_step, packet_step, frame_step, takes_as}
+use Rattle.node_core_spec.specs.Node.{stamped_as, stamped_step, arrived_read, arrive_step}
 use Rattle.net_world_spec.specs.declared.lines.Line.{Line}
 use Rattle.net_world_spec.specs.declared.lines.Line.TheVariants.{At}
 use Rattle.net_world_spec.specs.declared.lines.FrameOnWire.{FrameOnWire}

@@ -18,7 +18,8 @@ use Rattle.top_laws.specs.PrintedTokens.{Kinds, mark, word, nil_kinds, raise_kin
 use Rattle.top_laws.specs.Proper.{IsProperOption, IsProperCatch, IsProper, AreProper, AreProperClauses}
 use Rattle.top_laws.specs.Proper.{IsProper as P, AreProper as M, AreProperClauses as K}
 use Rattle.top_laws.proofs.Segments.{begins, calm, anything, Part, ◌>>◌, segment_begins, blank_part}
-use Rattle.top_laws.proofs.Glue.{is_text, name_part, key_part, int_part, host_part, dev_part, pick_part, char_part, string_part, blob_part, bool_part, colon_part, spaced_part, paren_part, close_part, square_part, unsquare_part, comma_part, semicolon_part, bar_part, under_part, op_glue, then_blank}
+use Rattle.top_laws.proofs.Glue.{is_text, name_part, key_part, int_part, host_part, dev_part, pick_part, char_part, string_part, blob_part, bool_part, colon_part, spaced_part, paren_part, close_part}
+use Rattle.top_laws.proofs.Glue.{square_part, unsquare_part, comma_part, semicolon_part, bar_part, under_part, op_glue, then_blank}
 use Rattle.top_laws.proofs.Lists.{AllParts, some_listed, all_listed}
 use Rattle.top_laws.proofs.TypeTokens.{type_part, empty_part}
 

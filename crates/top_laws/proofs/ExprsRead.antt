@@ -53,11 +53,14 @@ unit_read e t d ks = by_operand e _ _ refl (omega (arith, d.depth)) ks (λ room 
 bool_read : (e : Expr) (b : Bool) → out-Expr e ≡ Expr-F.Bool b → IsRead e
 unfolding key_form
 bool_read e true o = literal_read e (kind.Key keys.True) (x.Bool true) (sym (made_of e (Expr-F.Bool true) o ∙ x.rolls-Bool true)) (measured_by_level e (Expr-F.Bool true) o) refl (λ inner room f. refl) (kinds_are e (Expr-F.Bool true) o)
-bool_read e false o = literal_read e (kind.Key keys.False) (x.Bool false) (sym (made_of e (Expr-F.Bool false) o ∙ x.rolls-Bool false)) (measured_by_level e (Expr-F.Bool false) o) refl (λ inner room f. refl) (kinds_are e (Expr-F.Bool false) o)
+bool_read e false o =
+    literal_read e (kind.Key keys.False) (x.Bool false) (sym (made_of e (Expr-F.Bool false) o ∙ x.rolls-Bool false)) (measured_by_level e (Expr-F.Bool false) o) refl (λ inner room f. refl)
+    (kinds_are e (Expr-F.Bool false) o)
 
 -- ---- operators
 
-binary_read : (e : Expr) (o : Op) (a b : Expr) (k : TokenKind) → op_kinds o ≡ k ∷ [] → out-Expr e ≡ Expr-F.Binary o a b → expr_depth e ≤ 64 → Between (joints.Operator o) k → is_symbol_kind symbols.ParenOpen (Some k) ≡ false → IsRead a → IsRead b → IsRead e
+binary_read : (e : Expr) (o : Op) (a b : Expr) (k : TokenKind) → op_kinds o ≡ k ∷ [] → out-Expr e ≡ Expr-F.Binary o a b → expr_depth e ≤ 64 → Between (joints.Operator o) k
+    → is_symbol_kind symbols.ParenOpen (Some k) ≡ false → IsRead a → IsRead b → IsRead e
 binary_read e o a b k ks is w t np ra rb =
     pair_read e (joints.Operator o) a b k (record { tree = sym (made_of e (Expr-F.Binary o a b) is ∙ x.rolls-Binary o a b); size = measured_by_level e (Expr-F.Binary o a b) is }) w t np ra rb
     (kinds_are e (Expr-F.Binary o a b) is ∙ (ap (λ s. kind.Symbol symbols.ParenOpen ∷ (((expr_kinds a ++ s) ++ expr_kinds b) ++ mark symbols.ParenClose)) ks
@@ -145,31 +148,48 @@ mutual
       (kinds_are e (Expr-F.If c a b) o ∙ ap (λ s. kind.Symbol symbols.ParenOpen ∷ kind.Key keys.If ∷ s) (three_parts (expr_kinds c) (expr_kinds a) (expr_kinds b) (mark symbols.ParenClose) (kind.Key keys.Then) (kind.Key keys.Else)))
   expr_read {e = e} (P.binder v t a b o n k p q) w = let d = measured_by_level e (Expr-F.Let v t a b) o in
       let_read e v t a b (sym (made_of e (Expr-F.Let v t a b) o ∙ x.rolls-Let v t a b)) d w k.0 k.1 (expr_read p (omega (arith, d.depth, w))) (expr_read q (omega (arith, d.depth, w)))
-      (kinds_are e (Expr-F.Let v t a b) o ∙ ap (λ s. kind.Key keys.Let ∷ kind.Key keys.Val ∷ kind.Word v ∷ kind.Symbol symbols.Colon ∷ s) (three_parts (type_kinds t) (expr_kinds a) (expr_kinds b) (kind.Key keys.End ∷ []) (kind.Symbol symbols.Equal) (kind.Key keys.In)))
+      (kinds_are e (Expr-F.Let v t a b) o ∙ ap (λ s. kind.Key keys.Let ∷ kind.Key keys.Val ∷ kind.Word v ∷ kind.Symbol symbols.Colon ∷ s)
+      (three_parts (type_kinds t) (expr_kinds a) (expr_kinds b) (kind.Key keys.End ∷ []) (kind.Symbol symbols.Equal) (kind.Key keys.In)))
   expr_read {e = e} (P.sequence a b o p q) w = let d = measured_by_level e (Expr-F.Then a b) o in
       sequence_read e a b (sym (made_of e (Expr-F.Then a b) o ∙ x.rolls-Then a b)) d w (expr_read p (omega (arith, d.depth, w))) (expr_read q (omega (arith, d.depth, w)))
       (kinds_are e (Expr-F.Then a b) o ∙ ap (λ s. kind.Symbol symbols.ParenOpen ∷ s) (two_parts (expr_kinds a) (expr_kinds b) (mark symbols.ParenClose) (kind.Symbol symbols.Semicolon)))
   expr_read {e = e} (P.both a b o p q) w = let d = measured_by_level e (Expr-F.And a b) o in
-      pair_read e joints.And a b (kind.Key keys.And) (record { tree = sym (made_of e (Expr-F.And a b) o ∙ x.rolls-And a b); size = d }) w (in_both refl refl refl refl refl) refl (expr_read p (omega (arith, d.depth, w))) (expr_read q (omega (arith, d.depth, w)))
+      pair_read e joints.And a b (kind.Key keys.And)
+      (record {
+        tree = sym (made_of e (Expr-F.And a b) o ∙ x.rolls-And a b);
+        size = d;
+      }) w (in_both refl refl refl refl refl) refl (expr_read p (omega (arith, d.depth, w))) (expr_read q (omega (arith, d.depth, w)))
       (kinds_are e (Expr-F.And a b) o ∙ ap (λ s. kind.Symbol symbols.ParenOpen ∷ s) (two_parts (expr_kinds a) (expr_kinds b) (mark symbols.ParenClose) (kind.Key keys.And)))
   expr_read {e = e} (P.either a b o p q) w = let d = measured_by_level e (Expr-F.Or a b) o in
-      pair_read e joints.Or a b (kind.Key keys.Or) (record { tree = sym (made_of e (Expr-F.Or a b) o ∙ x.rolls-Or a b); size = d }) w (in_either refl refl refl refl refl refl) refl (expr_read p (omega (arith, d.depth, w))) (expr_read q (omega (arith, d.depth, w)))
+      pair_read e joints.Or a b (kind.Key keys.Or)
+      (record {
+        tree = sym (made_of e (Expr-F.Or a b) o ∙ x.rolls-Or a b);
+        size = d;
+      }) w (in_either refl refl refl refl refl refl) refl (expr_read p (omega (arith, d.depth, w))) (expr_read q (omega (arith, d.depth, w)))
       (kinds_are e (Expr-F.Or a b) o ∙ ap (λ s. kind.Symbol symbols.ParenOpen ∷ s) (two_parts (expr_kinds a) (expr_kinds b) (mark symbols.ParenClose) (kind.Key keys.Or)))
   expr_read {e = e} (P.negation a o p) w = let d = measured_by_level e (Expr-F.Not a) o in not_read e a (sym (made_of e (Expr-F.Not a) o ∙ x.rolls-Not a)) d w (expr_read p (omega (arith, d.depth, w))) (kinds_are e (Expr-F.Not a) o)
   expr_read {e = e} (P.binary m a b o p q) w = let d = measured_by_level e (Expr-F.Binary m a b) o in op_read e m a b o w (expr_read p (omega (arith, d.depth, w))) (expr_read q (omega (arith, d.depth, w)))
-  expr_read {e = e} (P.part i a o l m p) w = let d = measured_by_level e (Expr-F.Part i a) o in part_read e a i (sym (made_of e (Expr-F.Part i a) o ∙ x.rolls-Part i a)) d w (expr_read p (omega (arith, d.depth, w))) (kinds_are e (Expr-F.Part i a) o)
+  expr_read {e = e} (P.part i a o l m p) w =
+      let d = measured_by_level e (Expr-F.Part i a) o in
+      part_read e a i (sym (made_of e (Expr-F.Part i a) o ∙ x.rolls-Part i a)) d w (expr_read p (omega (arith, d.depth, w))) (kinds_are e (Expr-F.Part i a) o)
   expr_read {e = e} (P.raising v t o n h) w = option_raise e v t o h
-  expr_read {e = e} (P.handling a cs o p l m h) w = let d = measured_by_level e (Expr-F.Try a cs) o in try_by e a cs o l m w (expr_read p (omega (arith, d.depth, w))) (clauses_read h (largest_by clause_depth cs) (omega arith) (omega (arith, d.depth, w)))
+  expr_read {e = e} (P.handling a cs o p l m h) w =
+      let d = measured_by_level e (Expr-F.Try a cs) o in
+      try_by e a cs o l m w (expr_read p (omega (arith, d.depth, w))) (clauses_read h (largest_by clause_depth cs) (omega arith) (omega (arith, d.depth, w)))
   expr_read {e = e} (P.fold_left f a l o n p q) w = let d = measured_by_level e (Expr-F.Foldl f a l) o in
       foldl_read e f a l (sym (made_of e (Expr-F.Foldl f a l) o ∙ x.rolls-Foldl f a l)) d w (expr_read p (omega (arith, d.depth, w))) (expr_read q (omega (arith, d.depth, w)))
-      (kinds_are e (Expr-F.Foldl f a l) o ∙ ap (λ s. kind.Key keys.Foldl ∷ kind.Symbol symbols.ParenOpen ∷ kind.Word f ∷ kind.Symbol symbols.Comma ∷ s) (two_parts (expr_kinds a) (expr_kinds l) (mark symbols.ParenClose) (kind.Symbol symbols.Comma)))
+      (kinds_are e (Expr-F.Foldl f a l) o ∙ ap (λ s. kind.Key keys.Foldl ∷ kind.Symbol symbols.ParenOpen ∷ kind.Word f ∷ kind.Symbol symbols.Comma ∷ s)
+      (two_parts (expr_kinds a) (expr_kinds l) (mark symbols.ParenClose) (kind.Symbol symbols.Comma)))
   expr_read {e = e} (P.fold_right f a l o n p q) w = let d = measured_by_level e (Expr-F.Foldr f a l) o in
       foldr_read e f a l (sym (made_of e (Expr-F.Foldr f a l) o ∙ x.rolls-Foldr f a l)) d w (expr_read p (omega (arith, d.depth, w))) (expr_read q (omega (arith, d.depth, w)))
-      (kinds_are e (Expr-F.Foldr f a l) o ∙ ap (λ s. kind.Key keys.Foldr ∷ kind.Symbol symbols.ParenOpen ∷ kind.Word f ∷ kind.Symbol symbols.Comma ∷ s) (two_parts (expr_kinds a) (expr_kinds l) (mark symbols.ParenClose) (kind.Symbol symbols.Comma)))
+      (kinds_are e (Expr-F.Foldr f a l) o ∙ ap (λ s. kind.Key keys.Foldr ∷ kind.Symbol symbols.ParenOpen ∷ kind.Word f ∷ kind.Symbol symbols.Comma ∷ s)
+      (two_parts (expr_kinds a) (expr_kinds l) (mark symbols.ParenClose) (kind.Symbol symbols.Comma)))
   expr_read {e = e} (P.packing f es o v n h) w = let d = measured_by_level e (Expr-F.ChunkOf f es) o in
       chunk_read e f es (sym (made_of e (Expr-F.ChunkOf f es) o ∙ x.rolls-ChunkOf f es)) d w (parts_read h (largest_by expr_depth es) (omega arith) (omega (arith, d.depth, w))) n (kinds_are e (Expr-F.ChunkOf f es) o)
   expr_read {e = e} (P.evaluation c o p) w = let d = measured_by_level e (Expr-F.Eval c) o in eval_read e c (sym (made_of e (Expr-F.Eval c) o ∙ x.rolls-Eval c)) d w (expr_read p (omega (arith, d.depth, w))) (kinds_are e (Expr-F.Eval c) o)
-  expr_read {e = e} (P.remote c h n r o p q s m) w = let d = measured_by_level e (Expr-F.OnRemote c h n r) o in remote_by e c h n r o w (expr_read p (omega (arith, d.depth, w))) (expr_read q (omega (arith, d.depth, w))) (expr_read s (omega (arith, d.depth, w)))
+  expr_read {e = e} (P.remote c h n r o p q s m) w =
+      let d = measured_by_level e (Expr-F.OnRemote c h n r) o in
+      remote_by e c h n r o w (expr_read p (omega (arith, d.depth, w))) (expr_read q (omega (arith, d.depth, w))) (expr_read s (omega (arith, d.depth, w)))
   expr_read {e = e} (P.neighbour c h n v o p q s t) w = let d = measured_by_level e (Expr-F.OnNeighbor c h n v) o in
       neighbor_by e c h n v o w (expr_read p (omega (arith, d.depth, w))) (expr_read q (omega (arith, d.depth, w))) (expr_read s (omega (arith, d.depth, w))) (expr_read t (omega (arith, d.depth, w)))
 

@@ -63,7 +63,8 @@ kid_clean (kids.Ask h file) k f = clean_more (codes "ask") (decimal h.0 ∷ file
 kid_step : (kid : Kid) (seen : List Kid) → KeepsKid kid → IsNamedFile kid → length seen < 64 → (number : ℕ) → fleet_format.step number (spaced_words (kid_words kid)) (so_far seen) ≡ Ok (so_far (seen ++ kid ∷ []))
 unfolding fleet_step_at
 kid_step (kids.Node h file turns) seen k f room number =
-    usual_again number (codes "node") (decimal h.0 ∷ file ∷ decimal turns ∷ []) (so_far seen) (so_far (seen ++ kids.Node h file turns ∷ [])) (λ ws. kid_line ws (so_far seen)) refl (kid_clean (kids.Node h file turns) k f) (kid_reads (kids.Node h file turns) seen k room)
+    usual_again number (codes "node") (decimal h.0 ∷ file ∷ decimal turns ∷ []) (so_far seen) (so_far (seen ++ kids.Node h file turns ∷ [])) (λ ws. kid_line ws (so_far seen)) refl
+    (kid_clean (kids.Node h file turns) k f) (kid_reads (kids.Node h file turns) seen k room)
 kid_step (kids.Ask h file) seen k f room number =
     usual_again number (codes "ask") (decimal h.0 ∷ file ∷ []) (so_far seen) (so_far (seen ++ kids.Ask h file ∷ [])) (λ ws. kid_line ws (so_far seen)) refl (kid_clean (kids.Ask h file) k f) (kid_reads (kids.Ask h file) seen k room)
 

@@ -20,7 +20,8 @@ use Rattle.plan_parser_exprs.specs.Ahead.{Front, Reader, behind, is_symbol_kind,
 use Rattle.plan_parser_exprs.specs.Begins.{kind_begins, begins_operand, begins_negated, begins_expr}
 use Rattle.plan_parser_exprs.specs.Joints.{joint_of, joined_tree}
 use Rattle.plan_parser_exprs.specs.Nodes.{over, below_of, both, joined_nodes}
-use Rattle.plan_parser_exprs.specs.Exprs.{operand_kind, operand, product, addition, listed_operands, compared_operands, comparison, negated_operand, conjunction, disjunction, whole, at_level, expr_to, single, grouped_expression, parens_behind, parens, symbol_form}
+use Rattle.plan_parser_exprs.specs.Exprs.{operand_kind, operand, product, addition, listed_operands, compared_operands, comparison, negated_operand, conjunction, disjunction, whole, at_level, expr_to}
+use Rattle.plan_parser_exprs.specs.Exprs.{single, grouped_expression, parens_behind, parens, symbol_form}
 use Rattle.top_laws.specs.PrintedTokens.{Kinds, expr_kinds_level, clause_kinds, expr_kinds}
 use Rattle.top_laws.proofs.ExprTokens.{expr_kinds_out}
 use Rattle.top_laws.specs.Reads.{kinds_at, Took, first_kind, IsNode, Ends}
@@ -222,11 +223,16 @@ pair_took e j a b k m most_depth w np ra rb (suc room) n g rest h = weaker (by_c
     by_chain (in_both q p s d v) = both_pair inner room g (expr_kinds a) mid rest k j h ra.starts q
         (up_negated inner room g (k ∷ mid) (isnt_not inner room g (expr_kinds a) (k ∷ mid) h ra.starts) (up_comparison inner room g (k ∷ mid) v
         (up_listed inner room g (k ∷ mid) d (up_addition inner room g (k ∷ mid) s (up_product inner room g (k ∷ mid) p first)))))
-        (λ f i. up_negated inner room f c (isnt_not inner room f (expr_kinds b) c i rb.starts) (up_comparison inner room f c refl (up_listed inner room f c refl (up_addition inner room f c refl (up_product inner room f c refl (second f i))))))
+        (λ f i.
+        up_negated inner room f c (isnt_not inner room f (expr_kinds b) c i rb.starts)
+        (up_comparison inner room f c refl (up_listed inner room f c refl (up_addition inner room f c refl (up_product inner room f c refl (second f i))))))
     by_chain (in_either q p s d v u) = either_pair inner room g (expr_kinds a) mid rest k j h ra.starts q
         (up_conjunction inner room g (k ∷ mid) u (up_negated inner room g (k ∷ mid) (isnt_not inner room g (expr_kinds a) (k ∷ mid) h ra.starts) (up_comparison inner room g (k ∷ mid) v
         (up_listed inner room g (k ∷ mid) d (up_addition inner room g (k ∷ mid) s (up_product inner room g (k ∷ mid) p first))))))
-        (λ f i. up_conjunction inner room f c refl (up_negated inner room f c (isnt_not inner room f (expr_kinds b) c i rb.starts) (up_comparison inner room f c refl (up_listed inner room f c refl (up_addition inner room f c refl (up_product inner room f c refl (second f i)))))))
+        (λ f i.
+        up_conjunction inner room f c refl
+        (up_negated inner room f c (isnt_not inner room f (expr_kinds b) c i rb.starts)
+        (up_comparison inner room f c refl (up_listed inner room f c refl (up_addition inner room f c refl (up_product inner room f c refl (second f i)))))))
 
 -- a token that may begin an operand closes no bracket
 pub no_close : (k : TokenKind) → kind_begins (Some k) ≡ true → is_symbol_kind symbols.ParenClose (Some k) ≡ false

@@ -67,7 +67,9 @@ params_took (p ∷ ps) h l f rest k =
     let ks : kinds_at f ≡ param_kinds p ++ tail = k ∙ append_assoc (param_kinds p) (listed_pieces (mark symbols.Comma) (mark symbols.Comma) param_kinds ps) (kind.Symbol symbols.ParenClose ∷ rest) in
     rw (symbol_is symbols.ParenClose f (param_kinds p ++ tail) ks) (rw (param_begins p f tail ks)
     (then_took _ (param_took p h.0 f tail ks (param_tail ps rest)) (λ q g1 k1 q1.
-    then_took _ (more_took param_at begins_name symbols.Comma limits.Parameters wanted.AName param_kinds SameParam FollowsType (kind.Symbol symbols.ParenClose ∷ rest) refl (λ s. refl) refl ps (params_read ps h.1) 7 (omega (arith, l)) (q ∷ []) g1 k1) (λ all g2 k2 q2.
+    then_took _ (more_took param_at begins_name symbols.Comma limits.Parameters wanted.AName param_kinds SameParam FollowsType (kind.Symbol symbols.ParenClose ∷ rest) refl (λ s. refl) refl ps
+    (params_read ps h.1) 7 (omega (arith, l)) (q ∷ []) g1 k1)
+    (λ all g2 k2 q2.
     then_took _ (take_symbol symbols.ParenClose g2 rest k2) (λ u g3 k3 q3.
     took all g3 k3 (q2.1 ∙ (λ i. q1 i ∷ same_params ps q2.0 q2.2 i)))))))
 
@@ -97,14 +99,18 @@ types_took (t ∷ ts) h l f rest k =
     let s = type_starts t h.0.0 f tail ks in
     rw s.0 (rw s.1
     (then_took _ (inner_took t h.0 f tail ks (type_tail ts rest)) (λ u g1 k1 q1.
-    then_took _ (more_took inner_type begins_type symbols.Comma limits.Parameters wanted.AType type_kinds same_type FollowsType (kind.Symbol symbols.ParenClose ∷ rest) refl (λ s. refl) refl ts (types_read ts h.1) 7 (omega (arith, l)) (u ∷ []) g1 k1) (λ all g2 k2 q2.
+    then_took _ (more_took inner_type begins_type symbols.Comma limits.Parameters wanted.AType type_kinds same_type FollowsType (kind.Symbol symbols.ParenClose ∷ rest) refl (λ s. refl) refl ts
+    (types_read ts h.1) 7 (omega (arith, l)) (u ∷ []) g1 k1)
+    (λ all g2 k2 q2.
     then_took _ (take_symbol symbols.ParenClose g2 rest k2) (λ v g3 k3 q3.
     took all g3 k3 (q2.1 ∙ (λ i. q1 i ∷ same_types ts q2.0 q2.2 i)))))))
 
 -- ---- heads
 
 pub service_took : (s : Svc) → IsProperSvc s → length s.params ≤ 8 → (f : Front) (rest : Kinds)
-    → kinds_at f ≡ kind.Word s.name ∷ kind.Symbol symbols.Colon ∷ kind.Symbol symbols.ParenOpen ∷ (listed_pieces (mark symbols.Comma) [] type_kinds s.params ++ (kind.Symbol symbols.ParenClose ∷ kind.Symbol symbols.Arrow ∷ (type_kinds s.result ++ rest)))
+    → kinds_at f
+    ≡ kind.Word s.name ∷ kind.Symbol symbols.Colon ∷ kind.Symbol symbols.ParenOpen ∷
+    (listed_pieces (mark symbols.Comma) [] type_kinds s.params ++ (kind.Symbol symbols.ParenClose ∷ kind.Symbol symbols.Arrow ∷ (type_kinds s.result ++ rest)))
     → FollowsType rest → Took (service_at f) rest (λ q. q ≡ s)
 unfolding service_at
 service_took s h l f rest k w =
@@ -122,7 +128,9 @@ pub record IsHead (f : Fun) (h : Head) : Type 0 where
   pub result : h.result ≡ f.result
 
 pub head_took : (d : Fun) → IsProperFun d → length d.params ≤ 8 → (f : Front) (rest : Kinds)
-    → kinds_at f ≡ kind.Word d.name ∷ kind.Symbol symbols.ParenOpen ∷ (listed_pieces (mark symbols.Comma) [] param_kinds d.params ++ (kind.Symbol symbols.ParenClose ∷ kind.Symbol symbols.Colon ∷ (type_kinds d.result ++ (kind.Symbol symbols.Equal ∷ rest))))
+    → kinds_at f
+    ≡ kind.Word d.name ∷ kind.Symbol symbols.ParenOpen ∷
+    (listed_pieces (mark symbols.Comma) [] param_kinds d.params ++ (kind.Symbol symbols.ParenClose ∷ kind.Symbol symbols.Colon ∷ (type_kinds d.result ++ (kind.Symbol symbols.Equal ∷ rest))))
     → Took (head_at f) rest (IsHead d)
 unfolding head_at
 head_took d h l f rest k =

@@ -66,7 +66,8 @@ unfolding spread
 text_none begun = ap (λ (t : List ℕ). record begun { text = t }) (sym (append-nil begun.text))
 
 -- lines of a text are taken as they are, in a format whose state has the program
-pub text_leads : {S T : Type 0} (f : Format S T) (inside : OpenProgram → S) → ((number : ℕ) (line : List ℕ) (begun : OpenProgram) → bytes_eq line (codes "end program") ≡ false → f.step number line (inside begun) ≡ Ok (inside (with_line begun line)))
+pub text_leads : {S T : Type 0} (f : Format S T) (inside : OpenProgram → S)
+    → ((number : ℕ) (line : List ℕ) (begun : OpenProgram) → bytes_eq line (codes "end program") ≡ false → f.step number line (inside begun) ≡ Ok (inside (with_line begun line)))
     → (text : List (List ℕ)) (begun : OpenProgram) → All IsTextLine text → Leads f text (inside begun) (inside (with_text begun text))
 text_leads f inside step [] begun k = subst (λ p. Leads f [] (inside begun) (inside p)) (text_none begun) (leads-nil f (inside begun))
 text_leads f inside step (line ∷ text) begun k =

@@ -28,7 +28,8 @@ either_moved first change false a b c d h k = k
 pub header_moved : {A : Type 0} (header : List ℕ) (first number : ℕ) (line : List ℕ) (change : A → A) (s t : A) → t ≡ change s → header_line header (moved_line first number) line t ≡ moved_by first change (header_line header number line s)
 header_moved header first number line change s t e = either_moved first change (bytes_eq line header) (Ok s) _ (Ok t) _ (ap (λ x. Ok x) e) refl
 
-versioned_moved : {A : Type 0} (first number : ℕ) (change : A → A) (v : Option Version) (next other : Version → A) → ((v : Version) → other v ≡ change (next v)) → next_by_version (moved_line first number) other v ≡ moved_by first change (next_by_version number next v)
+versioned_moved : {A : Type 0} (first number : ℕ) (change : A → A) (v : Option Version) (next other : Version → A) → ((v : Version) → other v ≡ change (next v))
+    → next_by_version (moved_line first number) other v ≡ moved_by first change (next_by_version number next v)
 versioned_moved first number change (Some v) next other e = ap (λ x. Ok x) (e v)
 versioned_moved first number change None next other e = refl
 

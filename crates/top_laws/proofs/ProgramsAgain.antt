@@ -16,7 +16,8 @@ use Rattle.plan_base.specs.declared.tree.Param.{Param}
 use Rattle.plan_base.specs.declared.tree.Fun.{Fun}
 use Rattle.plan_base.specs.declared.tree.Program.{Program}
 use Rattle.plan_base.specs.Sizes.{type_depth, type_depth_level, expr_depth, program_nodes}
-use Rattle.plan_base.specs.WellFormed.{formed_type, formed_type_level, well_formed_type, well_formed_text, has_from_to, names_all_but_last, formed_expr, formed_expr_level, well_formed_expr, well_formed_svc, well_formed_fun, well_formed_program}
+use Rattle.plan_base.specs.WellFormed.{formed_type, formed_type_level, well_formed_type, well_formed_text, has_from_to, names_all_but_last, formed_expr, formed_expr_level, well_formed_expr}
+use Rattle.plan_base.specs.WellFormed.{well_formed_svc, well_formed_fun, well_formed_program}
 use Rattle.plan_types_spec.specs.Typing.{literal_type, HasTy, HaveTys, ClausesHaveTy}
 use Rattle.plan_types_spec.specs.Typing as y
 use Rattle.plan_types_spec.specs.TypingFills.{Fills}
@@ -158,7 +159,8 @@ module _ (code : Program) where
     proper {e = e} (y.call g es at d o i j k m n w) f r = call_is_proper g es e o f r (λ u v. propers n u v)
     proper {e = e} (y.choice a b d o i j k) f r =
         let l = level_of e (Expr-F.If a b d) o f r in
-        p.choice a b d o (proper i (left _ _ l.formed) (left _ _ l.exact)) (proper j (left _ _ (right (formed_expr a) _ l.formed)) (left _ _ (right (exact a) _ l.exact))) (proper k (right _ _ (right (formed_expr a) _ l.formed)) (right _ _ (right (exact a) _ l.exact)))
+        p.choice a b d o (proper i (left _ _ l.formed) (left _ _ l.exact)) (proper j (left _ _ (right (formed_expr a) _ l.formed)) (left _ _ (right (exact a) _ l.exact)))
+        (proper k (right _ _ (right (formed_expr a) _ l.formed)) (right _ _ (right (exact a) _ l.exact)))
     proper {e = e} (y.binder x u a b o i j) f r =
         let l = level_of e (Expr-F.Let x u a b) o f r in
         let fs : (formed_expr a && formed_expr b) ≡ true = right (well_formed_type u) _ l.formed in
@@ -192,12 +194,14 @@ module _ (code : Program) where
     proper {e = e} (y.remote a b n x o i j k q) f r =
         let l = level_of e (Expr-F.OnRemote a b n x) o f r in
         let rs : (exact a && (exact b && exact n)) ≡ true = right (is_name x) _ l.exact in
-        p.remote a b n x o (proper i (left _ _ l.formed) (left _ _ rs)) (proper j (left _ _ (right (formed_expr a) _ l.formed)) (left _ _ (right (exact a) _ rs))) (proper k (right _ _ (right (formed_expr a) _ l.formed)) (right _ _ (right (exact a) _ rs))) (left _ _ l.exact)
+        p.remote a b n x o (proper i (left _ _ l.formed) (left _ _ rs)) (proper j (left _ _ (right (formed_expr a) _ l.formed)) (left _ _ (right (exact a) _ rs)))
+        (proper k (right _ _ (right (formed_expr a) _ l.formed)) (right _ _ (right (exact a) _ rs))) (left _ _ l.exact)
     proper {e = e} (y.neighbour a b n d o i j k m q) f r =
         let l = level_of e (Expr-F.OnNeighbor a b n d) o f r in
         let fs : (formed_expr n && formed_expr d) ≡ true = right (formed_expr a && formed_expr b) _ l.formed in
         let rs : (exact n && exact d) ≡ true = right (exact a && exact b) _ l.exact in
-        p.neighbour a b n d o (proper i (left _ _ (left _ _ l.formed)) (left _ _ (left _ _ l.exact))) (proper j (right _ _ (left _ _ l.formed)) (right _ _ (left _ _ l.exact))) (proper k (left _ _ fs) (left _ _ rs)) (proper m (right _ _ fs) (right _ _ rs))
+        p.neighbour a b n d o (proper i (left _ _ (left _ _ l.formed)) (left _ _ (left _ _ l.exact)))
+        (proper j (right _ _ (left _ _ l.formed)) (right _ _ (left _ _ l.exact))) (proper k (left _ _ fs) (left _ _ rs)) (proper m (right _ _ fs) (right _ _ rs))
 
     propers : {seen : ℕ} {c : List Param} {es : List Expr} {ts : List Ty} → HaveTys code seen c es ts → list_all formed_expr es ≡ true → list_all exact es ≡ true → AreProper es
     propers y.no_parts f r = p.no_parts

@@ -49,7 +49,8 @@ catch_took (Some v) f rest h = rw (symbol_is symbols.Underscore f (kind.Word v �
 clause_took : (room : ℕ) (c : Clause) → IsRead c.body → 2 * expr_depth c.body + 8 ≤ room → (f : Front) (rest : Kinds) → kinds_at f ≡ clause_kinds c ++ rest → Ends (first_kind rest) → Took (clause (expr_to room) room f) rest (IsCaught c)
 unfolding clause
 clause_took room c r n f rest h w =
-    let hs : kinds_at f ≡ catch_kinds c.name ++ (kind.Symbol symbols.FatArrow ∷ (expr_kinds c.body ++ rest)) = h ∙ (append_assoc (catch_kinds c.name ++ mark symbols.FatArrow) (expr_kinds c.body) rest ∙ append_assoc (catch_kinds c.name) (mark symbols.FatArrow) (expr_kinds c.body ++ rest)) in
+    let hs : kinds_at f ≡ catch_kinds c.name ++ (kind.Symbol symbols.FatArrow ∷ (expr_kinds c.body ++ rest)) = h
+    ∙ (append_assoc (catch_kinds c.name ++ mark symbols.FatArrow) (expr_kinds c.body) rest ∙ append_assoc (catch_kinds c.name) (mark symbols.FatArrow) (expr_kinds c.body ++ rest)) in
     then_took _ (catch_took c.name f (kind.Symbol symbols.FatArrow ∷ (expr_kinds c.body ++ rest)) hs) (λ m g1 h1 q1.
     then_took _ (take_symbol symbols.FatArrow g1 _ h1) (λ u g2 h2 q2.
     then_took _ (level_took c.body r room n levels.Whole g2 rest h2 w) (λ nb g3 h3 q3.
@@ -80,7 +81,8 @@ clauses_took room most m c [] r (suc left) l done f rest h =
     rw (no_more k.name g (symbol_is symbols.Bar g (kind.Key keys.End ∷ rest) h1)) (took (done ++ k ∷ []) g h1 (k ∷ [], refl, (q1, tt))))
 clauses_took room most m c (d ∷ ds) r (suc left) l done f rest h =
     let tail : Kinds = clause_kinds d ++ (listed_pieces (mark symbols.Bar) (mark symbols.Bar) clause_kinds ds ++ (kind.Key keys.End ∷ rest)) in
-    let hs : kinds_at f ≡ clause_kinds c ++ (kind.Symbol symbols.Bar ∷ tail) = h ∙ ap (λ s. clause_kinds c ++ (kind.Symbol symbols.Bar ∷ s)) (append_assoc (clause_kinds d) (listed_pieces (mark symbols.Bar) (mark symbols.Bar) clause_kinds ds) (kind.Key keys.End ∷ rest)) in
+    let hs : kinds_at f ≡ clause_kinds c ++ (kind.Symbol symbols.Bar ∷ tail) = h
+    ∙ ap (λ s. clause_kinds c ++ (kind.Symbol symbols.Bar ∷ s)) (append_assoc (clause_kinds d) (listed_pieces (mark symbols.Bar) (mark symbols.Bar) clause_kinds ds) (kind.Key keys.End ∷ rest)) in
     then_took _ (clause_took room c r.0 (omega (arith, m, r.1)) f (kind.Symbol symbols.Bar ∷ tail) hs ends_bar) (λ k g h1 q1.
     rw (one_more k.name g (ap is_some q1.name ∙ r.2) (symbol_is symbols.Bar g (kind.Symbol symbols.Bar ∷ tail) h1))
     (weaker (clauses_took room most m d ds r.3 left (omega (arith, l)) (done ++ k ∷ []) (behind g) rest (behind_is g (kind.Symbol symbols.Bar) tail h1))
@@ -104,7 +106,8 @@ caught_places (c ∷ cs) (k ∷ ks) g = let z = caught_places cs ks g.1 in let s
 caught_places [] (k ∷ ks) g = absurd g
 caught_places (c ∷ cs) [] g = absurd g
 
-try_took : (room : ℕ) (e a : Expr) (c : Clause) (cs : List Clause) → x.Try a (c ∷ cs) ≡ e → Measured e (1 + max (expr_depth a) (largest_by clause_depth (c ∷ cs))) (1 + expr_nodes a + sum_by clause_nodes (c ∷ cs)) → expr_depth e ≤ 64 → IsRead a
+try_took : (room : ℕ) (e a : Expr) (c : Clause) (cs : List Clause) → x.Try a (c ∷ cs) ≡ e
+    → Measured e (1 + max (expr_depth a) (largest_by clause_depth (c ∷ cs))) (1 + expr_nodes a + sum_by clause_nodes (c ∷ cs)) → expr_depth e ≤ 64 → IsRead a
     → ClausesRead (largest_by clause_depth (c ∷ cs)) (c ∷ cs) → length cs ≤ 7 → 2 * expr_depth e + 7 ≤ room → (f : Front) (rest : Kinds)
     → kinds_at f ≡ kind.Key keys.Try ∷ (expr_kinds a ++ (kind.Key keys.Handle ∷ (clause_kinds c ++ (listed_pieces (mark symbols.Bar) (mark symbols.Bar) clause_kinds cs ++ (kind.Key keys.End ∷ rest)))))
     → Took (key_form (expr_to room) room keys.Try f) rest (IsNode e)

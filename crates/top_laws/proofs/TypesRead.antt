@@ -49,15 +49,42 @@ by_key w k e t u m s ks d = record {
 }
 
 base_is : (t : Ty) (x : Ty-F Ty) → out-Ty t ≡ x → (k : Key) → base_key x ≡ Some k → IsBase t k
-base_is t Ty-F.Unit o k e = let m : t ≡ made.Unit = sym (roll-out-Ty t) ∙ (ap roll-Ty o ∙ made.rolls-Unit) in let w : k ≡ keys.Unit = cc in by_key keys.Unit k w t made.Unit m refl (type_kinds_out t ∙ ap (type_kinds_level type_kinds) o) (type_depth_out t ∙ ap (type_depth_level type_depth) o)
-base_is t Ty-F.Bool o k e = let m : t ≡ made.Bool = sym (roll-out-Ty t) ∙ (ap roll-Ty o ∙ made.rolls-Bool) in let w : k ≡ keys.Bool = cc in by_key keys.Bool k w t made.Bool m refl (type_kinds_out t ∙ ap (type_kinds_level type_kinds) o) (type_depth_out t ∙ ap (type_depth_level type_depth) o)
-base_is t Ty-F.Int o k e = let m : t ≡ made.Int = sym (roll-out-Ty t) ∙ (ap roll-Ty o ∙ made.rolls-Int) in let w : k ≡ keys.Int = cc in by_key keys.Int k w t made.Int m refl (type_kinds_out t ∙ ap (type_kinds_level type_kinds) o) (type_depth_out t ∙ ap (type_depth_level type_depth) o)
-base_is t Ty-F.Char o k e = let m : t ≡ made.Char = sym (roll-out-Ty t) ∙ (ap roll-Ty o ∙ made.rolls-Char) in let w : k ≡ keys.Char = cc in by_key keys.Char k w t made.Char m refl (type_kinds_out t ∙ ap (type_kinds_level type_kinds) o) (type_depth_out t ∙ ap (type_depth_level type_depth) o)
-base_is t Ty-F.Str o k e = let m : t ≡ made.Str = sym (roll-out-Ty t) ∙ (ap roll-Ty o ∙ made.rolls-Str) in let w : k ≡ keys.Str = cc in by_key keys.Str k w t made.Str m refl (type_kinds_out t ∙ ap (type_kinds_level type_kinds) o) (type_depth_out t ∙ ap (type_depth_level type_depth) o)
-base_is t Ty-F.Blob o k e = let m : t ≡ made.Blob = sym (roll-out-Ty t) ∙ (ap roll-Ty o ∙ made.rolls-Blob) in let w : k ≡ keys.Blob = cc in by_key keys.Blob k w t made.Blob m refl (type_kinds_out t ∙ ap (type_kinds_level type_kinds) o) (type_depth_out t ∙ ap (type_depth_level type_depth) o)
-base_is t Ty-F.Host o k e = let m : t ≡ made.Host = sym (roll-out-Ty t) ∙ (ap roll-Ty o ∙ made.rolls-Host) in let w : k ≡ keys.Host = cc in by_key keys.Host k w t made.Host m refl (type_kinds_out t ∙ ap (type_kinds_level type_kinds) o) (type_depth_out t ∙ ap (type_depth_level type_depth) o)
-base_is t Ty-F.Dev o k e = let m : t ≡ made.Dev = sym (roll-out-Ty t) ∙ (ap roll-Ty o ∙ made.rolls-Dev) in let w : k ≡ keys.Dev = cc in by_key keys.Dev k w t made.Dev m refl (type_kinds_out t ∙ ap (type_kinds_level type_kinds) o) (type_depth_out t ∙ ap (type_depth_level type_depth) o)
-base_is t Ty-F.Chunk o k e = let m : t ≡ made.Chunk = sym (roll-out-Ty t) ∙ (ap roll-Ty o ∙ made.rolls-Chunk) in let w : k ≡ keys.Chunk = cc in by_key keys.Chunk k w t made.Chunk m refl (type_kinds_out t ∙ ap (type_kinds_level type_kinds) o) (type_depth_out t ∙ ap (type_depth_level type_depth) o)
+base_is t Ty-F.Unit o k e =
+    let m : t ≡ made.Unit = sym (roll-out-Ty t) ∙ (ap roll-Ty o ∙ made.rolls-Unit) in
+    let w : k ≡ keys.Unit = cc in
+    by_key keys.Unit k w t made.Unit m refl (type_kinds_out t ∙ ap (type_kinds_level type_kinds) o) (type_depth_out t ∙ ap (type_depth_level type_depth) o)
+base_is t Ty-F.Bool o k e =
+    let m : t ≡ made.Bool = sym (roll-out-Ty t) ∙ (ap roll-Ty o ∙ made.rolls-Bool) in
+    let w : k ≡ keys.Bool = cc in
+    by_key keys.Bool k w t made.Bool m refl (type_kinds_out t ∙ ap (type_kinds_level type_kinds) o) (type_depth_out t ∙ ap (type_depth_level type_depth) o)
+base_is t Ty-F.Int o k e =
+    let m : t ≡ made.Int = sym (roll-out-Ty t) ∙ (ap roll-Ty o ∙ made.rolls-Int) in
+    let w : k ≡ keys.Int = cc in
+    by_key keys.Int k w t made.Int m refl (type_kinds_out t ∙ ap (type_kinds_level type_kinds) o) (type_depth_out t ∙ ap (type_depth_level type_depth) o)
+base_is t Ty-F.Char o k e =
+    let m : t ≡ made.Char = sym (roll-out-Ty t) ∙ (ap roll-Ty o ∙ made.rolls-Char) in
+    let w : k ≡ keys.Char = cc in
+    by_key keys.Char k w t made.Char m refl (type_kinds_out t ∙ ap (type_kinds_level type_kinds) o) (type_depth_out t ∙ ap (type_depth_level type_depth) o)
+base_is t Ty-F.Str o k e =
+    let m : t ≡ made.Str = sym (roll-out-Ty t) ∙ (ap roll-Ty o ∙ made.rolls-Str) in
+    let w : k ≡ keys.Str = cc in
+    by_key keys.Str k w t made.Str m refl (type_kinds_out t ∙ ap (type_kinds_level type_kinds) o) (type_depth_out t ∙ ap (type_depth_level type_depth) o)
+base_is t Ty-F.Blob o k e =
+    let m : t ≡ made.Blob = sym (roll-out-Ty t) ∙ (ap roll-Ty o ∙ made.rolls-Blob) in
+    let w : k ≡ keys.Blob = cc in
+    by_key keys.Blob k w t made.Blob m refl (type_kinds_out t ∙ ap (type_kinds_level type_kinds) o) (type_depth_out t ∙ ap (type_depth_level type_depth) o)
+base_is t Ty-F.Host o k e =
+    let m : t ≡ made.Host = sym (roll-out-Ty t) ∙ (ap roll-Ty o ∙ made.rolls-Host) in
+    let w : k ≡ keys.Host = cc in
+    by_key keys.Host k w t made.Host m refl (type_kinds_out t ∙ ap (type_kinds_level type_kinds) o) (type_depth_out t ∙ ap (type_depth_level type_depth) o)
+base_is t Ty-F.Dev o k e =
+    let m : t ≡ made.Dev = sym (roll-out-Ty t) ∙ (ap roll-Ty o ∙ made.rolls-Dev) in
+    let w : k ≡ keys.Dev = cc in
+    by_key keys.Dev k w t made.Dev m refl (type_kinds_out t ∙ ap (type_kinds_level type_kinds) o) (type_depth_out t ∙ ap (type_depth_level type_depth) o)
+base_is t Ty-F.Chunk o k e =
+    let m : t ≡ made.Chunk = sym (roll-out-Ty t) ∙ (ap roll-Ty o ∙ made.rolls-Chunk) in
+    let w : k ≡ keys.Chunk = cc in
+    by_key keys.Chunk k w t made.Chunk m refl (type_kinds_out t ∙ ap (type_kinds_level type_kinds) o) (type_depth_out t ∙ ap (type_depth_level type_depth) o)
 base_is t (Ty-F.List u) o k e = absurd (cc)
 base_is t (Ty-F.Tuple ts) o k e = absurd (cc)
 
@@ -206,7 +233,9 @@ tuple_base t (x ∷ y ∷ zs) o two most room n r m ks f h =
     let is : t ≡ made.Tuple (x ∷ y ∷ zs) = sym (roll-out-Ty t) ∙ (ap roll-Ty o ∙ made.rolls-Tuple (x ∷ y ∷ zs)) in
     let K : type_kinds t ≡ mark symbols.ParenOpen ++ ((type_kinds x ++ listed_pieces (mark symbols.Star) (mark symbols.Star) type_kinds (y ∷ zs)) ++ mark symbols.ParenClose) = type_kinds_out t ∙ ap (type_kinds_level type_kinds) o in
     let b = group_took room x y zs n (omega (arith, most)) r f (lists m ++ ks)
-    (h ∙ (ap (λ s. s ++ (lists m ++ ks)) K ∙ ap (λ s. kind.Symbol symbols.ParenOpen ∷ s) (regroup (type_kinds x) (listed_pieces (mark symbols.Star) (mark symbols.Star) type_kinds (y ∷ zs)) (kind.Symbol symbols.ParenClose) (lists m ++ ks)))) in
+    (h ∙
+    (ap (λ s. s ++ (lists m ++ ks)) K ∙ ap (λ s. kind.Symbol symbols.ParenOpen ∷ s)
+    (regroup (type_kinds x) (listed_pieces (mark symbols.Star) (mark symbols.Star) type_kinds (y ∷ zs)) (kind.Symbol symbols.ParenClose) (lists m ++ ks)))) in
     by_took b is
   where
     by_took : Took (base_type (type_to room) room f) (lists m ++ ks) (same_type (made.Tuple (x ∷ y ∷ zs))) → t ≡ made.Tuple (x ∷ y ∷ zs) → BaseTook (base_type (type_to room) room f) m ks t

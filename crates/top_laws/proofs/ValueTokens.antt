@@ -32,7 +32,8 @@ part_by_level : (v : Value) (x : Value-F Value Chunk) → out-Value v ≡ x → 
 part_by_level v x o Q = is_text Q (sym (value_text_out v ∙ ap (value_text_level value_text chunk_text) o)) (sym (value_kinds_out v ∙ ap (value_kinds_level value_kinds) o))
 
 -- values up to their closing bracket
-round_part : (vs : List Value) → 0 < length vs → AllParts calm value_text value_kinds vs → Part begins calm (listed_pieces (codes ", ") [] value_text vs ++ codes ")") (listed_pieces (mark symbols.Comma) [] value_kinds vs ++ mark symbols.ParenClose)
+round_part : (vs : List Value) → 0 < length vs → AllParts calm value_text value_kinds vs
+    → Part begins calm (listed_pieces (codes ", ") [] value_text vs ++ codes ")") (listed_pieces (mark symbols.Comma) [] value_kinds vs ++ mark symbols.ParenClose)
 round_part vs n h = some_listed value_text value_kinds (codes ", ") (mark symbols.Comma) comma_glue (codes ")") (mark symbols.ParenClose) (close_part refl) vs n h
 
 list_part : (t : Ty) (vs : List Value) → IsProperType t → AllParts calm value_text value_kinds vs → Part begins calm (values_text value_text t vs) (values_kinds value_kinds t vs)

@@ -23,7 +23,8 @@ use Rattle.plan_lexer.specs.declared.token.TokenKind.TheVariants as kind
 use Rattle.plan_parser_exprs.specs.declared.fault.Wanted.TheVariants as wanted
 use Rattle.plan_parser_exprs.specs.Ahead.{Front, Reader, place, behind, is_symbol, is_symbol_kind}
 use Rattle.plan_parser.specs.declared.item.TypedValue.{TypedValue}
-use Rattle.plan_parser.specs.Values.{typed_value, literal, literal_from, begins_value, tuple_of, list_of, judged_item, fits, tuple_from, tuple, grouped_value, parens, like, listing, typed_nil, brackets, value_at, value_to, nothing_follows, value_of}
+use Rattle.plan_parser.specs.Values.{typed_value, literal, literal_from, begins_value, tuple_of, list_of, judged_item, fits, tuple_from, tuple, grouped_value, parens, like, listing, typed_nil}
+use Rattle.plan_parser.specs.Values.{brackets, value_at, value_to, nothing_follows, value_of}
 use Rattle.plan_printer_spec.specs.Pieces.{listed_pieces}
 use Rattle.top_laws.specs.Lexes.{kinds_of}
 use Rattle.top_laws.specs.PrintedTokens.{Kinds, mark, bool_kinds, type_kinds, value_kinds_level, value_kinds}

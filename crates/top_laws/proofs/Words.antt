@@ -17,7 +17,8 @@ use Rattle.plan_parser_exprs.specs.declared.node.SendParts.{SendParts}
 use Rattle.plan_parser_exprs.specs.Ahead.{Front, behind, place, is_key}
 use Rattle.plan_parser_exprs.specs.Begins.{kind_begins}
 use Rattle.plan_parser_exprs.specs.Nodes.{below_of, both, let_of}
-use Rattle.plan_parser_exprs.specs.Exprs.{typed_nil, brackets_behind, brackets, binding, bindings_from, let_form, raise_typed, raise_plain, raise_form, before_comma, before_close, fold_parts, foldl_form, foldr_form, eval_form, send_parts, remote_form, neighbor_form, key_form, symbol_form, operand_kind, expr_to}
+use Rattle.plan_parser_exprs.specs.Exprs.{typed_nil, brackets_behind, brackets, binding, bindings_from, let_form, raise_typed, raise_plain, raise_form, before_comma, before_close, fold_parts}
+use Rattle.plan_parser_exprs.specs.Exprs.{foldl_form, foldr_form, eval_form, send_parts, remote_form, neighbor_form, key_form, symbol_form, operand_kind, expr_to}
 use Rattle.top_laws.specs.PrintedTokens.{Kinds, type_kinds, expr_kinds}
 use Rattle.top_laws.specs.Proper.{IsProperType}
 use Rattle.top_laws.specs.Reads.{kinds_at, Took, IsNode, Ends}
@@ -101,7 +102,8 @@ pub foldl_read : (e : Expr) (name : Name) (a l : Expr) → x.Foldl name a l ≡ 
     → expr_kinds e ≡ kind.Key keys.Foldl ∷ kind.Symbol symbols.ParenOpen ∷ kind.Word name ∷ kind.Symbol symbols.Comma ∷ (expr_kinds a ++ (kind.Symbol symbols.Comma ∷ (expr_kinds l ++ (kind.Symbol symbols.ParenClose ∷ []))))
     → IsRead e
 foldl_read e name a l t d most ra rl ks = by_operand e _ _ refl most ks (λ room n f rest h. foldl_took room e name a l f rest t d most
-    (fold_took room keys.Foldl name a l ra rl (omega (arith, n, d.depth)) (omega (arith, n, d.depth)) f rest (h ∙ behind_one _ (behind_one _ (behind_one _ (behind_one _ (nest (expr_kinds a) _ rest (behind_one _ (nest (expr_kinds l) _ rest refl)))))))))
+    (fold_took room keys.Foldl name a l ra rl (omega (arith, n, d.depth)) (omega (arith, n, d.depth)) f rest
+    (h ∙ behind_one _ (behind_one _ (behind_one _ (behind_one _ (nest (expr_kinds a) _ rest (behind_one _ (nest (expr_kinds l) _ rest refl)))))))))
 
 foldr_took : (room : ℕ) (e : Expr) (name : Name) (a l : Expr) (f : Front) (rest : Kinds) → x.Foldr name a l ≡ e → Measured e (1 + max (expr_depth a) (expr_depth l)) (1 + expr_nodes a + expr_nodes l) → expr_depth e ≤ 64
     → Took (fold_parts (expr_to room) room f) rest (IsFold name a l) → Took (key_form (expr_to room) room keys.Foldr f) rest (IsNode e)
@@ -115,7 +117,8 @@ pub foldr_read : (e : Expr) (name : Name) (a l : Expr) → x.Foldr name a l ≡ 
     → expr_kinds e ≡ kind.Key keys.Foldr ∷ kind.Symbol symbols.ParenOpen ∷ kind.Word name ∷ kind.Symbol symbols.Comma ∷ (expr_kinds a ++ (kind.Symbol symbols.Comma ∷ (expr_kinds l ++ (kind.Symbol symbols.ParenClose ∷ []))))
     → IsRead e
 foldr_read e name a l t d most ra rl ks = by_operand e _ _ refl most ks (λ room n f rest h. foldr_took room e name a l f rest t d most
-    (fold_took room keys.Foldr name a l ra rl (omega (arith, n, d.depth)) (omega (arith, n, d.depth)) f rest (h ∙ behind_one _ (behind_one _ (behind_one _ (behind_one _ (nest (expr_kinds a) _ rest (behind_one _ (nest (expr_kinds l) _ rest refl)))))))))
+    (fold_took room keys.Foldr name a l ra rl (omega (arith, n, d.depth)) (omega (arith, n, d.depth)) f rest
+    (h ∙ behind_one _ (behind_one _ (behind_one _ (behind_one _ (nest (expr_kinds a) _ rest (behind_one _ (nest (expr_kinds l) _ rest refl)))))))))
 
 -- ---- sending
 
@@ -135,7 +138,8 @@ send_took room k c h n rc rh rn lc lh ln f rest at =
     then_took _ (comma_took room n rn ln g3 rest h3) (λ nn g4 h4 q4.
     took _ g4 h4 (record { chunk = q2; host = q3; bound = q4 })))))
 
-remote_took : (room : ℕ) (e c h n : Expr) (r : Name) (f : Front) (rest : Kinds) → x.OnRemote c h n r ≡ e → Measured e (1 + max (expr_depth c) (max (expr_depth h) (expr_depth n))) (1 + expr_nodes c + expr_nodes h + expr_nodes n) → expr_depth e ≤ 64
+remote_took : (room : ℕ) (e c h n : Expr) (r : Name) (f : Front) (rest : Kinds) → x.OnRemote c h n r ≡ e
+    → Measured e (1 + max (expr_depth c) (max (expr_depth h) (expr_depth n))) (1 + expr_nodes c + expr_nodes h + expr_nodes n) → expr_depth e ≤ 64
     → Took (send_parts (expr_to room) room f) (kind.Word r ∷ kind.Symbol symbols.ParenClose ∷ rest) (IsSend c h n) → Took (key_form (expr_to room) room keys.OnRemote f) rest (IsNode e)
 unfolding key_form remote_form
 remote_took room e c h n r f rest t d most p =
@@ -144,24 +148,35 @@ remote_took room e c h n r f rest t d most p =
     (ap (λ z. x.OnRemote z v.host.tree v.bound.tree w) q.chunk.tree ∙ (ap (λ z. x.OnRemote c z v.bound.tree w) q.host.tree ∙ (ap (λ z. x.OnRemote c h z w) q.bound.tree ∙ (ap (λ z. x.OnRemote c h n z) q2 ∙ t))))
     (omega (arith, q.chunk.depth, q.host.depth, q.bound.depth, d.depth)) most (simp length-append (omega (arith, q.chunk.nodes, q.host.nodes, q.bound.nodes, d.nodes)))))))
 
-pub remote_read : (e c h n : Expr) (r : Name) → x.OnRemote c h n r ≡ e → Measured e (1 + max (expr_depth c) (max (expr_depth h) (expr_depth n))) (1 + expr_nodes c + expr_nodes h + expr_nodes n) → expr_depth e ≤ 64 → IsRead c → IsRead h → IsRead n
-    → expr_kinds e ≡ kind.Key keys.OnRemote ∷ kind.Symbol symbols.ParenOpen ∷ (expr_kinds c ++ (kind.Symbol symbols.Comma ∷ (expr_kinds h ++ (kind.Symbol symbols.Comma ∷ (expr_kinds n ++ (kind.Symbol symbols.Comma ∷ kind.Word r ∷ kind.Symbol symbols.ParenClose ∷ []))))))
+pub remote_read : (e c h n : Expr) (r : Name) → x.OnRemote c h n r ≡ e → Measured e (1 + max (expr_depth c) (max (expr_depth h) (expr_depth n))) (1 + expr_nodes c + expr_nodes h + expr_nodes n)
+    → expr_depth e ≤ 64 → IsRead c → IsRead h → IsRead n
+    → expr_kinds e
+    ≡ kind.Key keys.OnRemote ∷ kind.Symbol symbols.ParenOpen ∷
+    (expr_kinds c ++
+    (kind.Symbol symbols.Comma ∷ (expr_kinds h ++ (kind.Symbol symbols.Comma ∷ (expr_kinds n ++ (kind.Symbol symbols.Comma ∷ kind.Word r ∷ kind.Symbol symbols.ParenClose ∷ []))))))
     → IsRead e
 remote_read e c h n r t d most rc rh rn ks = by_operand e _ _ refl most ks (λ room m f rest at. remote_took room e c h n r f rest t d most
     (send_took room keys.OnRemote c h n rc rh rn (omega (arith, m, d.depth)) (omega (arith, m, d.depth)) (omega (arith, m, d.depth)) f (kind.Word r ∷ kind.Symbol symbols.ParenClose ∷ rest)
     (at ∙ behind_one _ (behind_one _ (nest (expr_kinds c) _ rest (behind_one _ (nest (expr_kinds h) _ rest (behind_one _ (nest (expr_kinds n) _ rest refl)))))))))
 
-neighbor_took : (room : ℕ) (e c h n v : Expr) (f : Front) (rest : Kinds) → x.OnNeighbor c h n v ≡ e → Measured e (1 + max (max (expr_depth c) (expr_depth h)) (max (expr_depth n) (expr_depth v))) (1 + expr_nodes c + expr_nodes h + expr_nodes n + expr_nodes v) → expr_depth e ≤ 64
+neighbor_took : (room : ℕ) (e c h n v : Expr) (f : Front) (rest : Kinds) → x.OnNeighbor c h n v ≡ e
+    → Measured e (1 + max (max (expr_depth c) (expr_depth h)) (max (expr_depth n) (expr_depth v))) (1 + expr_nodes c + expr_nodes h + expr_nodes n + expr_nodes v) → expr_depth e ≤ 64
     → IsRead v → 2 * expr_depth v + 8 ≤ room → Took (send_parts (expr_to room) room f) (expr_kinds v ++ (kind.Symbol symbols.ParenClose ∷ rest)) (IsSend c h n) → Took (key_form (expr_to room) room keys.OnNeighbor f) rest (IsNode e)
 unfolding key_form neighbor_form
 neighbor_took room e c h n v f rest t d most rv lv p =
     then_took _ p (λ s g k q. then_took _ (close_took room v rv lv g rest k) (λ nv g2 k2 q2.
     took _ g2 k2 (is_over e (x.OnNeighbor s.chunk.tree s.host.tree s.bound.tree nv.tree) (place f) (both (below_of s.chunk) (both (below_of s.host) (both (below_of s.bound) (below_of nv))))
-    (ap (λ z. x.OnNeighbor z s.host.tree s.bound.tree nv.tree) q.chunk.tree ∙ (ap (λ z. x.OnNeighbor c z s.bound.tree nv.tree) q.host.tree ∙ (ap (λ z. x.OnNeighbor c h z nv.tree) q.bound.tree ∙ (ap (λ z. x.OnNeighbor c h n z) q2.tree ∙ t))))
+    (ap (λ z. x.OnNeighbor z s.host.tree s.bound.tree nv.tree) q.chunk.tree ∙
+    (ap (λ z. x.OnNeighbor c z s.bound.tree nv.tree) q.host.tree ∙ (ap (λ z. x.OnNeighbor c h z nv.tree) q.bound.tree ∙ (ap (λ z. x.OnNeighbor c h n z) q2.tree ∙ t))))
     (omega (arith, q.chunk.depth, q.host.depth, q.bound.depth, q2.depth, d.depth)) most (simp length-append (omega (arith, q.chunk.nodes, q.host.nodes, q.bound.nodes, q2.nodes, d.nodes))))))
 
-pub neighbor_read : (e c h n v : Expr) → x.OnNeighbor c h n v ≡ e → Measured e (1 + max (max (expr_depth c) (expr_depth h)) (max (expr_depth n) (expr_depth v))) (1 + expr_nodes c + expr_nodes h + expr_nodes n + expr_nodes v) → expr_depth e ≤ 64 → IsRead c → IsRead h → IsRead n → IsRead v
-    → expr_kinds e ≡ kind.Key keys.OnNeighbor ∷ kind.Symbol symbols.ParenOpen ∷ (expr_kinds c ++ (kind.Symbol symbols.Comma ∷ (expr_kinds h ++ (kind.Symbol symbols.Comma ∷ (expr_kinds n ++ (kind.Symbol symbols.Comma ∷ (expr_kinds v ++ (kind.Symbol symbols.ParenClose ∷ []))))))))
+pub neighbor_read : (e c h n v : Expr) → x.OnNeighbor c h n v ≡ e
+    → Measured e (1 + max (max (expr_depth c) (expr_depth h)) (max (expr_depth n) (expr_depth v))) (1 + expr_nodes c + expr_nodes h + expr_nodes n + expr_nodes v) → expr_depth e ≤ 64 → IsRead c
+    → IsRead h → IsRead n → IsRead v
+    → expr_kinds e
+    ≡ kind.Key keys.OnNeighbor ∷ kind.Symbol symbols.ParenOpen ∷
+    (expr_kinds c ++
+    (kind.Symbol symbols.Comma ∷ (expr_kinds h ++ (kind.Symbol symbols.Comma ∷ (expr_kinds n ++ (kind.Symbol symbols.Comma ∷ (expr_kinds v ++ (kind.Symbol symbols.ParenClose ∷ []))))))))
     → IsRead e
 neighbor_read e c h n v t d most rc rh rn rv ks = by_operand e _ _ refl most ks (λ room m f rest at. neighbor_took room e c h n v f rest t d most rv (omega (arith, m, d.depth))
     (send_took room keys.OnNeighbor c h n rc rh rn (omega (arith, m, d.depth)) (omega (arith, m, d.depth)) (omega (arith, m, d.depth)) f (expr_kinds v ++ (kind.Symbol symbols.ParenClose ∷ rest))
@@ -251,7 +266,8 @@ unfolding bindings_from
 no_binding room zero done f e = refl
 no_binding room (suc fuel) done f e = rw e refl
 
-let_took : (room : ℕ) (e : Expr) (v : Name) (t : Ty) (a b : Expr) → x.Let v t a b ≡ e → Measured e (1 + max (expr_depth a) (expr_depth b)) (1 + expr_nodes a + expr_nodes b) → expr_depth e ≤ 64 → IsProperType t → type_depth t ≤ 8 → IsRead a → IsRead b → 2 * expr_depth e + 7 ≤ room
+let_took : (room : ℕ) (e : Expr) (v : Name) (t : Ty) (a b : Expr) → x.Let v t a b ≡ e → Measured e (1 + max (expr_depth a) (expr_depth b)) (1 + expr_nodes a + expr_nodes b) → expr_depth e ≤ 64
+    → IsProperType t → type_depth t ≤ 8 → IsRead a → IsRead b → 2 * expr_depth e + 7 ≤ room
     → (f : Front) (rest : Kinds)
     → kinds_at f ≡ kind.Key keys.Let ∷ kind.Key keys.Val ∷ kind.Word v ∷ kind.Symbol symbols.Colon ∷ (type_kinds t ++ (kind.Symbol symbols.Equal ∷ (expr_kinds a ++ (kind.Key keys.In ∷ (expr_kinds b ++ (kind.Key keys.End ∷ rest))))))
     → Took (key_form (expr_to room) room keys.Let f) rest (IsNode e)
@@ -268,7 +284,8 @@ let_took room e v t a b is d most p small ra rb n f rest h =
     (ap (λ z. x.Let z w.ty w.value.tree nb.tree) q1.name ∙ (ap (λ z. x.Let v z w.value.tree nb.tree) q1.ty ∙ (ap (λ z. x.Let v t z nb.tree) q1.value.tree ∙ (ap (λ z. x.Let v t a z) q4.tree ∙ is))))
     (omega (arith, q1.value.depth, q4.depth, d.depth)) most (simp length-append (omega (arith, q1.value.nodes, q4.nodes, d.nodes)))))))))))
 
-pub let_read : (e : Expr) (v : Name) (t : Ty) (a b : Expr) → x.Let v t a b ≡ e → Measured e (1 + max (expr_depth a) (expr_depth b)) (1 + expr_nodes a + expr_nodes b) → expr_depth e ≤ 64 → IsProperType t → type_depth t ≤ 8 → IsRead a → IsRead b
+pub let_read : (e : Expr) (v : Name) (t : Ty) (a b : Expr) → x.Let v t a b ≡ e → Measured e (1 + max (expr_depth a) (expr_depth b)) (1 + expr_nodes a + expr_nodes b) → expr_depth e ≤ 64
+    → IsProperType t → type_depth t ≤ 8 → IsRead a → IsRead b
     → expr_kinds e ≡ kind.Key keys.Let ∷ kind.Key keys.Val ∷ kind.Word v ∷ kind.Symbol symbols.Colon ∷ (type_kinds t ++ (kind.Symbol symbols.Equal ∷ (expr_kinds a ++ (kind.Key keys.In ∷ (expr_kinds b ++ (kind.Key keys.End ∷ []))))))
     → IsRead e
 let_read e v t a b is d most p small ra rb ks = by_operand e _ _ refl most ks (λ room n f rest h. let_took room e v t a b is d most p small ra rb n f rest

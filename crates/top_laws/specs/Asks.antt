@@ -23,7 +23,9 @@ entry_words args a = codes "entry" ∷ a.chunk.entry ∷ args ∷ []
 
 -- a request line by line, its program last
 abbrev pub ask_lines : List (List ℕ) → List ℕ → AskFile → List (List ℕ)
-ask_lines text args a = codes "planet inject 1" ∷ spaced_words (to_words a) ∷ spaced_words (from_words a) ∷ spaced_words (bound_words a) ∷ spaced_words (entry_words args a) ∷ program_lines text
+ask_lines text args a =
+    codes "planet inject 1" ∷ spaced_words (to_words a) ∷ spaced_words (from_words a) ∷ spaced_words (bound_words a) ∷ spaced_words
+    (entry_words args a) ∷ program_lines text
 
 -- a request as a text
 abbrev pub ask_text : List (List ℕ) → List ℕ → AskFile → List ℕ

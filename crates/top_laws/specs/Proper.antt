@@ -105,7 +105,8 @@ mutual
     binary : {e : Expr} (o : Op) (a b : Expr) → out-Expr e ≡ Expr-F.Binary o a b → IsProper a → IsProper b → IsProper e
     part : {e : Expr} (i : ℕ) (a : Expr) → out-Expr e ≡ Expr-F.Part i a → 1 ≤ i → i ≤ 8 → IsProper a → IsProper e
     raising : {e : Expr} (x : Name) (t : Option Ty) → out-Expr e ≡ Expr-F.Raise x t → IsName x → IsProperOption t → IsProper e
-    handling : {e : Expr} (a : Expr) (cs : List Clause) → out-Expr e ≡ Expr-F.Try a cs → IsProper a → 1 ≤ length cs → length cs ≤ 8 → AreProperClauses cs → IsProper e
+    handling : {e : Expr} (a : Expr) (cs : List Clause) → out-Expr e ≡ Expr-F.Try a cs → IsProper a → 1 ≤ length cs → length cs ≤ 8
+        → AreProperClauses cs → IsProper e
     fold_left : {e : Expr} (f : Name) (a l : Expr) → out-Expr e ≡ Expr-F.Foldl f a l → IsName f → IsProper a → IsProper l → IsProper e
     fold_right : {e : Expr} (f : Name) (a l : Expr) → out-Expr e ≡ Expr-F.Foldr f a l → IsName f → IsProper a → IsProper l → IsProper e
     packing : {e : Expr} (f : Name) (es : List Expr) → out-Expr e ≡ Expr-F.ChunkOf f es → IsName f → length es ≤ 8 → AreProper es → IsProper e

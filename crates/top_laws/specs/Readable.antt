@@ -19,9 +19,12 @@ mutual
     blob : {room : ℕ} {v : Value} (b : List ℕ) → out-Value v ≡ Value-F.Blob b → IsReadable (suc room) v ty.Blob
     host : {room : ℕ} {v : Value} (h : Host) → out-Value v ≡ Value-F.Host h → IsReadable (suc room) v ty.Host
     dev : {room : ℕ} {v : Value} (d : Dev) → out-Value v ≡ Value-F.Dev d → IsReadable (suc room) v ty.Dev
-    nil : {room : ℕ} {v : Value} (t : Ty) → out-Value v ≡ Value-F.List t [] → 0 < room → IsReadableType t → type_depth t ≤ room → IsReadable (suc room) v (ty.List t)
-    list : {room : ℕ} {v : Value} (t : Ty) (w : Value) (ws : List Value) → out-Value v ≡ Value-F.List t (w ∷ ws) → 0 < room → length ws ≤ 62 → IsReadable room w t → AreOfType room ws t → IsReadable (suc room) v (ty.List t)
-    tuple : {room : ℕ} {v : Value} (a b : Value) (vs : List Value) (t u : Ty) (ts : List Ty) → out-Value v ≡ Value-F.Tuple (a ∷ b ∷ vs) → 0 < room → length vs ≤ 6
+    nil : {room : ℕ} {v : Value} (t : Ty) → out-Value v ≡ Value-F.List t [] → 0 < room → IsReadableType t → type_depth t ≤ room
+        → IsReadable (suc room) v (ty.List t)
+    list : {room : ℕ} {v : Value} (t : Ty) (w : Value) (ws : List Value) → out-Value v ≡ Value-F.List t (w ∷ ws) → 0 < room → length ws ≤ 62
+        → IsReadable room w t → AreOfType room ws t → IsReadable (suc room) v (ty.List t)
+    tuple : {room : ℕ} {v : Value} (a b : Value) (vs : List Value) (t u : Ty) (ts : List Ty) → out-Value v ≡ Value-F.Tuple (a ∷ b ∷ vs)
+        → 0 < room → length vs ≤ 6
         → IsReadable room a t → IsReadable room b u → AreReadable room vs ts → IsReadable (suc room) v (ty.Tuple (t ∷ u ∷ ts))
 
   -- values of one type
@@ -32,4 +35,5 @@ mutual
   -- values of types in order
   pub data AreReadable : ℕ → List Value → List Ty → Type 0 where
     no_parts : {room : ℕ} → AreReadable room [] []
-    and_part : {room : ℕ} {v : Value} {vs : List Value} {t : Ty} {ts : List Ty} → IsReadable room v t → AreReadable room vs ts → AreReadable room (v ∷ vs) (t ∷ ts)
+    and_part : {room : ℕ} {v : Value} {vs : List Value} {t : Ty} {ts : List Ty} → IsReadable room v t → AreReadable room vs ts
+        → AreReadable room (v ∷ vs) (t ∷ ts)

@@ -1,3 +1,4 @@
+//! Shows that printed expressions are within the limits of what is read again.
 ghost use Rattle.std.specs.Prelude.{IsTrue};
 ghost use Rattle.std.specs.List.{list_all};
 ghost use Rattle.top_laws.specs.Exact.{is_byte, exact, clause_exact};

@@ -1,3 +1,4 @@
+//! A law shown by running: a printed program is read again as itself.
 ghost use Rattle.std.specs.Prelude.{◌≡◌, IsTrue, Ok};
 ghost use Rattle.std.specs.List.{list_all};
 ghost use Rattle.plan_printer_spec.specs.Printed.{program_text};

@@ -1,3 +1,4 @@
+//! A law shown by running: printed arguments are read again as themselves.
 ghost use Rattle.std.specs.Prelude.{◌≡◌, ℕ, IsTrue, slice_get, Some};
 ghost use Rattle.std.specs.List.{list_all};
 ghost use Rattle.plan_base.specs.declared.tree.Value.{Value as Tree};

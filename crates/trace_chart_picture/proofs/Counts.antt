@@ -3,7 +3,8 @@ use Rattle.std.proofs.Common.{◌≡◌, ℕ, Bool, List, [], ◌∷◌, ◌+◌
 use Rattle.std.proofs.lemmas.List.Sums.{sum_by-cons}
 use Rattle.std.specs.List.{count_by}
 use Rattle.trace_chart_picture.specs.declared.line.Line.{Line}
-use Rattle.trace_chart_picture.specs.declared.line.Line.TheVariants.{Injected, Forged, Arrived, Asked, Printed, Delivered, Gave, Raised, Spent, Handled, Queued, Dropped, Refused, Advert, Heard, Ticked, Sent, Wire, WireShown, Off, Again, Lost, LostAdvert, Nothing}
+use Rattle.trace_chart_picture.specs.declared.line.Line.TheVariants.{Injected, Forged, Arrived, Asked, Printed, Delivered, Gave, Raised, Spent, Handled, Queued, Dropped, Refused, Advert, Heard}
+use Rattle.trace_chart_picture.specs.declared.line.Line.TheVariants.{Ticked, Sent, Wire, WireShown, Off, Again, Lost, LostAdvert, Nothing}
 use Rattle.trace_chart_picture.specs.Counts.{is_frame, is_loss, is_visit}
 use Rattle.trace_chart_picture.specs.declared.drawing.Kind.{Kind}
 use Rattle.trace_chart_picture.specs.declared.line.Entry.{Entry}

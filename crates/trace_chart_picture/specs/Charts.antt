@@ -24,7 +24,8 @@ kinds_of ms = map (λ m. m.kind) ms
 abbrev pub labels_of : List Mark → List (List ℕ)
 labels_of ms = map (λ m. m.label) ms
 
--- a drawing is that of its trace; it has a mark with the right label for each line, and as many arrows, crosses and ends as the trace has frames, losses and visits
+-- a drawing is that of its trace; it has a mark with the right label for each line, and as many arrows, crosses and ends as the trace has
+-- frames, losses and visits
 pub record Draws (t : Trace) (d : Drawing) : Type 0 where
   pub whole : d ≡ drawing_of t
   pub few : length (hosts_of t.entries) ≤ 64

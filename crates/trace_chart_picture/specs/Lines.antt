@@ -9,7 +9,9 @@ use Rattle.trace_chart_picture.specs.declared.line.What.TheVariants as what
 use Rattle.trace_chart_picture.specs.declared.line.Reason.{Reason}
 use Rattle.trace_chart_picture.specs.declared.line.Reason.TheVariants as reason
 use Rattle.trace_chart_picture.specs.declared.line.Line.{Line}
-use Rattle.trace_chart_picture.specs.declared.line.Line.TheVariants.{Injected, Forged, Arrived, Asked, Printed, Delivered, Gave, Raised, Spent, Handled, Queued, Dropped, Refused, Advert, Heard, Ticked, Sent, Wire, WireShown, Off, Again, Lost, LostAdvert, Nothing}
+use Rattle.trace_chart_picture.specs.declared.line.Line.TheVariants.{Injected, Forged, Arrived, Asked, Printed, Delivered, Gave, Raised}
+use Rattle.trace_chart_picture.specs.declared.line.Line.TheVariants.{Spent, Handled, Queued, Dropped, Refused, Advert, Heard, Ticked, Sent}
+use Rattle.trace_chart_picture.specs.declared.line.Line.TheVariants.{Wire, WireShown, Off, Again, Lost, LostAdvert, Nothing}
 use Rattle.trace_chart_picture.specs.declared.line.Entry.{Entry}
 
 -- the host at which a line happened, where it names one

@@ -79,7 +79,9 @@ label_y _ row = row * 18 + 70
 
 -- a label, or nothing
 unfoldable pub labelled_text : List ℕ → Mark → List ℕ
-labelled_text label m = if length label == 0 then [] else text_text (kind_word m.kind) (x_of m.at.across + 9) (label_y m.kind m.at.row) ++ (shown_label label ++ close_text)
+labelled_text label m =
+    if length label == 0 then [] else text_text (kind_word m.kind) (x_of m.at.across + 9) (label_y m.kind m.at.row)
+    ++ (shown_label label ++ close_text)
 
 -- a mark: its sign and its label
 unfoldable pub mark_text : Mark → List ℕ
@@ -106,7 +108,8 @@ unfoldable pub row_text : Row → List ℕ
 row_text r = granted_text r ++ (paid_text r ++ codes "\n")
 
 unfoldable pub heading_text : List ℕ
-heading_text = codes "<tspan x='100'>ledger</tspan><tspan x='190'>granted</tspan><tspan x='280'>hops</tspan><tspan x='370'>evals</tspan><tspan x='460'>live</tspan><tspan x='550'>left</tspan>\n"
+heading_text = codes
+    "<tspan x='100'>ledger</tspan><tspan x='190'>granted</tspan><tspan x='280'>hops</tspan><tspan x='370'>evals</tspan><tspan x='460'>live</tspan><tspan x='550'>left</tspan>\n"
 
 -- the ledger below this row
 unfoldable pub ledger_text : ℕ → Option (List Row) → List ℕ
@@ -127,4 +130,7 @@ marks_text ms = flat_map event_text ms ++ (flat_map way_text ms ++ flat_map mark
 
 -- a picture
 unfoldable pub picture_text : Drawing → List ℕ
-picture_text d = size_text d.width d.height ++ (style_text ++ (flat_map (lane_text d.bottom) d.lanes ++ (marks_text d.marks ++ (ledger_text d.bottom d.ledger ++ codes "</svg>\n"))))
+picture_text d =
+    size_text d.width d.height
+    ++ (style_text ++
+    (flat_map (lane_text d.bottom) d.lanes ++ (marks_text d.marks ++ (ledger_text d.bottom d.ledger ++ codes "</svg>\n"))))

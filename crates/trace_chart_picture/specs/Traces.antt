@@ -13,7 +13,11 @@ named_text name n = name ++ decimal n
 
 -- a row of a ledger
 unfoldable pub row_text : Row → List ℕ
-row_text r = family_text r.family ++ (named_text (codes " granted ") r.granted ++ (named_text (codes " hops ") r.hops ++ (named_text (codes " evals ") r.evals ++ (named_text (codes " live ") r.live ++ named_text (codes " left ") r.left))))
+row_text r =
+    family_text r.family
+    ++ (named_text (codes " granted ") r.granted ++
+    (named_text (codes " hops ") r.hops ++
+    (named_text (codes " evals ") r.evals ++ (named_text (codes " live ") r.live ++ named_text (codes " left ") r.left))))
 
 -- some bytes as a line
 abbrev pub as_line : List ℕ → List ℕ

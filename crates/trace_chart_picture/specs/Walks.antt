@@ -50,7 +50,19 @@ far_end across device (l ∷ ls) = if (l.across == across) && (l.device == devic
 
 -- no line yet
 abbrev pub start : TraceWalk
-start = record { places = []; journeys = []; links = []; row = 0; event = 0; is_row_used = false; sender = 0; device = 0; what = stroke.Advert; is_off = false; taken = None }
+start = record {
+  places = [];
+  journeys = [];
+  links = [];
+  row = 0;
+  event = 0;
+  is_row_used = false;
+  sender = 0;
+  device = 0;
+  what = stroke.Advert;
+  is_off = false;
+  taken = None;
+}
 
 abbrev pub next : ℕ → ℕ
 next row = min (row + 1) 4294967295
@@ -94,7 +106,17 @@ abbrev pub set_off_place : TraceWalk → LinePlace
 set_off_place s = here s.sender (Some (length s.journeys)) s
 
 abbrev pub set_off : ℕ → TraceWalk → TraceWalk
-set_off number s = record s { journeys = s.journeys ++ record { number = number; from = record { across = s.sender; row = s.row }; to = record { across = s.sender; row = next s.row }; device = s.device; what = s.what; stroke = stroke.Open } ∷ [] }
+set_off number s =
+    record s {
+      journeys = s.journeys ++ record {
+        number = number;
+        from = record { across = s.sender; row = s.row };
+        to = record { across = s.sender; row = next s.row };
+        device = s.device;
+        what = s.what;
+        stroke = stroke.Open;
+      } ∷ [];
+    }
 
 -- the way of a frame at a place among those on the wire
 abbrev pub journey_at : Option ℕ → TraceWalk → Option Journey

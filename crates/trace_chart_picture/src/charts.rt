@@ -1,3 +1,4 @@
+//! The public call: the chart of a trace.
 ghost use Rattle.std.specs.Prelude.{◌≡◌, IfOk, IfErr};
 ghost use Rattle.trace_chart_picture.specs.Charts.{IsChart};
 ghost use Rattle.trace_chart_picture.specs.Faults.{IsChartFault};

@@ -1,3 +1,4 @@
+//! Places, lines and marks of a picture.
 use crate::line::Row;
 use containers::Items;
 use plan_base::Bytes;

@@ -1,3 +1,4 @@
+//! Reads an entry of a trace.
 ghost use Rattle.std.specs.Prelude.{◌≡◌, ◌≤◌, length, IfOk, IfSome};
 ghost use Rattle.std.specs.Str.{bytes_eq};
 ghost use Rattle.trace_chart_picture.specs.Lines as spec;

@@ -1,3 +1,4 @@
+//! Escapes a text for XML.
 ghost use Rattle.std.specs.Prelude.{◌≡◌, ◌++◌, codes, ◌<◌, ◌≤◌, ◌==◌, ◌&&◌, ◌||◌, true, length, take, get_or, nat_lt, nat_le, OnOk};
 ghost use Rattle.std.specs.List.{list_all};
 ghost use Rattle.trace_chart_picture.specs.Escapes.{byte_text, seen_with, escaped_from, escaped_text, is_harmless, begins_character, cut_place, shown_label};

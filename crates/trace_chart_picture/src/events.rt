@@ -1,3 +1,4 @@
+//! Draws the numbers of events.
 ghost use Rattle.std.specs.Prelude.{◌≡◌, ◌+◌, ◌*◌, ◌++◌, OnOk};
 ghost use Rattle.std.specs.List.{flat_map};
 ghost use Rattle.trace_chart_picture.specs.Places.{y_of};

@@ -1,3 +1,4 @@
+//! Where the columns of hosts stand.
 ghost use Rattle.std.specs.Prelude.{◌≡◌, ◌≤◌, ◌<◌, length, OnOk, IfOk, IfErr};
 ghost use Rattle.trace_chart_picture.specs.Hosts.{with_host, with_named, hosts_of, hosts_from, column, lanes_of};
 ghost use Rattle.trace_chart_picture.specs.Faults.{IsDrawFault};

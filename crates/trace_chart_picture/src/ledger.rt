@@ -1,3 +1,4 @@
+//! Draws the ledger.
 ghost use Rattle.std.specs.Prelude.{◌≡◌, ◌++◌, OnOk};
 ghost use Rattle.std.specs.List.{flat_map};
 ghost use Rattle.trace_chart_picture.specs.Pictures.{heading_text, field_text, paid_text, row_start, granted_text, row_text, ledger_text};

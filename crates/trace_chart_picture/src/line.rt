@@ -1,3 +1,4 @@
+//! The lines of a trace, as a chart reads them.
 ghost use Rattle.std.specs.Prelude.{◌≡◌};
 ghost use Rattle.trace_chart_picture.specs.Lines as spec;
 

@@ -1,3 +1,4 @@
+//! Places the mark of each line.
 ghost use Rattle.std.specs.Prelude.{◌≡◌, ◌≤◌, length, IfOk, IfErr};
 ghost use Rattle.trace_chart_picture.specs.Kinds.{label_text};
 ghost use Rattle.trace_chart_picture.specs.Marks as spec;

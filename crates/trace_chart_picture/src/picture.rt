@@ -1,3 +1,4 @@
+//! Draws a whole picture.
 ghost use Rattle.std.specs.Prelude.{◌≡◌, ◌++◌, OnOk};
 ghost use Rattle.std.specs.List.{flat_map};
 ghost use Rattle.trace_chart_picture.specs.Pictures.{name_text, line_text, lane_text, marks_text, picture_start, size_text, picture_text};

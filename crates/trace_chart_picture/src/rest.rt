@@ -1,3 +1,4 @@
+//! Reads what stands behind the first word of a line.
 use crate::entry::{behind, cut, cut_at, cut_last, word_at};
 use crate::line::{Line, Reason, What};
 use crate::number::{long, short};

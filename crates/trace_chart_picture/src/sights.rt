@@ -1,3 +1,4 @@
+//! Where all lines are seen.
 ghost use Rattle.std.specs.Prelude.{◌≡◌, ◌≤◌, length, IfOk, IfErr};
 ghost use Rattle.trace_chart_picture.specs.Faults.{IsDrawFault};
 ghost use Rattle.trace_chart_picture.specs.Hosts.{hosts_of};

@@ -1,3 +1,4 @@
+//! The style and the legend.
 ghost use Rattle.std.specs.Prelude.{◌≡◌, ◌++◌, OnOk};
 ghost use Rattle.trace_chart_picture.specs.Styles.{rules_text, heads_text, legend_text, style_text};
 

@@ -1,3 +1,4 @@
+//! Reads the bytes of a trace.
 ghost use Rattle.std.specs.Prelude.{◌≡◌, ◌++◌, ◌<◌, codes, length, IfOk, IfSome, OnOk};
 ghost use Rattle.trace_chart_picture.specs.Traces as whole;
 

@@ -1,3 +1,4 @@
+//! Follows the frames of a trace from line to line.
 ghost use Rattle.std.specs.Prelude.{◌≡◌, ◌≤◌, ◌∷◌, ◌++◌, length, OnOk, IfOk};
 ghost use Rattle.trace_chart_picture.specs.Walks as spec;
 

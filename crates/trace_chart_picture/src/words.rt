@@ -1,3 +1,4 @@
+//! The labels of lines.
 ghost use Rattle.std.specs.Prelude.{◌≡◌, ◌++◌, OnOk};
 ghost use Rattle.trace_chart_picture.specs.Kinds.{kind_of, label_text, visit_text, words_text};
 ghost use Rattle.trace_chart_picture.specs.Signs.{stroke_word, kind_word, sign_path};

@@ -1,3 +1,4 @@
+//! Writes a line of a trace again.
 ghost use Rattle.std.specs.Prelude.{◌≡◌, ◌++◌, codes, OnOk};
 ghost use Rattle.std.specs.Fmt.{decimal};
 ghost use Rattle.trace_chart_picture.specs.Lines as spec;

@@ -1,3 +1,4 @@
+//! Writes the line of an act.
 ghost use Rattle.std.specs.Prelude.{◌≡◌, ◌+◌, ◌≤◌, [], ◌++◌, codes, length, OnOk, OnErr};
 ghost use Rattle.std.specs.Fmt.{decimal};
 ghost use Rattle.plan_printer_spec.specs.Literals.{int_text};

@@ -1,3 +1,4 @@
+//! Writes the lines of a network's events.
 ghost use Rattle.std.specs.Prelude.{◌≡◌, ◌+◌, ◌≤◌, ◌++◌, codes, length, map, OnOk};
 ghost use Rattle.std.specs.Fmt.{decimal};
 ghost use Rattle.node_core_spec.specs.Texts.{head_text, bound_text};

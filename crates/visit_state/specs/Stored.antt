@@ -15,7 +15,9 @@ use Rattle.plan_meaning.specs.State.{Own}
 abbrev pub own_code : Coded Own
 own_code =
     code_by (Ctx × (Family × (ℕ × (ℕ × (List Sent × List Note)))))
-    (coded× ctx_type.the_row.coded (coded× family_type.the_row.coded (coded× coded_ℕ (coded× coded_ℕ (coded× (coded_list sent_type.the_row.coded) (coded_list note_type.the_row.coded))))))
+    (coded× ctx_type.the_row.coded
+    (coded× family_type.the_row.coded
+    (coded× coded_ℕ (coded× coded_ℕ (coded× (coded_list sent_type.the_row.coded) (coded_list note_type.the_row.coded))))))
     (λ o. (o.ctx, (o.family, (o.work, (o.evals, (o.outbox, o.notes))))))
     (λ p. record { ctx = p.0; family = p.1.0; work = p.1.1.0; evals = p.1.1.1.0; outbox = p.1.1.1.1.0; notes = p.1.1.1.1.1 })
     (λ _. refl)

@@ -1,3 +1,4 @@
+//! Looks up bindings.
 ghost use Rattle.std.specs.Prelude.{◌≡◌, IfOk, option_copied};
 ghost use Rattle.plan_meaning.specs.Meaning as spec;
 

@@ -1,3 +1,4 @@
+//! Looks up functions and handlers.
 ghost use Rattle.std.specs.Prelude.{◌≡◌, option_copied, take};
 ghost use Rattle.plan_types_spec.specs.TypingNames as names;
 ghost use Rattle.plan_meaning.specs.Meaning as spec;

@@ -1,3 +1,4 @@
+//! What operators and primitives give an evaluation.
 ghost use Rattle.plan_types_spec.specs.Rules as rules;
 ghost use Rattle.plan_types_spec.specs.Rules.{Given};
 ghost use Rattle.plan_base.specs.declared.tree.Value.{out-Value};

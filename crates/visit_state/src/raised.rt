@@ -1,3 +1,4 @@
+//! The exceptions that an evaluation raises.
 ghost use Rattle.std.specs.Prelude.{codes};
 ghost use Rattle.plan_base.specs.Words.{IsName};
 ghost use Rattle.plan_types_spec.specs.Rules.{exception, no_service, too_large};

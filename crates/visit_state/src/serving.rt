@@ -1,3 +1,4 @@
+//! Asks a service.
 ghost use Rattle.std.specs.Prelude.{◌≡◌, ◌≤◌, IsSome};
 ghost use Rattle.plan_meaning.specs.State.{joined_state};
 ghost use Rattle.plan_meaning.specs.Run as run;

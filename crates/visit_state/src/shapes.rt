@@ -1,3 +1,4 @@
+//! The number, host or chunk that a value is.
 ghost use Rattle.std.specs.Prelude.{◌≡◌, option_copied};
 ghost use Rattle.plan_meaning.specs.Meaning as spec;
 

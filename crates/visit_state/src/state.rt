@@ -1,3 +1,4 @@
+//! The state of a visit beside its services: bound, work, sends and notes.
 ghost use Rattle.std.specs.Prelude.{◌≡◌, ◌+◌, ◌≤◌, length, min, [], IfOk, OnOk, IsTrue, IsFalse};
 ghost use Rattle.plan_meaning.specs.declared.stop.EvalStop.TheVariants.{WorkSpent};
 ghost use Rattle.plan_meaning.specs.Run.{gave, stopped};

@@ -1,3 +1,4 @@
+//! Reads fields from bytes.
 ghost use Rattle.std.specs.Prelude.{◌≡◌, ◌+◌, ◌<◌, ◌≤◌, length};
 ghost use Rattle.std.specs.Int.{w8, w16, w32, w64};
 ghost use Rattle.wire_bytes.specs.Fields.{Reads, bytes_at, number_at, int_at, IsBytes};

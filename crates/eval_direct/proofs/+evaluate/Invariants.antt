@@ -29,7 +29,8 @@ decreases-direct::proceed g l = 9 * l.state.now.work + 5
 abbrev pub invariant-direct::proceed-loop-more : goal.invariant-direct::proceed-loop-more
 invariant-direct::proceed-loop-more g l = record {
   here : IsHere l.codes l.here;
-  leads : Leads (next_step l.here.code.now l.here.fun (spot l.here l.e) l.fn.first (joined_state l.fn.state (g.S.Services.stands l.fn.svc))) (next_step l.here.code.now l.here.fun (spot l.here l.e) l.next (joined_state l.state (g.S.Services.stands l.svc)));
+  leads : Leads (next_step l.here.code.now l.here.fun (spot l.here l.e) l.fn.first
+      (joined_state l.fn.state (g.S.Services.stands l.fn.svc))) (next_step l.here.code.now l.here.fun (spot l.here l.e) l.next (joined_state l.state (g.S.Services.stands l.svc)));
   falls : l.state.work ≤ l.fn.state.work;
   grown : Grows l.fn.codes l.codes;
   offer : (g.S.Services.stands l.svc).offer ≡ (g.S.Services.stands l.fn.svc).offer;
@@ -57,7 +58,8 @@ decreases-direct::operation g l = 9 * l.state.now.work + 1
 abbrev pub invariant-rows::all_parts-loop-x : goal.invariant-rows::all_parts-loop-x
 invariant-rows::all_parts-loop-x g l = record {
   here : IsHere l.codes l.here;
-  leads : Leads (begins l.here.code.now l.here.fun (spot l.here l.e) (joined_state l.fn.state (g.S.Services.stands l.fn.svc))) (pending l.here.code.now l.here.fun (spot l.here l.e) l.held (drop (length l.held) l.fn.es) (joined_state l.state (g.S.Services.stands l.svc)));
+  leads : Leads (begins l.here.code.now l.here.fun (spot l.here l.e) (joined_state l.fn.state (g.S.Services.stands l.fn.svc)))
+      (pending l.here.code.now l.here.fun (spot l.here l.e) l.held (drop (length l.held) l.fn.es) (joined_state l.state (g.S.Services.stands l.svc)));
   falls : l.state.work ≤ l.fn.state.work;
   grown : Grows l.fn.codes l.codes;
   offer : (g.S.Services.stands l.svc).offer ≡ (g.S.Services.stands l.fn.svc).offer;

@@ -18,7 +18,8 @@ pub returns-in_ok-inside-in-Ok-Wait-clause-advances : goal.returns-in_ok-inside-
 returns-in_ok-inside-in-Ok-Wait-clause-advances g c codes inner want deep h =
     let is : c.args.flow ≡ Ok (flow.Wait c.in-Ok-Wait.rest) = cc in
     rw c.in_ok-inside-in-Ok-Wait.ensures
-    (waits_inside codes c.args.here.now.code.now c.args.here.now.fun (spot c.args.here.now c.args.e.now) c.args.frame inner deep c.in-Ok-Wait.rest (joined_state c.args.state.now (g.S.Services.stands c.args.svc.now)) _ want (itself _) (rw is at h))
+    (waits_inside codes c.args.here.now.code.now c.args.here.now.fun (spot c.args.here.now c.args.e.now) c.args.frame inner deep c.in-Ok-Wait.rest
+    (joined_state c.args.state.now (g.S.Services.stands c.args.svc.now)) _ want (itself _) (rw is at h))
 
 pub returns-in-Err-clause-advances : goal.returns-in-Err-clause-advances
 returns-in-Err-clause-advances g c codes inner want deep h =

@@ -17,22 +17,29 @@ kept_only port k b ns (Kept e) s = e
 kept_only port k b ns (Full e l) s = absurd cc
 kept_only port k b ns (Absent e f) s = absurd cc
 
-none_only : (port : ℕ) (k : ℤ) (b : List ℕ) (ns : List Note) → Ends port k b ns (gathered_entries port ns []) → holding_of k (gathered_entries port ns []) ≡ None → (64 ≤ length (gathered_entries port ns [])) ⊎ ((i : ℕ) → was_given port k ns i ≡ false)
+none_only : (port : ℕ) (k : ℤ) (b : List ℕ) (ns : List Note) → Ends port k b ns (gathered_entries port ns []) → holding_of k (gathered_entries port ns []) ≡ None
+    → (64 ≤ length (gathered_entries port ns [])) ⊎ ((i : ℕ) → was_given port k ns i ≡ false)
 none_only port k b ns (Kept e) s = absurd cc
 none_only port k b ns (Full e l) s = inl l
 none_only port k b ns (Absent e f) s = inr f
 
-whole : (port : ℕ) (k : ℤ) (b : List ℕ) (ns : List Note) → IsMessage b → holding_of k (gathered_entries port ns []) ≡ Came (was_given port k ns) b → ((i : ℕ) → i < parts_in (length b) → IsTrue (was_given port k ns i)) → held_now k (gathered_entries port ns []) ≡ Some (held.Whole k b)
+whole : (port : ℕ) (k : ℤ) (b : List ℕ) (ns : List Note) → IsMessage b → holding_of k (gathered_entries port ns []) ≡ Came (was_given port k ns) b
+    → ((i : ℕ) → i < parts_in (length b) → IsTrue (was_given port k ns i)) → held_now k (gathered_entries port ns []) ≡ Some (held.Whole k b)
 whole port k b ns m e f =
     ap (option_map (held_of k)) e
-    ∙ ap (λ t. Some (if t then held.Whole k (joined_pieces (slots_from (was_given port k ns) b 0 (parts_in (length b)))) else held.Missing k (filled_parts (slots_from (was_given port k ns) b 0 (parts_in (length b)))) (length (slots_from (was_given port k ns) b 0 (parts_in (length b))))))
+    ∙ ap (λ t.
+    Some (if t then held.Whole k (joined_pieces (slots_from (was_given port k ns) b 0 (parts_in (length b)))) else held.Missing k
+    (filled_parts (slots_from (was_given port k ns) b 0 (parts_in (length b)))) (length (slots_from (was_given port k ns) b 0 (parts_in (length b))))))
     (slots_whole (was_given port k ns) b 0 (parts_in (length b)) (λ x l h. f x (omega arith)))
     ∙ ap (λ d. Some (held.Whole k d)) (slots_joined (was_given port k ns) b 0 (parts_in (length b)) (λ x l h. f x (omega arith)) (omega (arith, parts_reach (length b))))
 
-missing : (port : ℕ) (k : ℤ) (b : List ℕ) (ns : List Note) → holding_of k (gathered_entries port ns []) ≡ Came (was_given port k ns) b → (i : ℕ) → i < parts_in (length b) → was_given port k ns i ≡ false → held_now k (gathered_entries port ns []) ≡ Some (held.Missing k (given_from (was_given port k ns) 0 (parts_in (length b))) (parts_in (length b)))
+missing : (port : ℕ) (k : ℤ) (b : List ℕ) (ns : List Note) → holding_of k (gathered_entries port ns []) ≡ Came (was_given port k ns) b → (i : ℕ) → i < parts_in (length b)
+    → was_given port k ns i ≡ false → held_now k (gathered_entries port ns []) ≡ Some (held.Missing k (given_from (was_given port k ns) 0 (parts_in (length b))) (parts_in (length b)))
 missing port k b ns e i l h =
     ap (option_map (held_of k)) e
-    ∙ ap (λ t. Some (if t then held.Whole k (joined_pieces (slots_from (was_given port k ns) b 0 (parts_in (length b)))) else held.Missing k (filled_parts (slots_from (was_given port k ns) b 0 (parts_in (length b)))) (length (slots_from (was_given port k ns) b 0 (parts_in (length b))))))
+    ∙ ap (λ t.
+    Some (if t then held.Whole k (joined_pieces (slots_from (was_given port k ns) b 0 (parts_in (length b)))) else held.Missing k
+    (filled_parts (slots_from (was_given port k ns) b 0 (parts_in (length b)))) (length (slots_from (was_given port k ns) b 0 (parts_in (length b))))))
     (slots_open (was_given port k ns) b 0 (parts_in (length b)) i (omega arith) (omega arith) h)
     ∙ (λ t. Some (held.Missing k (slots_filled (was_given port k ns) b 0 (parts_in (length b)) t) (slots_length (was_given port k ns) b 0 (parts_in (length b)) t)))
 

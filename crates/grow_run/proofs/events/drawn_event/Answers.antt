@@ -11,5 +11,7 @@ event_of-requires g c = choice_is c.lowest.result c.highest.result c.args.words.
 pub returns-clause-event : goal.returns-clause-event
 returns-clause-event g c = λ w h.
     if_ok (λ e. e ≡ grow.event_of (ping c.args.code.now) c.choose-choice.result) _ c.event_of.result
-    (λ e is. drawn_is (ping c.args.code.now) c.args.words.now c.choose-choice.new.words w c.args.world.now.wire c.lowest.result c.highest.result c.choose-choice.result e c.lowest.ensures c.highest.ensures h.is.wire c.choose-choice.ensures is)
+    (λ e is.
+    drawn_is (ping c.args.code.now) c.args.words.now c.choose-choice.new.words w c.args.world.now.wire c.lowest.result c.highest.result c.choose-choice.result e c.lowest.ensures c.highest.ensures
+    h.is.wire c.choose-choice.ensures is)
     c.event_of.ensures.event

@@ -16,7 +16,8 @@ pub loop-i-preserved : goal.loop-i-preserved
 loop-i-preserved c = record {
   sums = sums_next c.args.ledger.now c.loop-i.i c.at.result c.loop-i.sums c.plus-sums.result (omega (arith, c.loop-i-test.true, c.len-i-end.ensures.len)) c.at.ensures.row c.loop-i.invariant.sums c.plus-sums.ensures;
   once = c.loop-i.invariant.once;
-  room = sums_room_next c.loop-i.sums c.plus-sums.result c.at.result.1 ((2 ^ 32 - c.loop-i.i) * 2 ^ 64) ((2 ^ 32 - (c.loop-i.i + 1)) * 2 ^ 64) (omega (arith, c.loop-i-test.true)) (omega arith) (omega arith) (omega arith) (omega arith) (omega arith) c.plus-sums.ensures c.loop-i.invariant.room;
+  room = sums_room_next c.loop-i.sums c.plus-sums.result c.at.result.1 ((2 ^ 32 - c.loop-i.i) * 2 ^ 64) ((2 ^ 32 - (c.loop-i.i + 1)) * 2 ^ 64) (omega (arith, c.loop-i-test.true)) (omega arith)
+      (omega arith) (omega arith) (omega arith) (omega arith) c.plus-sums.ensures c.loop-i.invariant.room;
 }
 
 pub returns-clause-sums : goal.returns-clause-sums

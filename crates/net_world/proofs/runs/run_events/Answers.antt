@@ -8,7 +8,8 @@ use Rattle.net_world_spec.specs.Sound.{event_fits}
 use Rattle.node_io.specs.Sinks.{Writes, FailsIn}
 use Rattle.node_io.proofs.SinkLaws.{writes_none}
 use Rattle.net_world.specs.declared.runs.RunFault.TheVariants.{WriteFault}
-use Rattle.net_world.proofs.RunLaws.{stands_none, counts_none, text_none, opening_made, events_fit, version_at, countable, all_leave, stands_next, counts_next, waits_next, stopped_event, waits_all, waited_written, waited_stopped, counts_all}
+use Rattle.net_world.proofs.RunLaws.{stands_none, counts_none, text_none, opening_made, events_fit, version_at, countable, all_leave, stands_next, counts_next, waits_next, stopped_event, waits_all}
+use Rattle.net_world.proofs.RunLaws.{waited_written, waited_stopped, counts_all}
 use Rattle.net_world.proofs.runs.run_events.Goals as goal
 
 pub loop-event-init : goal.loop-event-init
@@ -24,7 +25,8 @@ loop-event-init g c =
 pub run_event-requires-clause-fits : goal.run_event-requires-clause-fits
 run_event-requires-clause-fits g c =
     let s = c.args.schedule in
-    let turn = YieldsList-turn (YieldsList-from_vec {s = c.into_iter-event-iterator.result} s.events (search rules) (search rules)) c.loop-event.yielded c.loop-event.event-iterator c.loop-event.yielded_by c.next.result c.next.new.self c.in-Some.event c.in-Some.is c.next.ensures.steps in
+    let turn = YieldsList-turn (YieldsList-from_vec {s = c.into_iter-event-iterator.result} s.events (search rules)
+    (search rules)) c.loop-event.yielded c.loop-event.event-iterator c.loop-event.yielded_by c.next.result c.next.new.self c.in-Some.event c.in-Some.is c.next.ensures.steps in
     let v = s.topology.version in
     let own = subst (event_fits v) (sym turn.1) (All-get_or (event_fits v) s.events (length c.loop-event.yielded) c.in-Some.event turn.0 (events_fit s c.requires.rules)) in
     let same = c.loop-event.invariant.world.is.version ∙ version_at s c.requires.rules (length c.loop-event.yielded) in
@@ -33,13 +35,15 @@ run_event-requires-clause-fits g c =
 pub run_event-requires-clause-few : goal.run_event-requires-clause-few
 run_event-requires-clause-few g c =
     let s = c.args.schedule in
-    let turn = YieldsList-turn (YieldsList-from_vec {s = c.into_iter-event-iterator.result} s.events (search rules) (search rules)) c.loop-event.yielded c.loop-event.event-iterator c.loop-event.yielded_by c.next.result c.next.new.self c.in-Some.event c.in-Some.is c.next.ensures.steps in
+    let turn = YieldsList-turn (YieldsList-from_vec {s = c.into_iter-event-iterator.result} s.events (search rules)
+    (search rules)) c.loop-event.yielded c.loop-event.event-iterator c.loop-event.yielded_by c.next.result c.next.new.self c.in-Some.event c.in-Some.is c.next.ensures.steps in
     omega (arith, turn.0, c.loop-event.invariant.made, c.requires.rules.few)
 
 pub run_event-requires-clause-counts : goal.run_event-requires-clause-counts
 run_event-requires-clause-counts g c =
     let s = c.args.schedule in
-    let turn = YieldsList-turn (YieldsList-from_vec {s = c.into_iter-event-iterator.result} s.events (search rules) (search rules)) c.loop-event.yielded c.loop-event.event-iterator c.loop-event.yielded_by c.next.result c.next.new.self c.in-Some.event c.in-Some.is c.next.ensures.steps in
+    let turn = YieldsList-turn (YieldsList-from_vec {s = c.into_iter-event-iterator.result} s.events (search rules)
+    (search rules)) c.loop-event.yielded c.loop-event.event-iterator c.loop-event.yielded_by c.next.result c.next.new.self c.in-Some.event c.in-Some.is c.next.ensures.steps in
     countable g.S.Services.stands c.loop-event.world s (length c.loop-event.yielded) c.in-Some.event c.loop-event.ledger turn.0 turn.1 c.requires.rules c.loop-event.invariant.world c.loop-event.invariant.ledger
 
 pub loop-event-preserved : goal.loop-event-preserved
@@ -49,7 +53,8 @@ loop-event-preserved g c =
     let i = c.loop-event.invariant in
     let n = length c.loop-event.yielded in
     let e = c.in-Some.event in
-    let turn = YieldsList-turn (YieldsList-from_vec {s = c.into_iter-event-iterator.result} s.events (search rules) (search rules)) c.loop-event.yielded c.loop-event.event-iterator c.loop-event.yielded_by c.next.result c.next.new.self e c.in-Some.is c.next.ensures.steps in
+    let turn = YieldsList-turn (YieldsList-from_vec {s = c.into_iter-event-iterator.result} s.events (search rules)
+    (search rules)) c.loop-event.yielded c.loop-event.event-iterator c.loop-event.yielded_by c.next.result c.next.new.self e c.in-Some.is c.next.ensures.steps in
     let done = c.in-Ok.ensures in
     let out = g.K.Sink.state in
     let count = length_push c.loop-event.yielded e in
@@ -65,7 +70,8 @@ returns-in-Err-clause-lines g c =
     let s = c.args.schedule in
     let i = c.loop-event.invariant in
     let out = g.K.Sink.state in
-    let turn = YieldsList-turn (YieldsList-from_vec {s = c.into_iter-event-iterator.result} s.events (search rules) (search rules)) c.loop-event.yielded c.loop-event.event-iterator c.loop-event.yielded_by c.next.result c.next.new.self c.in-Some.event c.in-Some.is c.next.ensures.steps in
+    let turn = YieldsList-turn (YieldsList-from_vec {s = c.into_iter-event-iterator.result} s.events (search rules)
+    (search rules)) c.loop-event.yielded c.loop-event.event-iterator c.loop-event.yielded_by c.next.result c.next.new.self c.in-Some.event c.in-Some.is c.next.ensures.steps in
     stopped_event (opening s.topology) s.events (length c.loop-event.yielded) c.in-Some.event turn.0 turn.1 s.frames c.in-Err.fault (out c.args.out.now) (out c.loop-event.out) (out c.run_event.new.out) c.loop-event.text i.waits
     (c.in-Err.ensures.waits _ i.world)
 
@@ -73,7 +79,8 @@ pub returns-in-Ok-put_all-clause-lines : goal.returns-in-Ok-put_all-clause-lines
 returns-in-Ok-put_all-clause-lines g c =
     let s = c.args.schedule in
     let out = g.K.Sink.state in
-    let end = YieldsList-end (YieldsList-from_vec {s = c.into_iter-event-iterator.result} s.events (search rules) (search rules)) c.loop-event.yielded c.loop-event.event-iterator c.loop-event.yielded_by c.next.result c.next.new.self c.in-None.is c.next.ensures.steps in
+    let end = YieldsList-end (YieldsList-from_vec {s = c.into_iter-event-iterator.result} s.events (search rules)
+    (search rules)) c.loop-event.yielded c.loop-event.event-iterator c.loop-event.yielded_by c.next.result c.next.new.self c.in-None.is c.next.ensures.steps in
     waited_written (out c.args.out.now) (out c.loop-event.out) (out c.put_all.new.sink) c.loop-event.text _
     (waits_all s.frames (opening s.topology) s.events (length c.loop-event.yielded) (out c.args.out.now) (out c.loop-event.out) c.loop-event.text (omega (arith, end.1)) c.loop-event.invariant.waits)
     (subst (Writes (out c.loop-event.out) (out c.put_all.new.sink)) c.as_slice.ensures c.in-Ok-put_all.ensures)
@@ -82,7 +89,8 @@ pub returns-clause-lines : goal.returns-clause-lines
 returns-clause-lines g c =
     let s = c.args.schedule in
     let out = g.K.Sink.state in
-    let end = YieldsList-end (YieldsList-from_vec {s = c.into_iter-event-iterator.result} s.events (search rules) (search rules)) c.loop-event.yielded c.loop-event.event-iterator c.loop-event.yielded_by c.next.result c.next.new.self c.in-None.is c.next.ensures.steps in
+    let end = YieldsList-end (YieldsList-from_vec {s = c.into_iter-event-iterator.result} s.events (search rules)
+    (search rules)) c.loop-event.yielded c.loop-event.event-iterator c.loop-event.yielded_by c.next.result c.next.new.self c.in-None.is c.next.ensures.steps in
     waited_stopped WriteFault (out c.args.out.now) (out c.loop-event.out) (out c.put_all.new.sink) c.loop-event.text _
     (waits_all s.frames (opening s.topology) s.events (length c.loop-event.yielded) (out c.args.out.now) (out c.loop-event.out) c.loop-event.text (omega (arith, end.1)) c.loop-event.invariant.waits)
     (subst (FailsIn (out c.loop-event.out) (out c.put_all.new.sink)) c.as_slice.ensures c.in-Err-put_all.ensures)
@@ -90,5 +98,6 @@ returns-clause-lines g c =
 pub returns-in-Ok-put_all-clause-ledger : goal.returns-in-Ok-put_all-clause-ledger
 returns-in-Ok-put_all-clause-ledger g c =
     let s = c.args.schedule in
-    let end = YieldsList-end (YieldsList-from_vec {s = c.into_iter-event-iterator.result} s.events (search rules) (search rules)) c.loop-event.yielded c.loop-event.event-iterator c.loop-event.yielded_by c.next.result c.next.new.self c.in-None.is c.next.ensures.steps in
+    let end = YieldsList-end (YieldsList-from_vec {s = c.into_iter-event-iterator.result} s.events (search rules)
+    (search rules)) c.loop-event.yielded c.loop-event.event-iterator c.loop-event.yielded_by c.next.result c.next.new.self c.in-None.is c.next.ensures.steps in
     counts_all c.loop-event.ledger (opening s.topology) s.events (length c.loop-event.yielded) (omega (arith, end.1)) c.loop-event.invariant.ledger

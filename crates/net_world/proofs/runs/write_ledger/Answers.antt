@@ -19,4 +19,5 @@ pub returns-in-Err-write_end : goal.returns-in-Err-write_end
 returns-in-Err-write_end g c = λ h w s law.
     let out = g.K.Sink.state in
     let begun = c.in-Ok.ensures.ok ∙ ap (λ x. x ++ codes "ledger\n") c.new-text.ensures in
-    stopped_end h w c.args.ledger.now s law c.in-Ok-write_rows.ensures.once _ begun (out c.args.out.now) (out c.write_rows.new.out) (out c.write_end.new.out) _ c.in-Ok-write_rows.ensures.rows c.in-Err-write_end.fault c.in-Err-write_end.ensures
+    stopped_end h w c.args.ledger.now s law c.in-Ok-write_rows.ensures.once _ begun (out c.args.out.now) (out c.write_rows.new.out) (out c.write_end.new.out) _ c.in-Ok-write_rows.ensures.rows
+    c.in-Err-write_end.fault c.in-Err-write_end.ensures

@@ -16,4 +16,5 @@ returns-clause-left g c =
 pub returns-clause-closing : goal.returns-clause-closing
 returns-clause-closing g c = λ now e.
     ap (λ spent. closed_services spent now) c.is_spent-is_spent.ensures
-    ∙ turn_closes c.args.ctx.now (g.S.Services.stands c.args.services.now) c.args.packet.now c.in_ok-made.made (g.S.Services.stands c.visit.new.svc) now c.in_ok-made.ensures.visits c.in_ok-made.ensures.offer c.in_ok-made.ensures.begun c.requires.open e
+    ∙ turn_closes c.args.ctx.now (g.S.Services.stands c.args.services.now) c.args.packet.now c.in_ok-made.made (g.S.Services.stands c.visit.new.svc) now c.in_ok-made.ensures.visits
+    c.in_ok-made.ensures.offer c.in_ok-made.ensures.begun c.requires.open e

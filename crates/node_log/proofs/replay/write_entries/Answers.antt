@@ -45,4 +45,6 @@ returns-in-Err g c = λ s h.
     c.loop-entry-test.true c.entry-item.is (ap (λ n. n + 1) l.number) (l.written s h) c.in-Err.fault (c.in-Err.ensures.lines (node_after s (take i es)) (l.stands s h))
 
 pub returns : goal.returns
-returns g c = λ s h. all_written c.args.config.now.here s c.args.entries.now c.loop-entry.entry-index (g.K.Sink.state c.args.out.now) (g.K.Sink.state c.loop-entry.out) (omega (arith, c.loop-entry-test.false)) (c.loop-entry.invariant.written s h)
+returns g c =
+    λ s h. all_written c.args.config.now.here s c.args.entries.now c.loop-entry.entry-index (g.K.Sink.state c.args.out.now) (g.K.Sink.state c.loop-entry.out) (omega (arith, c.loop-entry-test.false))
+    (c.loop-entry.invariant.written s h)

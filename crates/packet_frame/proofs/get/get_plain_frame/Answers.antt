@@ -22,7 +22,9 @@ returns-then-end-bytes-clause-only c =
 pub returns-then-end-bytes-clause-fault : goal.returns-then-end-bytes-clause-fault
 returns-then-end-bytes-clause-fault c =
     let short = c.if-bytes-gt16512.false in
-    rw c.at-end.ensures.place (call_left_fault c.args.bytes.now c.first_of-c.result c.first_of-c.ensures.at c.first_of-c.ensures.rest c.first_of-c.ensures.bytes (omega (arith, short)) c.in_ok-frame.frame c.frame_of.new.c c.in_ok-frame.ensures
+    rw c.at-end.ensures.place (
+    call_left_fault c.args.bytes.now c.first_of-c.result c.first_of-c.ensures.at c.first_of-c.ensures.rest c.first_of-c.ensures.bytes (omega (arith, short)) c.in_ok-frame.frame c.frame_of.new.c
+    c.in_ok-frame.ensures
     (let e = c.at-end.ensures.place in let l = c.if-end-bytes.true in omega (arith, e, l)))
 
 pub returns-clause-found : goal.returns-clause-found

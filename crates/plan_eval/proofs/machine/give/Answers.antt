@@ -11,11 +11,13 @@ returns-in_default-clause-turned g c =
 
 pub run_top-flow-requires-clause-linked : goal.run_top-flow-requires-clause-linked
 run_top-flow-requires-clause-linked g c =
-    stands_below c.args.codes.now c.args.outer.now c.args.top (record c.args.top { frames = c.pop.new.self }) c.in-Some.frame (joined_state c.args.state.now (g.S.Services.stands c.args.svc.now)) (ap (λ (fs : List StackFrame). record c.args.top { frames = fs }) c.in-Some.ensures) c.requires.linked
+    stands_below c.args.codes.now c.args.outer.now c.args.top (record c.args.top { frames = c.pop.new.self }) c.in-Some.frame (joined_state c.args.state.now (g.S.Services.stands c.args.svc.now))
+    (ap (λ (fs : List StackFrame). record c.args.top { frames = fs }) c.in-Some.ensures) c.requires.linked
 
 pub run_top-flow-requires-clause-safe : goal.run_top-flow-requires-clause-safe
 run_top-flow-requires-clause-safe g c =
-    safe_given c.args.codes.now c.args.outer.now c.args.top (record c.args.top { frames = c.pop.new.self }) c.in-Some.frame (joined_state c.args.state.now (g.S.Services.stands c.args.svc.now)) (ap (λ (fs : List StackFrame). record c.args.top { frames = fs }) c.in-Some.ensures) c.requires.linked c.args.v c.requires.safe
+    safe_given c.args.codes.now c.args.outer.now c.args.top (record c.args.top { frames = c.pop.new.self }) c.in-Some.frame (joined_state c.args.state.now (g.S.Services.stands c.args.svc.now))
+    (ap (λ (fs : List StackFrame). record c.args.top { frames = fs }) c.in-Some.ensures) c.requires.linked c.args.v c.requires.safe
 
 pub returns-clause-turned : goal.returns-clause-turned
 returns-clause-turned g c =

@@ -15,7 +15,9 @@ returns-then-passes_on-clause-turned g c =
     turn_raises c.args.codes.now c.args.codes.now c.args.outer.now (record c.args.top { frames = c.pop.new.self }) (grows_none _ _ refl)
     c.leave.result c.leave.new.outer (joined_state c.args.state.now (g.S.Services.stands c.args.svc.now))
     c.args.top c.in-Some.frame (joined_state c.args.state.now (g.S.Services.stands c.args.svc.now)) (ap (λ (fs : List StackFrame). record c.args.top { frames = fs }) c.in-Some.ensures) c.requires.linked c.args.x
-    (λ code at is there stands. c.leave.ensures.turned c.args.codes.now code at _ _ stands (λ other. passed_on code c.args.top.fun at (joined_state c.args.state.now (g.S.Services.stands c.args.svc.now)) c.in-Some.frame c.args.x (sym c.passes_on.ensures ∙ c.if-passes_on.true)))
+    (λ code at is there stands.
+    c.leave.ensures.turned c.args.codes.now code at _ _ stands (λ other.
+    passed_on code c.args.top.fun at (joined_state c.args.state.now (g.S.Services.stands c.args.svc.now)) c.in-Some.frame c.args.x (sym c.passes_on.ensures ∙ c.if-passes_on.true)))
 
 pub returns-then-passes_on-clause-shrinks : goal.returns-then-passes_on-clause-shrinks
 returns-then-passes_on-clause-shrinks g c =
@@ -24,11 +26,13 @@ returns-then-passes_on-clause-shrinks g c =
 
 pub run_top-flow-requires-clause-linked : goal.run_top-flow-requires-clause-linked
 run_top-flow-requires-clause-linked g c =
-    stands_below c.args.codes.now c.args.outer.now c.args.top (record c.args.top { frames = c.pop.new.self }) c.in-Some.frame (joined_state c.args.state.now (g.S.Services.stands c.args.svc.now)) (ap (λ (fs : List StackFrame). record c.args.top { frames = fs }) c.in-Some.ensures) c.requires.linked
+    stands_below c.args.codes.now c.args.outer.now c.args.top (record c.args.top { frames = c.pop.new.self }) c.in-Some.frame (joined_state c.args.state.now (g.S.Services.stands c.args.svc.now))
+    (ap (λ (fs : List StackFrame). record c.args.top { frames = fs }) c.in-Some.ensures) c.requires.linked
 
 pub run_top-flow-requires-clause-safe : goal.run_top-flow-requires-clause-safe
 run_top-flow-requires-clause-safe g c =
-    safe_raised c.args.codes.now c.args.outer.now c.args.top (record c.args.top { frames = c.pop.new.self }) c.in-Some.frame (joined_state c.args.state.now (g.S.Services.stands c.args.svc.now)) (ap (λ (fs : List StackFrame). record c.args.top { frames = fs }) c.in-Some.ensures) c.requires.linked c.args.x c.requires.safe
+    safe_raised c.args.codes.now c.args.outer.now c.args.top (record c.args.top { frames = c.pop.new.self }) c.in-Some.frame (joined_state c.args.state.now (g.S.Services.stands c.args.svc.now))
+    (ap (λ (fs : List StackFrame). record c.args.top { frames = fs }) c.in-Some.ensures) c.requires.linked c.args.x c.requires.safe
 
 pub returns-clause-turned : goal.returns-clause-turned
 returns-clause-turned g c =

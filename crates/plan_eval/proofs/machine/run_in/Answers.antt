@@ -26,7 +26,13 @@ perform-requires-clause-here g c =
     let reached : Some c.in-Some-expr_from.expr.now ≡ expr_from (Some c.in-Some.function.now.body) c.as_slice.result.now = c.in-Some-expr_from.ensures in
     let expression : expr_from (Some c.in-Some.function.now.body) c.args.top.now.frames ≡ Some c.in-Some-expr_from.expr.now = rw c.as_slice.ensures at (sym reached) in
     let here : IsAt c.args.codes.now c.args.top.now c.args.code.now c.in-Some.function.now c.in-Some-expr_from.expr.now = record { program = c.requires.program; function = function; expression = expression } in
-    record { program = c.requires.program; size = c.size_of.ensures.size; function = function; binds = here_binds c.args.codes.now c.args.top.now c.args.code.now c.in-Some.function.now c.in-Some-expr_from.expr.now here c.requires.linked c.as_slice-2.result.now c.as_slice-3.result.now [] c.as_slice-2.ensures c.as_slice-3.ensures refl }
+    record {
+      program = c.requires.program;
+      size = c.size_of.ensures.size;
+      function = function;
+      binds = here_binds c.args.codes.now c.args.top.now c.args.code.now c.in-Some.function.now c.in-Some-expr_from.expr.now here c.requires.linked c.as_slice-2.result.now c.as_slice-3.result.now []
+          c.as_slice-2.ensures c.as_slice-3.ensures refl;
+    }
 
 pub perform-requires-clause-safe : goal.perform-requires-clause-safe
 perform-requires-clause-safe g c =
@@ -35,7 +41,9 @@ perform-requires-clause-safe g c =
     let reached : Some c.in-Some-expr_from.expr.now ≡ expr_from (Some c.in-Some.function.now.body) c.as_slice.result.now = c.in-Some-expr_from.ensures in
     let expression : expr_from (Some c.in-Some.function.now.body) c.args.top.now.frames ≡ Some c.in-Some-expr_from.expr.now = rw c.as_slice.ensures at (sym reached) in
     let here : IsAt c.args.codes.now c.args.top.now c.args.code.now c.in-Some.function.now c.in-Some-expr_from.expr.now = record { program = c.requires.program; function = function; expression = expression } in
-    c.requires.safe c.args.code.now _ c.requires.program (here_spot c.args.codes.now c.args.top.now c.args.code.now c.in-Some.function.now c.in-Some-expr_from.expr.now here c.requires.linked c.as_slice-2.result.now c.as_slice-3.result.now [] c.as_slice-2.ensures c.as_slice-3.ensures refl)
+    c.requires.safe c.args.code.now _ c.requires.program
+    (here_spot c.args.codes.now c.args.top.now c.args.code.now c.in-Some.function.now c.in-Some-expr_from.expr.now here c.requires.linked c.as_slice-2.result.now c.as_slice-3.result.now []
+    c.as_slice-2.ensures c.as_slice-3.ensures refl)
 
 pub returns-clause-flows : goal.returns-clause-flows
 returns-clause-flows g c =
@@ -45,5 +53,8 @@ returns-clause-flows g c =
     let expression : expr_from (Some c.in-Some.function.now.body) c.args.top.now.frames ≡ Some c.in-Some-expr_from.expr.now = rw c.as_slice.ensures at (sym reached) in
     let here : IsAt c.args.codes.now c.args.top.now c.args.code.now c.in-Some.function.now c.in-Some-expr_from.expr.now = record { program = c.requires.program; function = function; expression = expression } in
     here_only c.args.codes.now c.args.top.now c.args.code.now c.in-Some.function.now c.in-Some-expr_from.expr.now here c.requires.linked c.as_slice-2.result.now c.as_slice-3.result.now [] c.as_slice-2.ensures c.as_slice-3.ensures refl
-    (λ (x : Program) (y : Spot). Flows c.perform.new.codes x c.args.top.now.fun y (task_step x c.args.top.now.fun y c.args.task (joined_state c.args.state.now (g.S.Services.stands c.args.svc.now))) c.perform.result (joined_state c.perform.new.state (g.S.Services.stands c.perform.new.svc)))
+    (λ (x : Program) (y : Spot).
+    Flows c.perform.new.codes x c.args.top.now.fun y
+    (task_step x c.args.top.now.fun y c.args.task
+    (joined_state c.args.state.now (g.S.Services.stands c.args.svc.now))) c.perform.result (joined_state c.perform.new.state (g.S.Services.stands c.perform.new.svc)))
     c.perform.ensures.flows

@@ -18,7 +18,9 @@ unfolding string_at
 returns-in-Wrong c = let e = string_wrong c.args.start c.items.at c.items.rest.now (sym c.item_at.ensures.value ∙ c.in-Wrong.is) in grind (arith, common_steps)
 
 pub items-preserved : goal.items-preserved
-items-preserved c = let e = string_more c.args.start c.items.at c.items.rest.now c.in-Code.code c.in-Code.width (string_bytes c.items.string) _ c.items.invariant.same (sym c.item_at.ensures.value ∙ c.in-Code.is) c.in-Code.ensures.within.0 in
+items-preserved c =
+    let e = string_more c.args.start c.items.at c.items.rest.now c.in-Code.code c.in-Code.width (string_bytes c.items.string) _ c.items.invariant.same (sym c.item_at.ensures.value ∙ c.in-Code.is)
+    c.in-Code.ensures.within.0 in
     record { same = grind (arith, common_steps); later = omega arith; place = omega (arith, c.in-Code.ensures.within.1) }
 
 pub returns-in-Closes-clause-within : goal.returns-in-Closes-clause-within

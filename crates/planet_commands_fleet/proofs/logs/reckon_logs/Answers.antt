@@ -22,7 +22,9 @@ returns-in_err-log g c =
     let state = g.F.Files.state in
     let l = c.loop-name in
     let p = err_from_is_err_and c.from_residual.result c.from_residual.ensures.1 in
-    rw (p.1, p.2) (along_stopped c.args.links.now c.args.names.now l.name-index (l.number + 1) c.name-item.result (state c.args.files.now) (state l.files) (state c.take_log.new.files) l.reckoning l.invariant.along c.loop-name-test.true c.name-item.is
+    rw (p.1, p.2) (
+    along_stopped c.args.links.now c.args.names.now l.name-index (l.number + 1) c.name-item.result (state c.args.files.now) (state l.files) (state c.take_log.new.files) l.reckoning
+    l.invariant.along c.loop-name-test.true c.name-item.is
     (ap (λ m. m + 1) l.invariant.number) c.in_err-log.field-0.0 (takes_named _ _ _ _ _ _ _ _ c.as_slice.ensures c.as_str.ensures c.in_err-log.ensures.takes))
 
 pub reckon_log-requires : goal.reckon_log-requires
@@ -42,7 +44,8 @@ loop-name-preserved g c =
     let next = ap (λ m. m + 1) l.invariant.number in
     record {
       number = next;
-      along = along_next c.args.links.now c.args.names.now l.name-index (l.number + 1) c.name-item.result (state c.args.files.now) (state l.files) (state c.take_log.new.files) l.reckoning l.invariant.along c.loop-name-test.true c.name-item.is
+      along = along_next c.args.links.now c.args.names.now l.name-index (l.number + 1) c.name-item.result (state c.args.files.now) (state l.files) (state c.take_log.new.files) l.reckoning
+          l.invariant.along c.loop-name-test.true c.name-item.is
           next c.in_ok-log.log c.reckon_log.new.reckoning (takes_named _ _ _ _ _ _ _ _ c.as_slice.ensures c.as_str.ensures c.in_ok-log.ensures.takes) c.in-Ok.ensures;
     }
 

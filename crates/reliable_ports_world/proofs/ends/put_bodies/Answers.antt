@@ -8,7 +8,8 @@ loop-body-init c = record { number = refl; out = sym (append-nil c.args.out.now)
 pub loop-body-preserved : goal.loop-body-preserved
 loop-body-preserved c = record {
   number = omega (arith, c.loop-body.invariant.number);
-  out = body_put c.args.bodies.now c.loop-body.body-index c.loop-body.number c.body-item.result c.args.out.now c.loop-body.out c.put_body.new.out c.loop-body-test.true c.body-item.is c.loop-body.invariant.number c.loop-body.invariant.out c.in_ok-put_body.ensures;
+  out = body_put c.args.bodies.now c.loop-body.body-index c.loop-body.number c.body-item.result c.args.out.now c.loop-body.out c.put_body.new.out c.loop-body-test.true c.body-item.is
+      c.loop-body.invariant.number c.loop-body.invariant.out c.in_ok-put_body.ensures;
 }
 
 pub returns : goal.returns

@@ -28,7 +28,8 @@ event-requires-clause-ready g c =
 pub event-requires-clause-keeps : goal.event-requires-clause-keeps
 event-requires-clause-keeps g c =
     let within = subst (λ es. c.loop-event.event-index < length es) c.as_slice-event-items.ensures c.loop-event-test.true in
-    all_at KeepsEvent c.args.file.now.events c.loop-event.event-index c.event-item.result c.requires.keeps.events within (subst (λ es. c.event-item.result ≡ get_or es c.loop-event.event-index c.event-item.result) c.as_slice-event-items.ensures c.event-item.is)
+    all_at KeepsEvent c.args.file.now.events c.loop-event.event-index c.event-item.result c.requires.keeps.events within
+    (subst (λ es. c.event-item.result ≡ get_or es c.loop-event.event-index c.event-item.result) c.as_slice-event-items.ensures c.event-item.is)
 
 pub event-requires-clause-room : goal.event-requires-clause-room
 event-requires-clause-room g c =

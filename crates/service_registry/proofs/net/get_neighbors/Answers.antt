@@ -12,4 +12,7 @@ returns-in-empty c = λ a rows.
     meets_as _ s rows rows c.neighbours.result (none_given s c.args.args.now rows c.in-empty.len_below) (c.neighbours.ensures rows)
 
 pub returns-in-len1-up : goal.returns-in-len1-up
-returns-in-len1-up c = λ a rows. meets_as _ (refused_call rows) rows rows c.no_such_service.result (some_refused (given_answer (value.List hop_type (map (λ n. hop_value n.0 n.1) c.args.ctx.now.neighbours)) rows) c.args.args.now rows c.in-len1-up.len_at_least) (c.no_such_service.ensures rows)
+returns-in-len1-up c =
+    λ a rows. meets_as _ (refused_call rows) rows rows c.no_such_service.result
+    (some_refused (given_answer (value.List hop_type (map (λ n. hop_value n.0 n.1) c.args.ctx.now.neighbours)) rows) c.args.args.now rows
+    c.in-len1-up.len_at_least) (c.no_such_service.ensures rows)

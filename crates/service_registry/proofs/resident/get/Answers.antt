@@ -26,7 +26,8 @@ returns-in_default c =
     let x = c.index-args-0.result in
     let y = get_or c.args.args.now 1 x in
     meets_as _ (refused_call rows) rows rows c.no_such_service-in_default.result
-    (named_by (get_by c.args.a.now c.args.ctx.now rows) rows c.args.args.now x y None _ (two_items c.args.args.now x y (omega arith) c.index-args-0.is (get_or_any c.args.args.now 1 x y (omega arith))) (ap option_copied (sym c.in_default.is) ∙ c.as_text.ensures) refl)
+    (named_by (get_by c.args.a.now c.args.ctx.now rows) rows c.args.args.now x y None _ (two_items c.args.args.now x y (omega arith) c.index-args-0.is (get_or_any c.args.args.now 1 x y (omega arith)))
+    (ap option_copied (sym c.in_default.is) ∙ c.as_text.ensures) refl)
     (c.no_such_service-in_default.ensures rows)
 
 pub returns-in_default-as_int : goal.returns-in_default-as_int
@@ -35,7 +36,8 @@ returns-in_default-as_int c =
     let x = c.index-args-0.result in
     let y = c.index-args-1.result in
     meets_as _ (refused_call rows) rows rows c.no_such_service-in_default-as_int.result
-    (named_by (get_by c.args.a.now c.args.ctx.now rows) rows c.args.args.now x y (Some c.in-Some.name.now) None (two_items c.args.args.now x y (omega arith) c.index-args-0.is c.index-args-1.is) (ap option_copied (sym c.in-Some.is) ∙ c.as_text.ensures) (sym c.in_default-as_int.is ∙ c.as_int.ensures))
+    (named_by (get_by c.args.a.now c.args.ctx.now rows) rows c.args.args.now x y (Some c.in-Some.name.now) None (two_items c.args.args.now x y (omega arith) c.index-args-0.is c.index-args-1.is)
+    (ap option_copied (sym c.in-Some.is) ∙ c.as_text.ensures) (sym c.in_default-as_int.is ∙ c.as_int.ensures))
     (c.no_such_service-in_default-as_int.ensures rows)
 
 pub returns-in-Err-NotFound : goal.returns-in-Err-NotFound
@@ -48,7 +50,9 @@ returns-in-Err-NotFound c =
     let same : to_z w64 (of_z w64 z) ≡ z = to_z-of_z w64 z (search rules) in
     let none = rw c.in-Err-NotFound.field-0-is at c.in-Err-NotFound.ensures in
     meets_as _ (raised_answer not_found rows) rows rows c.not_found.result
-    (named_by f rows c.args.args.now x y (Some c.in-Some.name.now) (Some z) (two_items c.args.args.now x y (omega arith) c.index-args-0.is c.index-args-1.is) (ap option_copied (sym c.in-Some.is) ∙ c.as_text.ensures) (sym c.in-Some-as_int.is ∙ c.as_int.ensures)
+    (
+    named_by f rows c.args.args.now x y (Some c.in-Some.name.now) (Some z)
+    (two_items c.args.args.now x y (omega arith) c.index-args-0.is c.index-args-1.is) (ap option_copied (sym c.in-Some.is) ∙ c.as_text.ensures) (sym c.in-Some-as_int.is ∙ c.as_int.ensures)
     ∙ ap (λ (n : ℤ). f c.in-Some.name.now n) (sym same)
     ∙ ap (λ (o : Option Value). got_answer o rows) none)
     (c.not_found.ensures rows)

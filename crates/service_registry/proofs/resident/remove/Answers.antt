@@ -22,7 +22,8 @@ returns-in_default-clause-meets c =
     let x = c.index-args-0.result in
     let y = get_or c.args.args.now 1 x in
     meets_as _ (refused_call rows) rows rows c.no_such_service-in_default.result
-    (named_by (remove_by rows) rows c.args.args.now x y None _ (two_items c.args.args.now x y (omega arith) c.index-args-0.is (get_or_any c.args.args.now 1 x y (omega arith))) (ap option_copied (sym c.in_default.is) ∙ c.as_text.ensures) refl)
+    (named_by (remove_by rows) rows c.args.args.now x y None _ (two_items c.args.args.now x y (omega arith) c.index-args-0.is (get_or_any c.args.args.now 1 x y (omega arith)))
+    (ap option_copied (sym c.in_default.is) ∙ c.as_text.ensures) refl)
     (c.no_such_service-in_default.ensures rows)
 
 pub returns-in_default-as_int-clause-meets : goal.returns-in_default-as_int-clause-meets
@@ -31,5 +32,6 @@ returns-in_default-as_int-clause-meets c =
     let x = c.index-args-0.result in
     let y = c.index-args-1.result in
     meets_as _ (refused_call rows) rows rows c.no_such_service-in_default-as_int.result
-    (named_by (remove_by rows) rows c.args.args.now x y (Some c.in-Some.name.now) None (two_items c.args.args.now x y (omega arith) c.index-args-0.is c.index-args-1.is) (ap option_copied (sym c.in-Some.is) ∙ c.as_text.ensures) (sym c.in_default-as_int.is ∙ c.as_int.ensures))
+    (named_by (remove_by rows) rows c.args.args.now x y (Some c.in-Some.name.now) None (two_items c.args.args.now x y (omega arith) c.index-args-0.is c.index-args-1.is)
+    (ap option_copied (sym c.in-Some.is) ∙ c.as_text.ensures) (sym c.in_default-as_int.is ∙ c.as_int.ensures))
     (c.no_such_service-in_default-as_int.ensures rows)

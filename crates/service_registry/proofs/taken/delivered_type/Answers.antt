@@ -11,8 +11,13 @@ returns-then-params-ne2 c = λ svc has ends. other_many (type_of Deliver) svc c.
 pub returns-then-is_act : goal.returns-then-is_act
 returns-then-is_act c = λ svc has ends.
     let is = c.is_act.ensures.0 c.if-is_act.true in
-    delivered_found svc c.args.back.now ends c.args.params.now has c.index-params-0.result c.index-params-1.result (two_types c.args.params.now c.index-params-0.result c.index-params-1.result (omega arith) c.index-params-0.is c.index-params-1.is) is.0 is.1
+    delivered_found svc c.args.back.now ends c.args.params.now has c.index-params-0.result c.index-params-1.result
+    (two_types c.args.params.now c.index-params-0.result c.index-params-1.result (omega arith) c.index-params-0.is c.index-params-1.is) is.0 is.1
 
 pub returns : goal.returns
 returns c = λ svc has ends.
-    none_found (type_of Deliver) svc (λ b i. false≢true (sym c.if-is_act.false ∙ c.is_act.ensures.1 (delivered_needs svc c.args.back.now ends c.args.params.now has b c.index-params-0.result (get_or c.args.params.now 1 c.index-params-0.result) (two_types c.args.params.now c.index-params-0.result (get_or c.args.params.now 1 c.index-params-0.result) (omega arith) c.index-params-0.is (type_any c.args.params.now 1 c.index-params-0.result (get_or c.args.params.now 1 c.index-params-0.result) (omega arith))) i)))
+    none_found (type_of Deliver) svc (λ b i.
+    false≢true (sym c.if-is_act.false ∙ c.is_act.ensures.1
+    (delivered_needs svc c.args.back.now ends c.args.params.now has b c.index-params-0.result (get_or c.args.params.now 1 c.index-params-0.result)
+    (two_types c.args.params.now c.index-params-0.result (get_or c.args.params.now 1 c.index-params-0.result) (omega arith) c.index-params-0.is
+    (type_any c.args.params.now 1 c.index-params-0.result (get_or c.args.params.now 1 c.index-params-0.result) (omega arith))) i)))

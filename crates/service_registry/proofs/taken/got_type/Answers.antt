@@ -11,8 +11,12 @@ returns-then-params-ne2 c = λ svc has ends. other_many (type_of Get) svc c.args
 pub returns-then-is_key : goal.returns-then-is_key
 returns-then-is_key c = λ svc has ends.
     let is = c.is_key.ensures.0 c.if-is_key.true in
-    got_found svc c.args.back.now ends c.args.params.now has c.index-params-0.result c.index-params-1.result (two_types c.args.params.now c.index-params-0.result c.index-params-1.result (omega arith) c.index-params-0.is c.index-params-1.is) is.0 is.1
+    got_found svc c.args.back.now ends c.args.params.now has c.index-params-0.result c.index-params-1.result
+    (two_types c.args.params.now c.index-params-0.result c.index-params-1.result (omega arith) c.index-params-0.is c.index-params-1.is) is.0 is.1
 
 pub returns : goal.returns
 returns c = λ svc has ends.
-    none_found (type_of Get) svc (λ b i. false≢true (sym c.if-is_key.false ∙ c.is_key.ensures.1 (got_needs svc c.args.back.now ends c.args.params.now has b c.index-params-0.result c.index-params-1.result (two_types c.args.params.now c.index-params-0.result c.index-params-1.result (omega arith) c.index-params-0.is c.index-params-1.is) i)))
+    none_found (type_of Get) svc (λ b i.
+    false≢true (sym c.if-is_key.false ∙ c.is_key.ensures.1
+    (got_needs svc c.args.back.now ends c.args.params.now has b c.index-params-0.result c.index-params-1.result
+    (two_types c.args.params.now c.index-params-0.result c.index-params-1.result (omega arith) c.index-params-0.is c.index-params-1.is) i)))

@@ -11,8 +11,12 @@ returns-then-params-ne2 c = λ svc has ends. other_many (type_of Remove) svc c.a
 pub returns-then-is_removal : goal.returns-then-is_removal
 returns-then-is_removal c = λ svc has ends.
     let is = c.is_removal.ensures.0 c.if-is_removal.true in
-    removed_found svc c.args.back.now ends c.args.params.now has c.index-params-0.result c.index-params-1.result c.args.unit.now (two_types c.args.params.now c.index-params-0.result c.index-params-1.result (omega arith) c.index-params-0.is c.index-params-1.is) c.requires is.0 is.1.0 is.1.1
+    removed_found svc c.args.back.now ends c.args.params.now has c.index-params-0.result c.index-params-1.result c.args.unit.now
+    (two_types c.args.params.now c.index-params-0.result c.index-params-1.result (omega arith) c.index-params-0.is c.index-params-1.is) c.requires is.0 is.1.0 is.1.1
 
 pub returns : goal.returns
 returns c = λ svc has ends.
-    none_found (type_of Remove) svc (λ b i. false≢true (sym c.if-is_removal.false ∙ c.is_removal.ensures.1 (removed_needs svc c.args.back.now ends c.args.params.now has b c.index-params-0.result c.index-params-1.result (two_types c.args.params.now c.index-params-0.result c.index-params-1.result (omega arith) c.index-params-0.is c.index-params-1.is) i)))
+    none_found (type_of Remove) svc (λ b i.
+    false≢true (sym c.if-is_removal.false ∙ c.is_removal.ensures.1
+    (removed_needs svc c.args.back.now ends c.args.params.now has b c.index-params-0.result c.index-params-1.result
+    (two_types c.args.params.now c.index-params-0.result c.index-params-1.result (omega arith) c.index-params-0.is c.index-params-1.is) i)))

@@ -24,4 +24,5 @@ pub returns-clause-ok : goal.returns-clause-ok
 returns-clause-ok c =
     let counts = counts_at c.args.f c.of.result c.or_insert-row.result.now c.without_counts.result _ c.self.inside.rows.entries c.of.ensures c.in-Ok.ensures.value c.without_counts.ensures.row c.or_insert-row.ensures.value in
     let written : (map_with_value c.in-Ok.entry c.with_grant.result).entries ≡ insert_entry same_key c.self.inside.rows.entries c.of.result c.with_grant.result = c.in-Ok.ensures.update.1 c.with_grant.result in
-    row_entered c.args.f c.args.n c.of.result c.or_insert-row.result.now c.with_grant.result c.self.inside.rows.entries _ c.args.self.now c.self.view_is c.of.ensures c.entry.ensures.unique counts c.with_grant.ensures.row (search (rules, written))
+    row_entered c.args.f c.args.n c.of.result c.or_insert-row.result.now c.with_grant.result c.self.inside.rows.entries _ c.args.self.now c.self.view_is c.of.ensures c.entry.ensures.unique counts
+    c.with_grant.ensures.row (search (rules, written))

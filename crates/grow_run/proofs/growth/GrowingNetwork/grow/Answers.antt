@@ -24,7 +24,8 @@ loop-made-preserved g c =
     let i = c.loop-made.invariant in
     let done = c.in_ok-make.ensures in
     let l = grows_leave g.S.Services.stands (ping c.args.code.now) c.args.events c.args.self.now.words c.loop-made._made c.loop-made.self c.in_ok-event.event i in
-    grows_next g.S.Services.stands (ping c.args.code.now) c.args.events c.args.self.now.words c.loop-made._made c.loop-made.self c.make.new.self c.next_event.new.words c.in_ok-event.event i c.loop-made-test.true (omega (arith, c.requires.few, c.loop-made-test.true))
+    grows_next g.S.Services.stands (ping c.args.code.now) c.args.events c.args.self.now.words c.loop-made._made c.loop-made.self c.make.new.self c.next_event.new.words c.in_ok-event.event i
+    c.loop-made-test.true (omega (arith, c.requires.few, c.loop-made-test.true))
     (c.in_ok-event.ensures.event _ i.world) c.make.ensures.made.0 c.in_ok-event.ensures.fits (done.world _ i.world) done.made.1
     (done.counts _ _ i.world l i.ledger i.summary).0 (done.counts _ _ i.world l i.ledger i.summary).1 done.room
 

@@ -19,5 +19,8 @@ returns-clause-ok g c = λ w h.
     let there = c.in-Some.ensures.place w.nodes (lent_nodes_stand _ c.args.self.now w _ h.is c.as_slice.ensures.value) in
     let named = named_there _ c.args.self.now w c.args.chunk c.args.handler h c.requires.handler c.in-Some.at in
     let done = c.in_ok-acts.ensures w.nodes (lent_nodes_stand _ c.args.self.now w _ h.is c.deref_mut.ensures.value) named in
-    if_ok _ _ c.with_acts.result (λ lines e. one_step _ c.args.self.now _ w c.args.host none_before lines (λ node. inject_step [] node c.args.chunk c.args.bound c.args.handler) c.in-Some.at c.in_ok-acts.acts c.inject_at.new.nodes h.is there done
-    (e ∙ ap (λ x. x ++ lines_at c.args.host c.in_ok-acts.acts.list) c.no_lines.ensures) (given_back _ c.args.self.now.nodes c.inject_at.new.nodes w.nodes _ h.is.nodes done.after (length-set w.nodes c.in-Some.at _)) refl refl refl refl refl) c.with_acts.ensures
+    if_ok _ _ c.with_acts.result (λ lines e.
+    one_step _ c.args.self.now _ w c.args.host none_before lines (λ node.
+    inject_step [] node c.args.chunk c.args.bound c.args.handler) c.in-Some.at c.in_ok-acts.acts c.inject_at.new.nodes h.is there done
+    (e ∙ ap (λ x. x ++ lines_at c.args.host c.in_ok-acts.acts.list) c.no_lines.ensures)
+    (given_back _ c.args.self.now.nodes c.inject_at.new.nodes w.nodes _ h.is.nodes done.after (length-set w.nodes c.in-Some.at _)) refl refl refl refl refl) c.with_acts.ensures

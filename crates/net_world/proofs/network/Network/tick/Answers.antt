@@ -16,4 +16,5 @@ returns-clause-ok g c = λ w h.
     let there = c.in-Some.ensures.place w.nodes (lent_nodes_stand _ c.args.self.now w _ h.is c.as_slice.ensures.value) in
     let done = c.in_ok-acts.ensures w.nodes (lent_nodes_stand _ c.args.self.now w _ h.is c.deref_mut.ensures.value) in
     if_ok _ _ c.with_acts.result (λ lines e. one_step _ c.args.self.now _ w c.args.host none_before lines tick_step c.in-Some.at c.in_ok-acts.acts c.tick_at.new.nodes h.is there done
-    (e ∙ ap (λ x. x ++ lines_at c.args.host c.in_ok-acts.acts.list) c.no_lines.ensures) (given_back _ c.args.self.now.nodes c.tick_at.new.nodes w.nodes _ h.is.nodes done.after (length-set w.nodes c.in-Some.at _)) refl refl refl refl refl) c.with_acts.ensures
+    (e ∙ ap (λ x. x ++ lines_at c.args.host c.in_ok-acts.acts.list) c.no_lines.ensures)
+    (given_back _ c.args.self.now.nodes c.tick_at.new.nodes w.nodes _ h.is.nodes done.after (length-set w.nodes c.in-Some.at _)) refl refl refl refl refl) c.with_acts.ensures

@@ -12,7 +12,8 @@ arrive_stamped-requires-clause-carried g c =
 
 pub returns-in-Some-clause-ok : goal.returns-in-Some-clause-ok
 returns-in-Some-clause-ok g c = λ s h m.
-    frame_arrives _ c.args.dev c.arrive_stamped.new.self c.arrive_stamped.result c.args.frame.now (with_stamp c.stamp-stamp.result (plain_of c.in-Some.own.now)) s c.stamp-stamp.ensures c.in-Some.ensures.frame (c.arrive_stamped.ensures.ok s h)
+    frame_arrives _ c.args.dev c.arrive_stamped.new.self c.arrive_stamped.result c.args.frame.now
+    (with_stamp c.stamp-stamp.result (plain_of c.in-Some.own.now)) s c.stamp-stamp.ensures c.in-Some.ensures.frame (c.arrive_stamped.ensures.ok s h)
 
 pub returns-in-None-clause-ok : goal.returns-in-None-clause-ok
 returns-in-None-clause-ok g c = λ s h m. bytes_arrive _ c.args.dev c.arrive.new.self c.arrive.result c.bytes-bytes.result.now c.args.frame.now s c.bytes-bytes.ensures m (c.arrive.ensures.ok s h)

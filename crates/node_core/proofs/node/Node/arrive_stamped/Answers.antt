@@ -11,8 +11,10 @@ returns-in-Fresh-clause-ok g c = λ s h.
 
 pub returns-in-Repeated-clause-ok : goal.returns-in-Repeated-clause-ok
 returns-in-Repeated-clause-ok g c = λ s h.
-    stale_result _ s c.args.dev (with_stamp c.args.stamp (plain_of c.args.frame.now)) Repeated c.arrive_stale.result c.args.self.now h (sym c.in-Repeated.is ∙ c.judge.ensures s h) refl c.arrive_stale.ensures.list c.arrive_stale.ensures.frame
+    stale_result _ s c.args.dev (with_stamp c.args.stamp (plain_of c.args.frame.now)) Repeated c.arrive_stale.result c.args.self.now h (sym c.in-Repeated.is ∙ c.judge.ensures s h) refl
+    c.arrive_stale.ensures.list c.arrive_stale.ensures.frame
 
 pub returns-in-TooOld-clause-ok : goal.returns-in-TooOld-clause-ok
 returns-in-TooOld-clause-ok g c = λ s h.
-    stale_result _ s c.args.dev (with_stamp c.args.stamp (plain_of c.args.frame.now)) TooOld c.arrive_stale-in-TooOld.result c.args.self.now h (sym c.in-TooOld.is ∙ c.judge.ensures s h) refl c.arrive_stale-in-TooOld.ensures.list c.arrive_stale-in-TooOld.ensures.frame
+    stale_result _ s c.args.dev (with_stamp c.args.stamp (plain_of c.args.frame.now)) TooOld c.arrive_stale-in-TooOld.result c.args.self.now h (sym c.in-TooOld.is ∙ c.judge.ensures s h) refl
+    c.arrive_stale-in-TooOld.ensures.list c.arrive_stale-in-TooOld.ensures.frame

@@ -6,13 +6,15 @@ use Rattle.node_serve.proofs.server.Server.end_turn.Goals as goal
 
 pub returns-in-Ok : goal.returns-in-Ok
 returns-in-Ok g c = record {
-  goes = goes_then g.S.Services.stands c.args.cfg.now loop_back (flush (peers_of c.args.cfg.now)) c.args.self.now c.loop_back.new.self c.flush.new.self _ _ _ tt c.flush.result (c.in-Ok.ensures (g.L.Link.state c.args.link.now)) c.flush.ensures.goes;
+  goes = goes_then g.S.Services.stands c.args.cfg.now loop_back (flush (peers_of c.args.cfg.now)) c.args.self.now c.loop_back.new.self c.flush.new.self _ _ _ tt c.flush.result
+      (c.in-Ok.ensures (g.L.Link.state c.args.link.now)) c.flush.ensures.goes;
   script = c.flush.ensures.script;
 }
 
 pub returns-in-Err : goal.returns-in-Err
 returns-in-Err g c = record {
-  goes = goes_stopped g.S.Services.stands c.args.cfg.now loop_back (flush (peers_of c.args.cfg.now)) c.args.self.now c.loop_back.new.self _ _ c.in-Err.fault (flush_grows (peers_of c.args.cfg.now)) (c.in-Err.ensures (g.L.Link.state c.args.link.now));
+  goes = goes_stopped g.S.Services.stands c.args.cfg.now loop_back (flush (peers_of c.args.cfg.now)) c.args.self.now c.loop_back.new.self _ _ c.in-Err.fault (flush_grows (peers_of c.args.cfg.now))
+      (c.in-Err.ensures (g.L.Link.state c.args.link.now));
   script = refl;
 }
 

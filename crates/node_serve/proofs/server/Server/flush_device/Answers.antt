@@ -9,7 +9,9 @@ pub returns-then-not-has_peer : goal.returns-then-not-has_peer
 returns-then-not-has_peer g c =
     let none : c.has_peer.result ≡ false = grind (arith, c.if-not-has_peer.true) in
     record {
-      goes = goes_same g.S.Services.stands c.args.cfg.now (flush_device (peers_of c.args.cfg.now) c.args.dev) c.args.self.now (desk (g.F.Files.state c.args.files.now) (g.K.Sink.state c.args.out.now) (g.L.Link.state c.args.link.now)) tt (λ r st. no_flush (peers_of c.args.cfg.now) c.args.dev r (sym c.has_peer.ensures ∙ none));
+      goes = goes_same g.S.Services.stands c.args.cfg.now (flush_device (peers_of c.args.cfg.now) c.args.dev) c.args.self.now
+          (desk (g.F.Files.state c.args.files.now) (g.K.Sink.state c.args.out.now)
+          (g.L.Link.state c.args.link.now)) tt (λ r st. no_flush (peers_of c.args.cfg.now) c.args.dev r (sym c.has_peer.ensures ∙ none));
       script = refl;
     }
 

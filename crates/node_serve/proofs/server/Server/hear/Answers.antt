@@ -10,15 +10,22 @@ pub returns-in-Frame : goal.returns-in-Frame
 returns-in-Frame g c =
     let x : Heard = (c.in-Frame.dev, take c.in-Frame.count c.recv.new.buf) in
     record {
-      goes = hears_frame g.S.Services.stands c.args.cfg.now (next_heard (peers_of c.args.cfg.now) (g.L.Link.state c.args.link.now).script) c.args.self.now (g.F.Files.state c.args.files.now) (g.K.Sink.state c.args.out.now) (g.L.Link.state c.args.link.now) (g.L.Link.state c.recv.new.self) _ _ c.in-Frame.ensures.hears
-          x c.arrive.new.self _ _ c.arrive.result (λ seen. subst (λ ps. next_heard ps (g.L.Link.state c.args.link.now).script ≡ Some x) c.requires.bound (c.in-Frame.ensures.hears.did seen).0) (c.arrive.ensures (g.L.Link.state c.recv.new.self));
+      goes = hears_frame g.S.Services.stands c.args.cfg.now
+          (next_heard (peers_of c.args.cfg.now)
+          (g.L.Link.state c.args.link.now).script) c.args.self.now (g.F.Files.state c.args.files.now) (g.K.Sink.state c.args.out.now) (g.L.Link.state c.args.link.now) (g.L.Link.state
+          c.recv.new.self) _ _ c.in-Frame.ensures.hears
+          x c.arrive.new.self _ _ c.arrive.result (λ seen.
+          subst (λ ps. next_heard ps (g.L.Link.state c.args.link.now).script ≡ Some x) c.requires.bound (c.in-Frame.ensures.hears.did seen).0) (c.arrive.ensures (g.L.Link.state c.recv.new.self));
       script = λ seen. used_one c.arrive.result (g.L.Link.state c.args.link.now).script (g.L.Link.state c.recv.new.self).script (c.in-Frame.ensures.hears.did seen).1;
       room = c.in-Frame.ensures.room;
     }
 
 pub returns-in-Nothing : goal.returns-in-Nothing
 returns-in-Nothing g c = record {
-  goes = hears_nothing g.S.Services.stands c.args.cfg.now (next_heard (peers_of c.args.cfg.now) (g.L.Link.state c.args.link.now).script) c.args.self.now (g.F.Files.state c.args.files.now) (g.K.Sink.state c.args.out.now) (g.L.Link.state c.args.link.now) (g.L.Link.state c.recv.new.self) _ _ c.in-Nothing.ensures.hears
+  goes = hears_nothing g.S.Services.stands c.args.cfg.now
+      (next_heard (peers_of c.args.cfg.now)
+      (g.L.Link.state c.args.link.now).script) c.args.self.now (g.F.Files.state c.args.files.now) (g.K.Sink.state c.args.out.now) (g.L.Link.state c.args.link.now) (g.L.Link.state
+      c.recv.new.self) _ _ c.in-Nothing.ensures.hears
       tt (λ seen. subst (λ ps. next_heard ps (g.L.Link.state c.args.link.now).script ≡ None) c.requires.bound (c.in-Nothing.ensures.hears.did seen).0);
   script = λ seen. (c.in-Nothing.ensures.hears.did seen).1;
   room = c.in-Nothing.ensures.room;
@@ -26,7 +33,10 @@ returns-in-Nothing g c = record {
 
 pub returns-in-Failed : goal.returns-in-Failed
 returns-in-Failed g c = record {
-  goes = hears_fail g.S.Services.stands c.args.cfg.now (next_heard (peers_of c.args.cfg.now) (g.L.Link.state c.args.link.now).script) c.args.self.now (g.F.Files.state c.args.files.now) (g.K.Sink.state c.args.out.now) (g.L.Link.state c.args.link.now) (g.L.Link.state c.recv.new.self) _ _ c.in-Failed.ensures.hears c.in-Failed.ensures.hears.did.1;
+  goes = hears_fail g.S.Services.stands c.args.cfg.now
+      (next_heard (peers_of c.args.cfg.now)
+      (g.L.Link.state c.args.link.now).script) c.args.self.now (g.F.Files.state c.args.files.now) (g.K.Sink.state c.args.out.now) (g.L.Link.state c.args.link.now) (g.L.Link.state
+      c.recv.new.self) _ _ c.in-Failed.ensures.hears c.in-Failed.ensures.hears.did.1;
   script = λ seen. inl c.in-Failed.ensures.hears.did.0;
   room = c.in-Failed.ensures.room;
 }

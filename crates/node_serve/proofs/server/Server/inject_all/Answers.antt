@@ -20,14 +20,19 @@ pub inject_one-requires-clause-writing : goal.inject_one-requires-clause-writing
 inject_one-requires-clause-writing g c = c.loop-inject.invariant.writing
 
 pub inject_one-requires-clause-keeps : goal.inject_one-requires-clause-keeps
-inject_one-requires-clause-keeps g c = subst (KeepsInject c.args.cfg.now.node.version) (sym (c.inject-item.is ∙ ap (λ xs. get_or xs c.loop-inject.inject-index c.inject-item.result) c.as_slice-inject-items.ensures)) (All-get_or (KeepsInject c.args.cfg.now.node.version) c.args.cfg.now.at c.loop-inject.inject-index c.inject-item.result (subst (λ xs. c.loop-inject.inject-index < length xs) c.as_slice-inject-items.ensures c.loop-inject-test.true) c.requires.keeps.injects)
+inject_one-requires-clause-keeps g c =
+    subst (KeepsInject c.args.cfg.now.node.version) (sym (c.inject-item.is ∙ ap (λ xs. get_or xs c.loop-inject.inject-index c.inject-item.result) c.as_slice-inject-items.ensures))
+    (All-get_or (KeepsInject c.args.cfg.now.node.version) c.args.cfg.now.at c.loop-inject.inject-index c.inject-item.result
+    (subst (λ xs. c.loop-inject.inject-index < length xs) c.as_slice-inject-items.ensures c.loop-inject-test.true) c.requires.keeps.injects)
 
 pub loop-inject-preserved : goal.loop-inject-preserved
 loop-inject-preserved g c =
     let i = c.loop-inject.inject-index in
     let x = c.inject-item.result in
     let at = c.args.cfg.now.at in
-    let next = λ (r : Running). inject_next c.args.turn at i x r (slice_get-get_or at i x (subst (λ xs. i < length xs) c.as_slice-inject-items.ensures c.loop-inject-test.true) ∙ ap Some (sym (c.inject-item.is ∙ ap (λ xs. get_or xs i x) c.as_slice-inject-items.ensures))) in
+    let next = λ (r : Running). inject_next c.args.turn at i x r
+    (slice_get-get_or at i x (subst (λ xs. i < length xs) c.as_slice-inject-items.ensures c.loop-inject-test.true) ∙ ap Some
+    (sym (c.inject-item.is ∙ ap (λ xs. get_or xs i x) c.as_slice-inject-items.ensures))) in
     record {
       writing = subst IsTrue (sym (c.in_default.ensures no_link).keeps.writing) c.loop-inject.invariant.writing;
       run = λ l. goes_next g.S.Services.stands c.args.cfg.now (inject_to c.args.turn at) (inject_one c.args.turn (Some x)) i c.args.self.now c.loop-inject.self c.inject_one.new.self _ _ _

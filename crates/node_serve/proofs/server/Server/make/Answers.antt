@@ -17,7 +17,8 @@ returns-in_default-write_step g c = λ l e ev.
 pub returns : goal.returns
 returns g c = λ l e ev. rw c.into_made.ensures
     (made_written g.S.Services.stands c.args.cfg.now e c.args.self.now _ (g.F.Files.state c.args.files.now) (g.F.Files.state c.write_step.new.files) (g.K.Sink.state c.args.out.now) (g.K.Sink.state c.write_step.new.out) l
-    c.in-Ok-try_step.texts c.try_step.new.node c.in-Ok.number _ _ c.in-Ok.ensures (λ s h. c.in-Ok-try_step.ensures s e h ev) c.as_slice.ensures c.as_slice-2.ensures c.in-Ok-write_step.ensures.0 c.in-Ok-write_step.ensures.1 refl refl refl refl)
+    c.in-Ok-try_step.texts c.try_step.new.node c.in-Ok.number _ _ c.in-Ok.ensures (λ s h. c.in-Ok-try_step.ensures s e h ev) c.as_slice.ensures c.as_slice-2.ensures c.in-Ok-write_step.ensures.0
+    c.in-Ok-write_step.ensures.1 refl refl refl refl)
 
 pub try_step-requires-clause-event : goal.try_step-requires-clause-event
 try_step-requires-clause-event g c = c.requires.event.keeps

@@ -9,7 +9,8 @@ use Rattle.node_serve.proofs.server.Server.repeat_send.Goals as goal
 pub loop-init : goal.loop-init
 loop-init g c = record {
   within = omega arith;
-  run = goes_same g.S.Services.stands c.args.cfg.now (repeat_send c.args.dev 0) c.args.self.now (desk (g.F.Files.state c.args.files.now) (g.K.Sink.state c.args.out.now) (g.L.Link.state c.args.link.now)) tt (λ r st. repeat_none c.args.dev r);
+  run = goes_same g.S.Services.stands c.args.cfg.now (repeat_send c.args.dev 0) c.args.self.now
+      (desk (g.F.Files.state c.args.files.now) (g.K.Sink.state c.args.out.now) (g.L.Link.state c.args.link.now)) tt (λ r st. repeat_none c.args.dev r);
   script = refl;
 }
 
@@ -21,13 +22,15 @@ loop-preserved g c =
     let i = c.loop.invariant in
     record {
       within = omega (arith, c.loop-test.true);
-      run = goes_next g.S.Services.stands c.args.cfg.now (repeat_send c.args.dev) (take_send c.args.dev) c.loop.counter c.args.self.now c.loop.self c.take_send.new.self _ _ _ (repeat_next c.args.dev c.loop.counter) tt tt i.run c.in_default.ensures.goes;
+      run = goes_next g.S.Services.stands c.args.cfg.now (repeat_send c.args.dev) (take_send c.args.dev) c.loop.counter c.args.self.now c.loop.self c.take_send.new.self _ _ _
+          (repeat_next c.args.dev c.loop.counter) tt tt i.run c.in_default.ensures.goes;
       script = c.take_send.ensures.script ∙ i.script;
     }
 
 pub returns-in-Err : goal.returns-in-Err
 returns-in-Err g c = record {
-  goes = goes_no_more g.S.Services.stands c.args.cfg.now (repeat_send c.args.dev) (take_send c.args.dev) c.loop.counter c.args.self.now c.loop.self c.take_send.new.self _ _ _ (repeat_next c.args.dev c.loop.counter) (repeat_up c.args.dev) c.args.count c.loop-test.true tt c.in-Err.fault
+  goes = goes_no_more g.S.Services.stands c.args.cfg.now (repeat_send c.args.dev) (take_send c.args.dev) c.loop.counter c.args.self.now c.loop.self c.take_send.new.self _ _ _
+      (repeat_next c.args.dev c.loop.counter) (repeat_up c.args.dev) c.args.count c.loop-test.true tt c.in-Err.fault
       c.loop.invariant.run c.in-Err.ensures.goes;
   script = c.take_send.ensures.script ∙ c.loop.invariant.script;
 }
@@ -36,6 +39,7 @@ pub returns : goal.returns
 returns g c =
     let all : c.loop.counter ≡ c.args.count = omega (arith, c.loop.invariant.within, c.loop-test.false) in
     record {
-      goes = goes_as g.S.Services.stands c.args.cfg.now (repeat_send c.args.dev c.loop.counter) (repeat_send c.args.dev c.args.count) c.args.self.now c.loop.self _ _ _ (λ seen r st refused. ap (λ n. repeat_send c.args.dev n refused r) all) c.loop.invariant.run;
+      goes = goes_as g.S.Services.stands c.args.cfg.now (repeat_send c.args.dev c.loop.counter) (repeat_send c.args.dev c.args.count) c.args.self.now c.loop.self _ _ _ (λ seen r st refused.
+          ap (λ n. repeat_send c.args.dev n refused r) all) c.loop.invariant.run;
       script = c.loop.invariant.script;
     }

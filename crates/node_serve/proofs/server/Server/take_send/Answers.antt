@@ -19,7 +19,8 @@ returns-in-Ok-Lost g c = record {
 
 pub returns-in-Ok-Took : goal.returns-in-Ok-Took
 returns-in-Ok-Took g c = record {
-  goes = send_took g.S.Services.stands c.args.cfg.now c.args.dev c.args.self.now c.take_frame.new.self _ (g.F.Files.state c.take_frame.new.files) (g.K.Sink.state c.take_frame.new.out) (g.L.Link.state c.args.link.now) (g.L.Link.state c.send_frame.new.link)
+  goes = send_took g.S.Services.stands c.args.cfg.now c.args.dev c.args.self.now c.take_frame.new.self _ (g.F.Files.state c.take_frame.new.files) (g.K.Sink.state c.take_frame.new.out)
+      (g.L.Link.state c.args.link.now) (g.L.Link.state c.send_frame.new.link)
       c.in-Ok-Took.field-0 c.in-Ok-Took.frame c.send_frame.result c.if-self.false c.requires.device.outward.other c.in-Ok-Took.field-0-is (c.in-Ok-Took.ensures (g.L.Link.state c.args.link.now)) c.send_frame.ensures;
   script = c.send_frame.ensures.script;
 }

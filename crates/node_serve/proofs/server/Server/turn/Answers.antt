@@ -23,7 +23,8 @@ returns-in-Err-hear-clause-goes g c =
     record {
       time = c.now-now.result;
       told = c.now-now.ensures.tells;
-      goes = goes_then g.S.Services.stands c.args.cfg.now (begin_turn c.args.cfg.now c.args.number c.now-now.result) (then_do (hear h) (end_turn (peers_of c.args.cfg.now))) c.args.self.now c.begin_turn.new.self c.hear.new.self _ _ _ tt (Err c.in-Err-hear.fault) (c.in_default.ensures (g.L.Link.state c.args.link.now))
+      goes = goes_then g.S.Services.stands c.args.cfg.now (begin_turn c.args.cfg.now c.args.number c.now-now.result) (then_do (hear h) (end_turn (peers_of c.args.cfg.now))) c.args.self.now
+          c.begin_turn.new.self c.hear.new.self _ _ _ tt (Err c.in-Err-hear.fault) (c.in_default.ensures (g.L.Link.state c.args.link.now))
           (goes_stopped g.S.Services.stands c.args.cfg.now (hear h) (end_turn (peers_of c.args.cfg.now)) c.begin_turn.new.self c.hear.new.self _ _ c.in-Err-hear.fault (end_turn_grows (peers_of c.args.cfg.now)) c.in-Err-hear.ensures.goes);
       script = c.in-Err-hear.ensures.script;
     }
@@ -34,8 +35,10 @@ returns-clause-goes g c =
     record {
       time = c.now-now.result;
       told = c.now-now.ensures.tells;
-      goes = goes_then g.S.Services.stands c.args.cfg.now (begin_turn c.args.cfg.now c.args.number c.now-now.result) (then_do (hear h) (end_turn (peers_of c.args.cfg.now))) c.args.self.now c.begin_turn.new.self c.end_turn.new.self _ _ _ tt c.end_turn.result (c.in_default.ensures (g.L.Link.state c.args.link.now))
-          (goes_then g.S.Services.stands c.args.cfg.now (hear h) (end_turn (peers_of c.args.cfg.now)) c.begin_turn.new.self c.hear.new.self c.end_turn.new.self _ _ _ tt c.end_turn.result c.in_default-hear.ensures.goes c.end_turn.ensures.goes);
+      goes = goes_then g.S.Services.stands c.args.cfg.now (begin_turn c.args.cfg.now c.args.number c.now-now.result) (then_do (hear h) (end_turn (peers_of c.args.cfg.now))) c.args.self.now
+          c.begin_turn.new.self c.end_turn.new.self _ _ _ tt c.end_turn.result (c.in_default.ensures (g.L.Link.state c.args.link.now))
+          (goes_then g.S.Services.stands c.args.cfg.now (hear h) (end_turn (peers_of c.args.cfg.now)) c.begin_turn.new.self c.hear.new.self c.end_turn.new.self _ _ _ tt c.end_turn.result
+          c.in_default-hear.ensures.goes c.end_turn.ensures.goes);
       script = λ seen. used_one c.end_turn.result (g.L.Link.state c.args.link.now).script (g.L.Link.state c.end_turn.new.link).script (c.end_turn.ensures.script ∙ c.in_default-hear.ensures.script seen);
     }
 

@@ -13,11 +13,14 @@ pub returns-in_ok-make-in-Ok-clause-goes : goal.returns-in_ok-make-in-Ok-clause-
 returns-in_ok-make-in-Ok-clause-goes g c = λ s h.
     let paid = c.in-Ok.ensures.paid in
     let same = h.second in
-    acks_made g.S.Services.stands c.make.new.self c.args.number s c.in-Ok.chunk c.injection-event.result c.args.text.now (omega (arith, paid, same)) (c.in-Ok.ensures.chunk ∙ ap (ack_from first_host) h.receiver) c.injection-event.ensures.event
+    acks_made g.S.Services.stands c.make.new.self c.args.number s c.in-Ok.chunk c.injection-event.result c.args.text.now (omega (arith, paid, same))
+    (c.in-Ok.ensures.chunk ∙ ap (ack_from first_host) h.receiver) c.injection-event.ensures.event
     (c.in_ok-make-in-Ok.ensures.made (second_pays s) (second_paid g.S.Services.stands c.args.self.now _ s h refl refl refl refl paid)).is
 
 pub returns-in-Err-NoBound-clause-goes : goal.returns-in-Err-NoBound-clause-goes
 returns-in-Err-NoBound-clause-goes g c = λ s h.
     let low = c.in-Err-NoBound.ensures.no_bound.0 (ap Err c.in-Err-NoBound.field-0-is) in
     let same = h.second in
-    on_ok _ _ c.put_told.result (λ e. acks_unpaid g.S.Services.stands _ c.args.number s c.args.text.now c.put_told.new.out (omega (arith, low, same)) (still g.S.Services.stands c.args.self.now _ s h refl refl refl refl c.in-Err-NoBound.ensures.err) e) c.put_told.ensures.whole
+    on_ok _ _ c.put_told.result (λ e.
+    acks_unpaid g.S.Services.stands _ c.args.number s c.args.text.now c.put_told.new.out (omega (arith, low, same))
+    (still g.S.Services.stands c.args.self.now _ s h refl refl refl refl c.in-Err-NoBound.ensures.err) e) c.put_told.ensures.whole

@@ -11,5 +11,7 @@ returns-in-Ok-clause-goes g c = λ s h.
 pub returns-in-Err-Full-clause-goes : goal.returns-in-Err-Full-clause-goes
 returns-in-Err-Full-clause-goes g c = λ s h.
     on_ok _ _ c.put_told.result
-    (λ e. offer_full g.S.Services.stands _ c.args.number c.args.body.now s c.args.text.now c.put_told.new.out (ap is_full (sym h.sender) ∙ c.in-Err-Full.ensures.full.0 (ap Err c.in-Err-Full.field-0-is)) e (still g.S.Services.stands c.args.self.now _ s h refl c.in-Err-Full.ensures.err refl refl refl))
+    (λ e.
+    offer_full g.S.Services.stands _ c.args.number c.args.body.now s c.args.text.now c.put_told.new.out (ap is_full (sym h.sender) ∙ c.in-Err-Full.ensures.full.0 (ap Err c.in-Err-Full.field-0-is)) e
+    (still g.S.Services.stands c.args.self.now _ s h refl c.in-Err-Full.ensures.err refl refl refl))
     c.put_told.ensures.whole

@@ -24,14 +24,18 @@ returns-in-Ok-clause-goes g c = λ s h.
     let paid = c.in-Ok.ensures.paid in
     let same = h.first in
     on_ok _ _ c.wire.result
-    (λ k. transmit_goes g.S.Services.stands c.wire.new.self c.args.number c.args.seq b.0 c.injection-event.result (held_at c.args.seq s.sender) s c.args.text.now c.wire.new.text (ap (held_at c.args.seq) (sym h.sender) ∙ b.1) (omega (arith, paid, same)) made k)
+    (λ k.
+    transmit_goes g.S.Services.stands c.wire.new.self c.args.number c.args.seq b.0 c.injection-event.result (held_at c.args.seq s.sender) s c.args.text.now c.wire.new.text
+    (ap (held_at c.args.seq) (sym h.sender) ∙ b.1) (omega (arith, paid, same)) made k)
     (c.wire.ensures.goes (first_pays s) (first_paid g.S.Services.stands c.args.self.now _ s h refl refl refl refl paid))
 
 pub returns-in-Err-NotHeld-clause-goes : goal.returns-in-Err-NotHeld-clause-goes
 returns-in-Err-NotHeld-clause-goes g c = λ s h.
     let none = held_none c.args.seq c.args.self.now.sender (c.in-Err-NotHeld.ensures.not_held.0 (ap Err c.in-Err-NotHeld.field-0-is)) in
     on_ok _ _ c.put_told.result
-    (λ e. transmit_none g.S.Services.stands _ c.args.number c.args.seq (held_at c.args.seq s.sender) s c.args.text.now c.put_told.new.out (ap (held_at c.args.seq) (sym h.sender) ∙ none) e (still g.S.Services.stands c.args.self.now _ s h refl refl refl c.in-Err-NotHeld.ensures.err refl))
+    (λ e.
+    transmit_none g.S.Services.stands _ c.args.number c.args.seq (held_at c.args.seq s.sender) s c.args.text.now c.put_told.new.out (ap (held_at c.args.seq) (sym h.sender) ∙ none) e
+    (still g.S.Services.stands c.args.self.now _ s h refl refl refl c.in-Err-NotHeld.ensures.err refl))
     c.put_told.ensures.whole
 
 pub returns-in-Err-NoBound-clause-goes : goal.returns-in-Err-NoBound-clause-goes
@@ -41,5 +45,8 @@ returns-in-Err-NoBound-clause-goes g c = λ s h.
     let low = unpaid.1 in
     let same = h.first in
     on_ok _ _ c.put_told-in-Err-NoBound.result
-    (λ e. transmit_unpaid g.S.Services.stands _ c.args.number c.args.seq b.0 (held_at c.args.seq s.sender) s c.args.text.now c.put_told-in-Err-NoBound.new.out (ap (held_at c.args.seq) (sym h.sender) ∙ b.1) (omega (arith, low, same)) e (still g.S.Services.stands c.args.self.now _ s h refl refl refl c.in-Err-NoBound.ensures.err refl))
+    (λ e.
+    transmit_unpaid g.S.Services.stands _ c.args.number c.args.seq b.0 (held_at c.args.seq s.sender) s c.args.text.now c.put_told-in-Err-NoBound.new.out
+    (ap (held_at c.args.seq) (sym h.sender) ∙ b.1) (omega (arith, low, same)) e
+    (still g.S.Services.stands c.args.self.now _ s h refl refl refl c.in-Err-NoBound.ensures.err refl))
     c.put_told-in-Err-NoBound.ensures.whole

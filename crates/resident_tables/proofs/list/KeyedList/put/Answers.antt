@@ -15,7 +15,8 @@ invariant_of-self-in-Err g c =
     let key = g.T.HasKey.key_of in
     let f = c.self.inside in
     let spot = spot_here key f.items.items c.as_slice.result.now f.order.items c.as_slice-2.result.now (key c.args.item) (Err c.in-Err.i) c.as_slice.ensures.value c.as_slice-2.ensures.value c.in-Err.ensures in
-    added_kept key f.items.items c.push_reserved.new.self.items f.order.items c.put_place.new.order.items c.in-Err.i c.len-place.result c.args.item c.self.invariant spot (c.len-place.ensures ∙ f.items.ok.0) c.push_reserved.ensures.items c.put_place.ensures.items
+    added_kept key f.items.items c.push_reserved.new.self.items f.order.items c.put_place.new.order.items c.in-Err.i c.len-place.result c.args.item c.self.invariant spot
+    (c.len-place.ensures ∙ f.items.ok.0) c.push_reserved.ensures.items c.put_place.ensures.items
 
 pub returns-in-Ok-clause-items : goal.returns-in-Ok-clause-items
 returns-in-Ok-clause-items g c =
@@ -29,4 +30,6 @@ returns-in-Err-clause-items g c =
     let key = g.T.HasKey.key_of in
     let f = c.self.inside in
     let spot = spot_here key f.items.items c.as_slice.result.now f.order.items c.as_slice-2.result.now (key c.args.item) (Err c.in-Err.i) c.as_slice.ensures.value c.as_slice-2.ensures.value c.in-Err.ensures in
-    added_is key f.items.items c.push_reserved.new.self.items f.order.items c.put_place.new.order.items c.in-Err.i c.len-place.result c.args.item c.self.invariant spot (c.len-place.ensures ∙ f.items.ok.0) c.push_reserved.ensures.items c.put_place.ensures.items ∙ ap (λ t. put key c.args.item t.items) c.self.view_is
+    added_is key f.items.items c.push_reserved.new.self.items f.order.items c.put_place.new.order.items c.in-Err.i c.len-place.result c.args.item c.self.invariant spot
+    (c.len-place.ensures ∙ f.items.ok.0) c.push_reserved.ensures.items c.put_place.ensures.items
+    ∙ ap (λ t. put key c.args.item t.items) c.self.view_is

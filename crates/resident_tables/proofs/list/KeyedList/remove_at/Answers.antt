@@ -9,7 +9,10 @@ returns-in-Ok-clause-items g c =
     let f = c.self.inside in
     let x = c.index.result.now in
     let spot = spot_here key f.items.items c.as_slice.result.now f.order.items c.as_slice-2.result.now (key x) (Ok c.in-Ok.j) c.as_slice.ensures.value c.as_slice-2.ensures.value c.in-Ok.ensures in
-    c.take_out.ensures.items ∙ same_removed key f.items.items f.order.items c.in-Ok.j c.args.i x c.self.invariant.0 c.self.invariant.1 spot.0 spot.1 (subst (λ t. c.args.i < length t.items) (sym c.self.view_is) c.requires) c.index.ensures ∙ ap (λ t. remove t.items c.args.i) c.self.view_is
+    c.take_out.ensures.items
+    ∙ same_removed key f.items.items f.order.items c.in-Ok.j c.args.i x c.self.invariant.0 c.self.invariant.1 spot.0 spot.1
+    (subst (λ t. c.args.i < length t.items) (sym c.self.view_is) c.requires) c.index.ensures
+    ∙ ap (λ t. remove t.items c.args.i) c.self.view_is
 
 pub returns-in_default-clause-items : goal.returns-in_default-clause-items
 returns-in_default-clause-items g c =

@@ -10,4 +10,6 @@ pub with-requires-clause-counted : goal.with-requires-clause-counted
 with-requires-clause-counted c = has_found (option_copied c.find.result) (row_key (part_row c.args.parts.now)) (over c.args.base.now.rows c.args.self.now) c.counts-counts.result c.find.ensures.row c.counts-counts.ensures.counts
 
 pub returns-clause-fit : goal.returns-clause-fit
-returns-clause-fit c = fit_is (part_row c.args.parts.now) (over c.args.base.now.rows c.args.self.now) c.size.result c.size.ensures (option_copied c.find.result) c.counts-counts.result c.with.result c.find.ensures.row c.counts-counts.ensures.counts c.with.ensures
+returns-clause-fit c =
+    fit_is (part_row c.args.parts.now) (over c.args.base.now.rows c.args.self.now) c.size.result c.size.ensures (option_copied c.find.result) c.counts-counts.result c.with.result c.find.ensures.row
+    c.counts-counts.ensures.counts c.with.ensures

@@ -18,5 +18,6 @@ invariant_of-self c =
       bytes = c.bytes_after-self-inside.ensures ∙ ap (λ (k : Option Counts). bytes_after k c.self.inside.bytes) c.counted.ensures ∙ kept.0 ∙ ap rows_size (sym rows);
       fit = ap fits rows ∙ kept.1;
       least = search rules;
-      stay = stay_committed c.self.inside.earliest c.least_expiry-self-inside.result o.gone o.puts base c.make_in.new.rows.items (c.least_expiry-self-inside.ensures ∙ ap (least_expiry c.self.inside.earliest) c.puts.ensures) rows c.self.invariant.stay;
+      stay = stay_committed c.self.inside.earliest c.least_expiry-self-inside.result o.gone o.puts base c.make_in.new.rows.items
+          (c.least_expiry-self-inside.ensures ∙ ap (least_expiry c.self.inside.earliest) c.puts.ensures) rows c.self.invariant.stay;
     }

@@ -16,7 +16,8 @@ invariant_of-self c =
       c.self.invariant.0,
       open_kept t c.answer_call.new.changes c.self.inside.is_open false is (record {
         base = c.answer_call.ensures.over;
-        good = meets_good (present_of c.self.inside.there) c.args.svc.now c.as_slice.result.now c.args.ctx.now (rows_over t o) (rows_over t c.answer_call.new.changes) c.answer_call.result c.answer_call.ensures.meets was.good good c.requires.near;
+        good = meets_good (present_of c.self.inside.there) c.args.svc.now c.as_slice.result.now c.args.ctx.now (rows_over t o) (rows_over t c.answer_call.new.changes) c.answer_call.result
+            c.answer_call.ensures.meets was.good good c.requires.near;
         room = λ e. absurd cc;
       }),
     )

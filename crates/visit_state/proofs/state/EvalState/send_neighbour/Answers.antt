@@ -16,7 +16,8 @@ returns-in-Ok-clause-meets c = λ s.
     let ctx : c.self.inside.ctx ≡ c.args.self.now.ctx = ap (λ own. own.ctx) c.self.view_is in
     let purse : c.of-purse.result ≡ c.args.self.now.ctx.purse = c.of-purse.ensures ∙ ap (λ around. around.purse) ctx in
     let same_bound = to_z-of_z w64 c.args.n (search rules) in
-    neighbour_meets c.args.chunk c.args.host c.args.n c.args.dev c.args.self.now _ _ _ purse ctx same_bound s c.in-Ok.way default_route c.send_named.result _ c.in-Ok.ensures.found refl (c.send_named.ensures.meets default_route s c.default_route.ensures)
+    neighbour_meets c.args.chunk c.args.host c.args.n c.args.dev c.args.self.now _ _ _ purse ctx same_bound s c.in-Ok.way default_route c.send_named.result _ c.in-Ok.ensures.found refl
+    (c.send_named.ensures.meets default_route s c.default_route.ensures)
 
 pub returns-in-Err-clause-meets : goal.returns-in-Err-clause-meets
 returns-in-Err-clause-meets c = λ s other.

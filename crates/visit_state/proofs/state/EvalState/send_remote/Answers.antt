@@ -15,7 +15,8 @@ returns-in-Ok-clause-meets c = λ s.
     let ctx : c.self.inside.ctx ≡ c.args.self.now.ctx = ap (λ own. own.ctx) c.self.view_is in
     let purse : c.of-purse.result ≡ c.args.self.now.ctx.purse = c.of-purse.ensures ∙ ap (λ around. around.purse) ctx in
     let same_bound = to_z-of_z w64 c.args.n (search rules) in
-    remote_meets c.args.chunk c.args.host c.args.n c.args.route.now c.args.self.now _ _ _ purse ctx same_bound s c.in-Ok.way c.args.route.now c.send_named.result _ c.in-Ok.ensures.found refl (c.send_named.ensures.meets c.args.route.now s c.copy.ensures)
+    remote_meets c.args.chunk c.args.host c.args.n c.args.route.now c.args.self.now _ _ _ purse ctx same_bound s c.in-Ok.way c.args.route.now c.send_named.result _ c.in-Ok.ensures.found refl
+    (c.send_named.ensures.meets c.args.route.now s c.copy.ensures)
 
 pub returns-in-Err-clause-meets : goal.returns-in-Err-clause-meets
 returns-in-Err-clause-meets c = λ s other.
