@@ -9,7 +9,7 @@ use plan_base::{NoMemory, Program};
 use plan_base_size::code_size;
 use std::marker::Model;
 
-/// A program that is typed, which contracts see as that program. Its size stands beside it, so that it is measured once.
+/// A program that is typed, which contracts see as that program. Its size is cached with it, so that it is measured once.
 #[derive(Drop)]
 pub struct Checked {
     program: Shared<Program>,

@@ -12,14 +12,14 @@ use plan_base_size::code_size;
 use std::alloc::Global;
 use std::marker::Model;
 
-/// A chunk that is typed, which contracts see as that chunk. The size of its program stands beside it, so that it is measured
+/// A chunk that is typed, which contracts see as that chunk. The size of its program is cached with it, so that it is measured
 /// once.
 pub struct CheckedChunk {
     chunk: Chunk,
     size: u64,
 }
 
-// (with a drop of its own, so that what lets a chunk go need not prove again how its values are dropped)
+// (with its own `Drop`, so that what drops a chunk need not prove again how its values are dropped)
 impl Drop for CheckedChunk {
     fn drop(self) {
         let CheckedChunk {

@@ -1,4 +1,4 @@
--- What is in range is told by the outermost level, and item by item.
+-- What is in range is decided by the outermost level, and item by item.
 use Rattle.std.proofs.Common.{◌≡◌, ℕ, ◌+◌, ◌<◌, ◌≤◌, Bool, true, List, length, take, get_or, refl, sym, ◌∙◌, ap, ℤ, pos, negsuc}
 use Rattle.std.specs.Prelude.{◌&&◌, FitsSigned}
 use Rattle.std.specs.List.{list_all}

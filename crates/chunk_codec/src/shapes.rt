@@ -1,4 +1,4 @@
-//! Forms of expressions that are read alike, and are told apart by their tags alone.
+//! Forms of expressions that are read alike, and are distinguished by their tags alone.
 
 ghost use Rattle.std.specs.Prelude.{◌≡◌};
 ghost use Rattle.chunk_codec.specs.Shapes.{pair_of, fold_of, applied_of};

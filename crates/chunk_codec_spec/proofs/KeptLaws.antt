@@ -1,4 +1,4 @@
--- What can be written is told by the outermost level.
+-- What can be written is decided by the outermost level.
 use Rattle.std.proofs.Common.{◌≡◌, Bool, List, refl, ◌∙◌}
 use Rattle.std.specs.Prelude.{nat_lt, ◌&&◌}
 use Rattle.std.proofs.lemmas.List.{length-map}

@@ -234,10 +234,10 @@ pub fn read_audit(alloc: Global, bytes: &[u8]) -> Result<AuditFile, LineFault>
     requires { length bytes.now ≤ 4194304 }
     // What is answered is what the file says.
     ensures found { IfOk result (λ a. audit_of bytes.now ≡ Ok a) }
-    // A file that names logs and links is answered so, unless memory is refused.
+    // A file that names logs and links is answered so, unless an allocation fails.
     ensures only { (a : Said) → audit_of bytes.now ≡ Ok a → MatchResult result (λ b. b ≡ a)
         (λ e. e ≡ LineFault.NoMemory) }
-    // A refusal is the file's first one, unless memory is refused.
+    // A refusal is the file's first one, unless an allocation fails.
     ensures fault { IfErr result (λ e. (e ≡ LineFault.NoMemory) ⊎ (audit_of bytes.now ≡ Err e)) }
     // What is answered keeps the rules.
     ensures rules { IfOk result KeepsAudit }

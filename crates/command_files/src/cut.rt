@@ -312,10 +312,10 @@ pub fn read_cut(alloc: Global, bytes: &[u8]) -> Result<CutFile, LineFault>
     requires { length bytes.now ≤ 4194304 }
     // What is answered is what the file says.
     ensures found { IfOk result (λ m. cut_of bytes.now ≡ Ok m) }
-    // A file that names a message is answered so, unless memory is refused.
+    // A file that names a message is answered so, unless an allocation fails.
     ensures only { (m : Message) → cut_of bytes.now ≡ Ok m
         → MatchResult result (λ n. n ≡ m) (λ e. e ≡ LineFault.NoMemory) }
-    // A refusal is the file's first one, unless memory is refused.
+    // A refusal is the file's first one, unless an allocation fails.
     ensures fault { IfErr result (λ e. (e ≡ LineFault.NoMemory) ⊎ (cut_of bytes.now ≡ Err e)) }
     // A message keeps the rules.
     ensures rules { IfOk result KeepsCut }

@@ -160,10 +160,10 @@ pub fn read_port(alloc: Global, bytes: &[u8]) -> Result<PortFile, LineFault>
     requires { length bytes.now ≤ 4194304 }
     // What is answered is what the file says.
     ensures found { IfOk result (λ p. port_of bytes.now ≡ Ok p) }
-    // A file that says what two ends do is answered so, unless memory is refused.
+    // A file that says what two ends do is answered so, unless an allocation fails.
     ensures only { (p : Said) → port_of bytes.now ≡ Ok p
         → MatchResult result (λ q. q ≡ p) (λ e. e ≡ LineFault.NoMemory) }
-    // A refusal is the file's first one, unless memory is refused.
+    // A refusal is the file's first one, unless an allocation fails.
     ensures fault { IfErr result (λ e. (e ≡ LineFault.NoMemory) ⊎ (port_of bytes.now ≡ Err e)) }
     // What is answered keeps the rules.
     ensures rules { IfOk result KeepsPort }

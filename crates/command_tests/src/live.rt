@@ -11,7 +11,7 @@ use std::net::{Ipv4Addr, UdpSocket};
 /// How often a quiet receiving is made again.
 const TRIES: u32 = 50;
 
-// The port of a socket, where the system tells it.
+// The port of a socket, where the system gives it.
 fn port_of(socket: &UdpSocket) -> Option<u16> {
     match socket.local_addr() {
         Ok(address) => Some(address.port()),
@@ -150,7 +150,7 @@ fn a_long_datagram_is_cut(rt: HostRuntime) {
     assert!(rt; cuts_over_loopback(&rt, 20_000));
 }
 
-// Whether a clock tells more milliseconds than these, and then no fewer.
+// Whether a clock gives more milliseconds than these, and then no fewer.
 fn goes_on<C: Clock>(clock: &mut C, past: u64) -> bool {
     let first = clock.now();
     first > past && clock.now() >= first

@@ -36,7 +36,7 @@ impl<T> Boxed<T> {
 }
 
 impl<T: Drop> Boxed<T> {
-    /// A box of `value`. Where memory is refused, the value is dropped.
+    /// A box of `value`. Where an allocation fails, the value is dropped.
     pub fn new(alloc: Global, value: T) -> Result<Boxed<T>, AllocError>
         ensures { IfOk result (λ b. b ≡ value) }
     {

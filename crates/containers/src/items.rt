@@ -94,7 +94,7 @@ impl<T> Items<T> {
 }
 
 impl<T: Drop> Items<T> {
-    /// Adds `item` at the end. Where memory is refused, the item is dropped and the list stays.
+    /// Adds `item` at the end. Where an allocation fails, the item is dropped and the list stays.
     pub fn add(&mut self, item: T) -> Result<(), AllocError>
         ensures ok { OnOk result (self.new ≡ self.old ++ item ∷ []) }
         ensures err { OnErr result (self.new ≡ self.old) }
@@ -103,7 +103,7 @@ impl<T: Drop> Items<T> {
         Ok(())
     }
 
-    /// Moves the items of `more` to the end. Where memory is refused they are dropped and the list stays.
+    /// Moves the items of `more` to the end. Where an allocation fails they are dropped and the list stays.
     pub fn append(&mut self, more: Items<T>) -> Result<(), AllocError>
         ensures ok { OnOk result (self.new ≡ self.old ++ more) }
         ensures err { OnErr result (self.new ≡ self.old) }

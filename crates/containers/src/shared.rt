@@ -29,7 +29,7 @@ impl<T> Shared<T> {
 }
 
 impl<T: Drop> Shared<T> {
-    /// The first owner of `value`. Where memory is refused, the value is dropped.
+    /// The first owner of `value`. Where an allocation fails, the value is dropped.
     pub fn new(alloc: Global, value: T) -> Result<Shared<T>, AllocError>
         ensures { IfOk result (λ s. s ≡ value) }
     {

@@ -1,4 +1,4 @@
--- The lesser of costs, and the costs that adverts tell.
+-- The lesser of costs, and the costs that adverts carry.
 use Rattle.std.proofs.Common.{◌≡◌, ℕ, Bool, true, false, cond, eqb, ltb, ◌&&◌, Option, Some, None, List, [], ◌∷◌, ◌++◌, ◌⊎◌, inl, inr, refl, sym, ap, ◌∙◌, arith}
 use Rattle.std.proofs.lemmas.Bool.Decides.{nat_tests, Decides-eqb}
 use Rattle.plan_base.specs.declared.ids.Host.{Host}
@@ -74,7 +74,7 @@ same_host a b h = host_tested a b true (sym h) refl
 pub among_same : (hosts : List Host) (a b : Host) → a ≡ b → is_among hosts b ≡ true → is_among hosts a ≡ true
 among_same hosts a b e h = ap (is_among hosts) e ∙ h
 
--- for a host of the network a row tells its cost, as it stands
+-- for a host of the network a row gives its cost, as it stands
 pub row_inside : (hosts : List Host) (x : Host) (row : AdvertRow) → is_among hosts x ≡ true → row_cost hosts x row ≡ told_cost x row
 row_inside hosts x row h = split (eqb row.host.0 x.0) refl
   where
@@ -83,7 +83,7 @@ row_inside hosts x row h = split (eqb row.host.0 x.0) refl
     split true e = ap (λ b. cond (b && ltb row.cost 65535) (Some row.cost) None) (among_same hosts row.host x (host_tested row.host x true e refl) h)
     split false e = refl
 
--- of another host it tells nothing
+-- of another host it gives nothing
 pub row_outside : (hosts : List Host) (x : Host) (row : AdvertRow) → is_among hosts x ≡ false → row_cost hosts x row ≡ None
 row_outside hosts x row h = split (eqb row.host.0 x.0) refl
   where

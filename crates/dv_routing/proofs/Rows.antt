@@ -45,7 +45,7 @@ pub rows_routes : (r : Routing) (x : Host) → is_among r.hosts x ≡ true → r
 unfolding all_routes
 rows_routes r x h = rows_for r x r.hosts ∙ ap (λ t. cond t (route r x) None) h
 
--- costs that can be told are below 65,535
+-- costs that can be advertised are below 65,535
 abbrev Told : Option ℕ → Type 0
 Told o = (c : ℕ) → o ≡ Some c → c < 65535
 

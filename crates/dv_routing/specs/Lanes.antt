@@ -8,11 +8,11 @@ use Rattle.dv_routing.specs.declared.table.Known.{Known}
 use Rattle.dv_routing.specs.declared.table.Lane.{Lane}
 use Rattle.dv_routing.specs.Routing.{least, over_link, better}
 
--- the cost that a row tells for a host
+-- the cost that a row gives for a host
 abbrev pub told_cost : Host → AdvertRow → Option ℕ
 told_cost x row = if (row.host.0 == x.0) && nat_lt row.cost 65535 then Some row.cost else None
 
--- the least cost that rows tell for a host
+-- the least cost that rows give for a host
 unfoldable pub taken_cost : Host → List AdvertRow → Option ℕ
 taken_cost x [] = None
 taken_cost x (row ∷ rows) = least (told_cost x row) (taken_cost x rows)

@@ -1,4 +1,4 @@
--- Costs and routes by the adverts that a node heard, and what it tells of them.
+-- Costs and routes by the adverts that a node heard, and what it advertises of them.
 use Rattle.std.specs.Prelude.{ℕ, ◌+◌, Bool, ◌==◌, nat_lt, ◌&&◌, ◌||◌, if◌then◌else◌, Option, Some, None, List, [], ◌∷◌, ◌++◌, map}
 use Rattle.std.specs.List.{flat_map, list_any}
 use Rattle.std.specs.Option.{option_to_list}
@@ -33,7 +33,7 @@ least None b = b
 least (Some a) None = Some a
 least (Some a) (Some b) = if nat_lt b a then Some b else Some a
 
--- the cost for x in a row; a row for a host outside the network is skipped, and one of cost 65,535, since no row can tell one more
+-- the cost for x in a row; a row for a host outside the network is skipped, and one of cost 65,535, since no row can carry one more
 abbrev pub row_cost : List Host → Host → AdvertRow → Option ℕ
 row_cost hosts x row = if (row.host.0 == x.0) && (is_among hosts row.host && nat_lt row.cost 65535) then Some row.cost else None
 
@@ -111,7 +111,7 @@ route_within r x = if is_among r.hosts x then route r x else None
 abbrev pub routes_within : Routing → Host → List RouteRow
 routes_within r x = option_to_list (route_within r x)
 
--- what is told of a route
+-- what is advertised of a route
 abbrev pub advert_row : RouteRow → AdvertRow
 advert_row row = record { host = row.host; cost = row.cost }
 

@@ -14,7 +14,7 @@ known_of r d x = record { host = x; least = heard_cost r.hosts x d r.heard }
 abbrev pub lane_of : Routing → Host × Dev → Lane
 lane_of r link = record { host = link.0; dev = link.1; known = map (known_of r link.1) r.hosts }
 
--- a table stands for all adverts heard: it has the least cost that they tell for each host on each device
+-- a table stands for all adverts heard: it has the least cost that they give for each host on each device
 pub record Stands (r : Routing) (t : Table) : Type 0 where
   pub here : t.here ≡ r.here
   pub hosts : t.hosts ≡ r.hosts

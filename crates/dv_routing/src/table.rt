@@ -48,7 +48,7 @@ fn least(a: Option<u16>, b: Option<u16>) -> Option<u16>
     if y < x { b } else { a }
 }
 
-/// The cost that a row tells for a host. One of 65,535 is skipped, since no row could tell one more.
+/// The cost that a row gives for a host. One of 65,535 is skipped, since no row could carry one more.
 fn told_cost(row: &AdvertRow, host: Host) -> Option<u16>
     ensures { result ≡ told_cost host row.now }
 {
@@ -59,7 +59,7 @@ fn told_cost(row: &AdvertRow, host: Host) -> Option<u16>
     }
 }
 
-/// The least cost that rows tell for a host.
+/// The least cost that rows give for a host.
 #[tactic(auto, using(crate::proofs::Costs::least_laws), unfolding(crate::specs::Lanes::taken_cost))]
 fn taken_cost(rows: &[AdvertRow], host: Host) -> Option<u16>
     ensures { result ≡ taken_cost host rows.now }
@@ -74,7 +74,7 @@ fn taken_cost(rows: &[AdvertRow], host: Host) -> Option<u16>
 }
 
 impl Known {
-    /// With what these rows tell.
+    /// With what these rows give.
     fn after(self, rows: &[AdvertRow]) -> Known
         ensures { result ≡ known_after rows.now self }
     {
@@ -85,7 +85,7 @@ impl Known {
     }
 }
 
-/// Takes what rows tell into what is known.
+/// Takes what rows give into what is known.
 fn learn(known: &mut Items<Known>, rows: &[AdvertRow])
     ensures { known.new ≡ map (known_after rows.now) known.old }
 {
@@ -356,7 +356,7 @@ impl Table {
         Ok(Router::new(rows))
     }
 
-    /// What the node tells its neighbours: a row for each route.
+    /// What the node advertises to its neighbours: a row for each route.
     pub fn advert(&self, alloc: Global) -> Result<Advert, NoMemory>
         ensures { (r : Routing) → Stands r self.now → IfOk result (λ a. a ≡ own_advert r) }
     {
@@ -368,7 +368,7 @@ impl Table {
     }
 }
 
-/// What is told of routes.
+/// What is advertised of routes.
 fn told_rows(alloc: Global, routes: &[RouteRow]) -> Result<AdvertRows, NoMemory>
     ensures { IfOk result (λ rows. rows ≡ map advert_row routes.now) }
 {

@@ -13,7 +13,7 @@ use plan_base::Value;
 use plan_meaning::EvalStop;
 use visit_state::as_bool;
 
-/// The truth value that a value is, which is let go.
+/// The truth value that a value is, which is dropped.
 fn truth_in(v: Value) -> Option<bool>
     ensures { result ≡ as_bool v }
 {

@@ -63,7 +63,7 @@ fn behind_more(n: usize, held: Values, v: Value) -> Result<StackFrame, NoMemory>
     Ok(StackFrame::Part(n, all))
 }
 
-/// A part of a send that isn't what it has to be: the values that wait and it are let go.
+/// A part of a send that isn't what it has to be: the values that wait and it are dropped.
 fn unfit(held: Values, v: Value) -> Result<Next, EvalStop>
     ensures { result ≡ Err stops.Wrong }
 {

@@ -35,7 +35,7 @@ abbrev pub serve_called : Option ExampleService → List Value → Rows → Serv
 serve_called (Some s) args rows = serve_as s args rows
 serve_called None args rows = refused_call rows
 
--- what a call means, whatever stands around it
+-- what a call means, whatever its context
 abbrev pub serve : Serve
 serve svc args ctx rows = serve_called (called_service svc) args rows
 

@@ -64,7 +64,7 @@ fn close<S: Services>(services: &mut S, is_spent: bool)
 /// Visits a packet with these services, whichever they are. What the visit changed stands then, unless its work was spent.
 ///
 /// Conditions: the purse of the surroundings is the packet's bound and their source the family's host, there are at most 8
-/// neighbours, and no `begin` is open. Where memory is refused the services stay.
+/// neighbours, and no `begin` is open. Where an allocation fails the services stay.
 #[tactic(auto, using(crate::proofs::Turns::packet_is_visited, node_core::proofs::TurnLaws::undone, node_core::proofs::TurnLaws::rests_closed, node_core::proofs::TurnLaws::rests_abandoned))]
 pub fn visit_once<S: Services>(
     alloc: Global,

@@ -1,4 +1,4 @@
--- Why a call of the product ended: the exit codes, and the counts of faults that causes tell of.
+-- Why a call of the product ended: the exit codes, and the counts of faults that causes report.
 use Rattle.std.specs.Prelude.{ℕ, ◌≡◌, ◌⊎◌}
 use Rattle.node_io.specs.Causes.{HasRisen}
 use Rattle.node_io.specs.Sinks.{SinkState}

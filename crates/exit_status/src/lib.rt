@@ -1,4 +1,4 @@
-//! Why a call of the product ended, and the note that tells it.
+//! Why a call of the product ended, and the note that says it.
 #![tactic(auto)]
 
 mod note;

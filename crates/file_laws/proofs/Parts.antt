@@ -43,7 +43,7 @@ unfolding Own
 whole_own (Ok x) s = tt
 whole_own (Err at) s = λ h. cc
 
--- a fault other than `NoMemory` is told where something may not stand there
+-- a fault other than `NoMemory` is reported where something may not stand there
 allowed_own : {A : Type 0} (b : Bool) (e : SpellFault) (x : A × Scan) → e ≢ NoMemory → Own (allowed_or_fault b e x)
 unfolding Own
 allowed_own true e x h = tt

@@ -39,7 +39,7 @@ carried_fits (PlainFrame.Ask bound d) c fits e = let same : d ≡ c = cc in subs
 ill_law : (x : PlainFrame) (c : Chunk) (i : Ill) → FrameFits x → carried_chunk x ≡ Some c → (illness c ≡ Some i) ↔ FirstFailing c (causes.Ill i) (conditions c)
 ill_law x c i fits e = let k = carried_fits x c fits e in first_ill c (chunk_is_formed c k) (chunk_is_full c k) i
 
--- what is wrong with the chunk that a frame carries, told by its first condition, and back
+-- what is wrong with the chunk that a frame carries, reported by its first condition, and back
 failing : (x : PlainFrame) (e : FrameFault) → FrameFits x → CarriesIll x e → (i : Ill) × CarriesFailing x i × (e ≡ faults.IllTyped i)
 failing x e fits c = (c.ill, record { chunk = c.chunk; is_carried = c.is_carried; fails = (ill_law x c.chunk c.ill fits c.is_carried).0 c.first }, c.is)
 

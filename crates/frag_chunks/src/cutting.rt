@@ -32,7 +32,7 @@ pub type Parts = Items<Part>;
 pub enum CutFault {
     /// The purse doesn't pay the bound.
     NoBound,
-    /// A growth was refused for memory.
+    /// An allocation failed.
     NoMemory,
 }
 

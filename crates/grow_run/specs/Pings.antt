@@ -25,7 +25,7 @@ pub record OfGrown (seed n : ℕ) (Is : List ℕ → Type 0) : Type 0 where
   pub reads : program_of ping_text ≡ Ok code
   pub is : Is (GrowText (ping code) seed n)
 
--- the summary was written, or a prefix of it where the output failed; nothing, where memory was refused
+-- the summary was written, or a prefix of it where the output failed; nothing, where an allocation failed
 abbrev pub Grows : {T : Type 0} → ℕ → ℕ → SinkState → SinkState → Result T RunFault → Type 0
 Grows seed n old new (Ok x) = OfGrown seed n (Writes old new)
 Grows seed n old new (Err WriteFault) = OfGrown seed n (FailsIn old new)

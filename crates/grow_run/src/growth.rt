@@ -36,7 +36,7 @@ pub struct GrowingNetwork<S: Services> {
     summary: Summary,
 }
 
-// (with a drop of its own, so that what lets one go need not prove again how its parts are dropped)
+// (with its own `Drop`, so that what drops one need not prove again how its parts are dropped)
 impl<S: Services + Drop> Drop for GrowingNetwork<S> {
     fn drop(self) {
         let GrowingNetwork {

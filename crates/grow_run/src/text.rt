@@ -79,7 +79,7 @@ fn put_summary_text(
 }
 
 /// Appends the summary of a network that grew by itself: what was asked, what happened, and the sums over
-/// all families. Where memory is refused, `out` stays.
+/// all families. Where an allocation fails, `out` stays.
 pub fn put_summary(
     alloc: Global,
     out: &mut Bytes,

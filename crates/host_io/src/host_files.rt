@@ -7,7 +7,7 @@ use std::fs;
 use std::io::Read;
 use std::rt::Files as System;
 
-/// The files of the system. Each push writes and flushes, so that no fault comes later. It tells
+/// The files of the system. Each push writes and flushes, so that no fault comes later. It reports
 /// nothing of what the files hold.
 #[derive(Drop)]
 pub struct HostFiles<'a, R: System> {

@@ -4,7 +4,7 @@ ghost use Rattle.std.specs.Prelude.{◌≡◌, ◌≤◌, ◌<◌, [], false, le
 use node_io::{Failed, Sink, raise};
 use std::io::Write;
 
-/// A sink over a real output. Each push writes and flushes, so that no fault comes later. It tells
+/// A sink over a real output. Each push writes and flushes, so that no fault comes later. It reports
 /// nothing of what the output holds.
 #[derive(Drop)]
 pub struct HostSink<W: Write + Drop> {

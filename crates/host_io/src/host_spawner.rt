@@ -50,7 +50,7 @@ fn utf8_text(text: &Text) -> io::Result<&str> {
     }
 }
 
-// A command, which is let go by a call.
+// A command, which is dropped by a call.
 struct CommandLine {
     command: Command,
 }

@@ -1,6 +1,6 @@
 //! All that touches the machine: files, outputs, a link over UDP on loopback, the system's clock, child processes, and the words of the call.
 //!
-//! None of them tells what it holds. Each counts its faults, and fails only where its count rose.
+//! None of them reports what it holds. Each counts its faults, and fails only where its count rose.
 #![tactic(auto)]
 
 mod arguments;

@@ -13,7 +13,7 @@ use std::time::Duration;
 /// How many milliseconds a receiving waits for a datagram.
 const WAIT: u64 = 10;
 
-/// A link over UDP on loopback: one socket at the node's port, and peers told by their ports.
+/// A link over UDP on loopback: one socket at the node's port, and peers known by their ports.
 ///
 /// A receiving waits up to 10 milliseconds. Nothing has come where a datagram is empty, comes from no peer's port, or
 /// where a peer refused an earlier one. A datagram that no longer fits is cut. A frame to a peer that doesn't listen is

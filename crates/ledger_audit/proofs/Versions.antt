@@ -1,4 +1,4 @@
--- How the bytes of a frame on its way begin tells its version.
+-- How the bytes of a frame on its way begin gives its version.
 use Rattle.std.proofs.Common.{◌≡◌, ℕ, List, Option, Some, None, refl, ap, ◌∙◌}
 use Rattle.plan_base.specs.declared.stamp.Stamp.{Stamp}
 use Rattle.plan_base.specs.declared.stamp.Version.{Version}
@@ -35,6 +35,6 @@ stamp_told Two None (PlainFrame.Advert a) r w = absurd r
 stamp_told Two None (PlainFrame.Ask bound c) r w = absurd w
 stamp_told Two (Some s) x r w = told_stamped s x w
 
--- a frame that a node of a version accepts and that may be on its way is told as one of that version
+-- a frame that a node of a version accepts and that may be on its way is taken as one of that version
 pub version_told : (v : Version) (bytes : List ℕ) (x : PlainStamped) → AcceptsBy v bytes x → IsOnItsWay x.frame → version_in bytes ≡ v
 version_told v bytes x a w = ap version_in a.is ∙ stamp_told v x.stamp x.frame a.read w

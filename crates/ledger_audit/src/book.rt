@@ -112,8 +112,8 @@ impl FamilyTotals {
         Ok(())
     }
 
-    /// Adds to the counts of a family. A sum that has no place in 64 bits, which no 16 logs reach, is answered as want of
-    /// memory.
+    /// Adds to the counts of a family. A sum that has no place in 64 bits, which no 16 logs reach, is answered as a failed
+    /// allocation.
     fn add(&mut self, f: Family, more: Counts) -> Result<(), NoMemory>
         ensures { OnOk result (Adds f more self.old self.new) }
     {

@@ -64,7 +64,7 @@ pub struct AuditState {
     pub hosts: Items<Host>,
 }
 
-// (with a drop of its own, so that what lets one go need not prove again how its parts are dropped)
+// (with its own `Drop`, so that what drops one need not prove again how its parts are dropped)
 impl Drop for AuditState {
     fn drop(self) {
         let AuditState {

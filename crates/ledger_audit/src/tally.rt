@@ -74,8 +74,8 @@ impl Tallies {
         Ok(())
     }
 
-    /// Counts a frame as sent. A count that has no place in 32 bits, which no 16 logs reach, is answered as want of
-    /// memory.
+    /// Counts a frame as sent. A count that has no place in 32 bits, which no 16 logs reach, is answered as a failed
+    /// allocation.
     pub fn send(&mut self, key: CrossingKey) -> Result<(), NoMemory>
         ensures { OnOk result (Changes spec.one_sent (crossing_of key) self.old self.new) }
     {
@@ -87,7 +87,7 @@ impl Tallies {
     }
 
     /// Counts a frame as accepted, and answers its counts. A count that has no place in 32 bits, which no 16 logs reach, is
-    /// answered as want of memory.
+    /// answered as a failed allocation.
     pub fn accept(&mut self, key: CrossingKey) -> Result<SendCount, NoMemory>
         ensures tally { IfOk result
             (λ t. t ≡ spec.one_accepted (tally_in (crossing_of key) self.old)) }

@@ -6,7 +6,7 @@ use remote_calls::Purse;
 use std::alloc::Global;
 
 /// A message that comes: its number and its body, what it is to the receiver, how many are delivered then, and the number
-/// that the next ack tells.
+/// that the next ack says.
 struct Coming {
     seq: i64,
     body: &'static [u8],
@@ -54,7 +54,7 @@ fn is_number(args: &[Value], next: i64) -> bool {
     }
 }
 
-// Whether the ack that a purse pays tells this number.
+// Whether the ack that a purse pays says this number.
 fn tells(alloc: Global, receiver: &Receiver, purse: &mut Purse, next: i64) -> bool {
     receiver.delivered().len() < 1_000
         && match receiver.ack(alloc, purse, Host(1)) {

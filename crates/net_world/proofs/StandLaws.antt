@@ -106,7 +106,7 @@ pub if_ok : {T E : Type 0} (P Q : T → Type 0) (r : Result T E) → ((x : T) �
 if_ok P Q (Ok x) f h = f x h
 if_ok P Q (Err e) f h = h
 
--- bytes that are refused, and not for want of memory, have no lines
+-- bytes that are refused, and not for a failed allocation, have no lines
 pub none_forged : (host : Host) (fault : FrameFault) (read : Result PlainStamped FrameFault) (lines : List Line) → (fault ≡ Lacking) ⊎ (read ≡ Err fault) → (lines ≡ []) × (fault ≢ Lacking)
     → lines ≡ forged_lines host read
 none_forged host fault read lines (inl lacking) p = absurd (p.1 lacking)

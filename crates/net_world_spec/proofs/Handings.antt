@@ -1,4 +1,4 @@
--- What a history tells of handings agrees with the wire, and so what a family left is counted event by event; each run is in balance.
+-- What a history says of handings agrees with the wire, and so what a family left is counted event by event; each run is in balance.
 use Rattle.std.proofs.Common.{◌≡◌, ◌≢◌, ℕ, zero, suc, ◌+◌, ◌<◌, Bool, true, false, ◌||◌, cond, List, [], ◌∷◌, ◌++◌, length, refl, sym, ap, ◌∙◌, subst, arith}
 use Rattle.std.specs.Prelude.{map, slice_get, slice_set, nat_lt, ◌==◌, Option, Some, None, Result, Ok, Err, All}
 use Rattle.std.specs.List.{list_any}
@@ -43,7 +43,7 @@ use Rattle.net_world_spec.proofs.Balance.{stale_count, acts_left, event_balances
 use Rattle.net_world_spec.proofs.Fitting.{All-remove, wired_of, event_sound, event_version, rest_fits, run_sound}
 use Rattle.net_world_spec.proofs.Opening.{opening_version, opening_sound}
 
--- ---- what a history tells
+-- ---- what a history says
 
 pub past_after-append : (p : Past) (xs ys : List Entry) → past_after p (xs ++ ys) ≡ past_after (past_after p xs) ys
 unfolding past_after
@@ -56,7 +56,7 @@ module _ (f : Family) where
   left_from-append p [] ys = omega arith
   left_from-append p (x ∷ xs) ys = omega (arith, left_from-append (past_with p x.line) xs ys)
 
--- a line that tells nothing of handings
+-- a line that says nothing of handings
 abbrev IsPlain : Line → Type 0
 IsPlain l = (p : Past) → past_with p l ≡ p
 
@@ -79,7 +79,7 @@ plain_left f p n (l ∷ ls) a =
 
 -- ---- events
 
--- what an event's lines tell: what they leave by the wire is what they leave by the history, which agrees with the wire afterwards
+-- what an event's lines say: what they leave by the wire is what they leave by the history, which agrees with the wire afterwards
 record Tells (f : Family) (p : Past) (late : Bool) (h : EventResult) : Type 0 where
   left : (n : ℕ) → left_from f p (map (entry_at n) h.lines) ≡ line_sum (line_left f late) h.lines
   past : (n : ℕ) → PastAgrees (past_after p (map (entry_at n) h.lines)) h.world
@@ -117,7 +117,7 @@ plain_tells f p late lines new plain same a = record {
   past = λ n. subst (λ q. PastAgrees q new) (sym (plain_past p n lines plain)) a;
 }
 
--- a line that tells of a handing, and plain ones behind it
+-- a line of a handing, and plain ones behind it
 first_tells : (f : Family) (p : Past) (late : Bool) (l : Line) (lines : List Line) (new : WorldState) → All IsPlain lines → line_left f late l ≡ 0 → line_left f (past_with p l).late l ≡ 0 → (past_with p l).late ≡ late
     → PastAgrees (past_with p l) new → Tells f p late (record { lines = l ∷ lines; world = new })
 unfolding left_from past_after
@@ -150,7 +150,7 @@ module _ (f : Family) (p : Past) where
   unfolding steps
   plain_steps w h step z a = plain_place w h step (place_of w.nodes h) z a
 
-  -- bytes from outside: a packet is told before, and nothing else counts
+  -- bytes from outside: a packet is reported before, and nothing else counts
   raw_tells : (h : Host) (r : Result PlainStamped FrameFault) (node : NodeState) (d : Dev) (acts : List Act) (new : WorldState) → act_sum (act_stale f) acts ≡ bytes_stale f node d r → PastAgrees p new
       → Tells f p false (record { lines = forged_lines h r ++ lines_at h acts; world = new })
   raw_tells h (Err e) node d acts new z a = acts_tell f p false h acts new z a
@@ -394,7 +394,7 @@ opening_agrees : (t : Topology) → PastAgrees no_past (opening t)
 unfolding opening
 opening_agrees t = record { handed = All-nil (λ x. x.handed ≡ was_handed x.number no_past); below = All-nil (λ m. m < 1) }
 
--- what a run tells of handings agrees with the wire
+-- what a run says of handings agrees with the wire
 run_agrees : (f : Family) (es : List WorldEvent) (p : Past) (w : WorldState) → EventsFit w.version es → IsSound w → PastAgrees p w → PastAgrees (past_after p (history_of es w)) (world_after es w)
 unfolding history_of world_after past_after
 run_agrees f [] p w b s a = a

@@ -1,4 +1,4 @@
--- What stands around a visit is in order.
+-- The context of a visit is in order.
 use Rattle.std.specs.Prelude.{All}
 use Rattle.std.proofs.lemmas.List.Elements.{All-weaker}
 use Rattle.plan_base.specs.declared.tree.Packet.{Packet}

@@ -178,7 +178,7 @@ visit_is_led node p =
     (means.visited_chunk meaning p.chunk (begun_state allowance (around node p) p.family (begun_now node.services))).after
     (visit_led p.chunk (begun_state allowance (around node p) p.family (begun_now node.services)) refl)
 
--- so is what the settled visit sends: a handler changes no way, and what tells the source goes over the next hop to it
+-- so is what the settled visit sends: a handler changes no way, and what reports to the source goes over the next hop to it
 settled_is_led : (node : NodeState) (p : Packet) → All (IsLed node.here node.neighbours (all_routes (routing_of node))) (settled_at node p).visit.outbox
 settled_is_led node p =
     let P : Sent → Type 0 = IsLed node.here node.neighbours (all_routes (routing_of node)) in

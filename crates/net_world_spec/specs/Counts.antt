@@ -80,7 +80,7 @@ evals f = tally (line_evals f)
 
 -- what stands of handings so far: the numbers of the frames that were handed and stayed, and whether the last frame that was handed or
 -- lost was handed before. A handing is a frame's first where no line `again` of its number stands before it. What is stale or lost stands
--- behind the line `off` or `again` of its event, or behind its line `forged`, so it is told by that line.
+-- behind the line `off` or `again` of its event, or behind its line `forged`, so it is counted by that line.
 pub record Past : Type 0 where
   pub numbers : List ℕ
   pub late : Bool

@@ -16,7 +16,7 @@ IsKnown o = (c : ℕ) × (o ≡ Some c)
 abbrev pub NoneRises : List Routing → List Routing → Type 0
 NoneRises old new = (n x : Host) → NoRise (cost_at old n x) (cost_at new n x)
 
--- what a row tells is no less than what its sender knows now
+-- what a row gives is no less than what its sender knows now
 abbrev pub RowTrue : List Routing → Host → AdvertRow → Type 0
 RowTrue nodes m row = AtMost (cost_at nodes m row.host) row.cost
 

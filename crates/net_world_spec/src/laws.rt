@@ -1,4 +1,4 @@
-//! Laws of each run: balance, bounds, and what histories tell of the wire.
+//! Laws of each run: balance, bounds, and what histories say of the wire.
 ghost use Rattle.std.specs.Prelude.{◌≡◌, ℕ, List, length, All};
 ghost use Rattle.plan_base.specs.declared.ids.Family.{Family};
 ghost use Rattle.network_config.specs.Rules.{HostsDiffer, KeepsNetwork};
@@ -25,7 +25,7 @@ pub fn runs_balance()
         t.version es → Balanced f (history_of es (opening t)) (world_after es (opening t)) }
 {}
 
-/// What a history tells of handings agrees with the wire, so each event leaves what its lines leave by the wire.
+/// What a history says of handings agrees with the wire, so each event leaves what its lines leave by the wire.
 pub fn runs_tell_handings()
     ensures past { (t : Topology) (es : List WorldEvent) → KeepsNetwork t → EventsFit t.version es →
         PastAgrees (past_after no_past (history_of es (opening t))) (world_after es (opening t)) }
@@ -77,7 +77,7 @@ pub fn visits_end_well()
         EndsWell (event_visits w e) }
 {}
 
-/// What stands around each visit of a packet is in order: neighbours by device and routes by host, each once.
+/// The context of each visit of a packet is in order: neighbours by device and routes by host, each once.
 pub fn contexts_are_ordered()
     ensures { (w : WorldState) → IsSound w → All
         (λ node. (p : Packet) → IsOrdered (around node p)) w.nodes }

@@ -48,6 +48,6 @@ pub type LogEvents = Items<LogEvent>;
 pub enum LogEvent {
     /// An event that the node took.
     Step(Event),
-    /// An event that was refused for memory and changed nothing.
+    /// An event for which an allocation failed, so that it changed nothing.
     Lost,
 }

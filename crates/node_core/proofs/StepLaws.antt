@@ -104,7 +104,7 @@ module _ {S : Type 0} (stands : S → ServiceState) where
     time = t ∙ h.time;
   }
 
-  -- what stands around a visit at a node
+  -- the context of a visit at a node
   pub around_is : (n : Node S) (s : NodeState) (p : Packet) (ctx : Ctx) (links : List (Host × Dev)) (rows : List RouteRow) → NodeStands stands n s → ctx ≡ around_at n.here n.time p links rows
       → links ≡ n.neighbours → TellsAll n.routes rows → ctx ≡ around s p
   around_is n s p ctx links rows h e l r = e ∙ (λ i. around_at (h.here i) (h.time i) p ((l ∙ h.neighbours) i) (r (routing_of s) h.routes i))
@@ -201,7 +201,7 @@ module _ {S : Type 0} (stands : S → ServiceState) where
         node = subst (λ q. NodeStands stands new (with_seen (seen_then q d x.stamp) t)) e (k t h.node (ap (λ q. takes_as q d x.stamp) e ∙ f));
       }
 
-  -- what a device takes a frame as tells the step
+  -- what a device takes a frame as says the step
   pub stamped_so : (s : NodeState) (d : Dev) (x : PlainStamped) (t : Took) (acts : Acts) (new : Node S) → t ≡ takes_as s.seen d x.stamp
       → IsStep stands (stamped_as s d x t) acts new → IsStep stands (stamped_step s d x) acts new
   unfolding stamped_step
@@ -218,7 +218,7 @@ module _ {S : Type 0} (stands : S → ServiceState) where
   stale_result s d x t (Ok acts) old n q e l f = stamped_so s d x t acts old q (subst (λ step. IsStep stands step acts old) (sym e) (record { list = l; frame = f; node = n }))
   stale_result s d x t (Err k) old n q e l f = l
 
-  -- bytes that are no frame, or for which memory was refused
+  -- bytes that are no frame, or for which an allocation failed
   bad_result : (e : FrameFault) (first : Act) (step : NodeStep) (r : Result Acts NoMemory) (old : Node S) (s : NodeState) → NodeStands stands old s
       → (e ≡ faults.NoMemory) ⊎ (step ≡ only_acts first (Bad e) s) → (e ≡ faults.NoMemory → IsErr r)
       → IfOk r (λ acts. acts.list ≡ first ∷ Bad e ∷ []) → IfOk r (λ acts. acts.frame ≡ None) → IfOk r (λ acts. IsStep stands step acts old)
@@ -263,7 +263,7 @@ module _ {S : Type 0} (stands : S → ServiceState) (d : Dev) (new : Node S) (r 
       → IfOk r (λ acts. IsStep stands (arrive_step s d bytes) acts new) → IfOk r (λ acts. IsStep stands (stamped_step s d x) acts new)
   bytes_arrive bytes x s h m done = subst (λ (step : NodeStep). IfOk r (λ acts. IsStep stands step acts new)) (by_bytes bytes x s d h m) done
 
-  -- and so does what stands beside them
+  -- and so does what is cached with them
   pub frame_arrives : (x y : PlainStamped) (s : NodeState) → y.stamp ≡ x.stamp → y.frame ≡ x.frame
       → IfOk r (λ acts. IsStep stands (stamped_step s d y) acts new) → IfOk r (λ acts. IsStep stands (stamped_step s d x) acts new)
   frame_arrives x y s e f done =
@@ -289,7 +289,7 @@ pub none_named : (v : Version) (c : Chunk) (o : Option Name) → o ≡ None → 
 none_named One c o e = e
 none_named Two c o e = none_handles c o e
 
--- what stands beside the bytes of a frame may go on from a node that reads these
+-- what is cached with the bytes of a frame may go on from a node that reads these
 pub beside_goes_on : (v : Version) (boot : ℕ) (bytes : List ℕ) (x : PlainStamped) (y : PlainFrame) → AcceptsBy (version_of x.stamp) bytes x → v ≡ version_of x.stamp → y ≡ x.frame → MayGoOn (mark_of v boot) y
 beside_goes_on v boot bytes x y h e f = subst (MayGoOn (mark_of v boot)) (sym f) (goes_on v boot bytes x.stamp x.frame (subst (λ u. AcceptsBy u bytes x) (sym e) h))
 

@@ -57,7 +57,7 @@ abbrev pub own_packet : Host → ℕ → Chunk → ℕ → Option Name → Packe
 own_packet here serial chunk bound handler =
     record { family = own_family here serial; dest = here; bound = bound; route = default_route; chunk = chunk; handler = handler }
 
--- what stands around the visit of a packet at a node with these neighbours and routes
+-- the context of the visit of a packet at a node with these neighbours and routes
 abbrev pub around_at : Host → ℕ → Packet → List (Host × Dev) → List RouteRow → Ctx
 around_at here now p neighbours router = record { here = here; source = p.family.source; purse = p.bound; now = now; neighbours = neighbours; router = router }
 

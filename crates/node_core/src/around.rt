@@ -1,4 +1,4 @@
-//! What stands around a visit, and the node's time.
+//! The context of a visit, and the node's time.
 ghost use Rattle.std.specs.Prelude.{◌≡◌, ◌≤◌, length};
 ghost use Rattle.node_core_spec.specs.Node as spec;
 ghost use Rattle.node_core.specs.Stands.{around_at};
@@ -7,7 +7,7 @@ use checked_chunks::CheckedPacket;
 use plan_base::Host;
 use service_api::{Ctx, Neighbours, Router};
 
-/// What stands around the visit of a packet, with the neighbours and the routes of its node. Condition: at most 8 neighbours.
+/// The context of the visit of a packet, with the neighbours and the routes of its node. Condition: at most 8 neighbours.
 pub(crate) fn around(
     here: Host,
     now: u64,

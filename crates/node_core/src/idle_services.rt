@@ -284,7 +284,7 @@ fn close<S: Services>(services: &mut S, is_spent: bool)
     }
 }
 
-/// The visit of a packet, after some acts: its acts, with its sends queued. Where memory is refused, the
+/// The visit of a packet, after some acts: its acts, with its sends queued. Where an allocation fails, the
 /// lanes and the services stay.
 #[tactic(auto, unfolding(node_core_spec::specs::Node::visit_acts), using(crate::proofs::TurnLaws::undone, crate::proofs::TurnLaws::rests_closed, crate::proofs::TurnLaws::rests_abandoned))]
 fn visit_turn<S: Services>(
@@ -336,7 +336,7 @@ impl<S: Services> QuiescentServices<S> {
         QuiescentServices { services }
     }
 
-    /// The visit of a packet, after some acts: its acts, with its sends queued. Where memory is refused, the
+    /// The visit of a packet, after some acts: its acts, with its sends queued. Where an allocation fails, the
     /// lanes and the services stay.
     pub fn turn(
         &mut self,

@@ -600,7 +600,7 @@ impl<S: Services> Node<S> {
         }
     }
 
-    /// The step of a frame that arrives over a device from a node of the same version: as it stands beside its bytes, and by these
+    /// The step of a frame that arrives over a device from a node of the same version: as it is cached with its bytes, and by these
     /// where it doesn't.
     pub fn arrive_spelled(
         &mut self,
@@ -768,7 +768,7 @@ impl<S: Services> Node<S> {
     }
 
     /// One step, as the definition has it for each state that the node stands for: in balance for each family, and
-    /// keeping what every node keeps. Where memory is refused, the node stays. Conditions: an injected bound is at most 65,535 and
+    /// keeping what every node keeps. Where an allocation fails, the node stays. Conditions: an injected bound is at most 65,535 and
     /// its handler none under version 1, and one that may handle or none under version 2; a device is at most 8.
     pub fn step(&mut self, alloc: Global, event: &Event) -> Result<Acts, NoMemory>
         requires { comes_within (version_of self.old) event.now }

@@ -65,7 +65,7 @@ pub(crate) fn only_acts(room: Vec<Act>, first: Act, second: Act) -> Acts
     }
 }
 
-/// What a step gives where the bytes that arrived are no frame, unless memory was refused.
+/// What a step gives where the bytes that arrived are no frame, unless an allocation failed.
 pub(crate) fn arrived_bad(alloc: Global, dev: Dev, fault: FrameFault) -> Result<Acts, NoMemory>
     ensures list { IfOk result (λ acts. acts.list ≡ act.Arrived dev ∷ act.Bad fault ∷ []) }
     ensures frame { IfOk result (λ acts. acts.frame ≡ None) }
@@ -80,7 +80,7 @@ pub(crate) fn arrived_bad(alloc: Global, dev: Dev, fault: FrameFault) -> Result<
     }
 }
 
-/// What a step gives where the bytes of the owner are no frame, unless memory was refused.
+/// What a step gives where the bytes of the owner are no frame, unless an allocation failed.
 pub(crate) fn asked_bad(alloc: Global, fault: FrameFault) -> Result<Acts, NoMemory>
     ensures list { IfOk result (λ acts. acts.list ≡ act.Asked ∷ act.Bad fault ∷ []) }
     ensures frame { IfOk result (λ acts. acts.frame ≡ None) }

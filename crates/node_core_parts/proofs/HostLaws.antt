@@ -28,12 +28,12 @@ opened_heard t here hosts sorted links small n e numbers s = record {
   hosts = sorted_fit hosts n (subst HostsSmall e numbers);
 }
 
--- what is told of a table that is heard fits
+-- what is advertised of a table that is heard fits
 pub advert_keeps : (t : Table) (r : Result Advert NoMemory) → IsHeard t → ((g : Routing) → Stands g t → IfOk r (λ a. a ≡ own_advert g)) → IfOk r AdvertFits
 advert_keeps t (Ok a) k h = subst AdvertFits (sym (h k.routing k.stands)) (advert_fits k.routing k.here k.hosts.numbers k.hosts.few k.hosts.ascend)
 advert_keeps t (Err e) k h = h k.routing k.stands
 
--- the routes that a table tells are those of all that it may have heard
+-- the routes that a table gives are those of all that it may have heard
 pub told_all : (t : Table) (r : Result (List RouteRow) NoMemory) → ((g : Routing) → Stands g t → IfOk r (λ rows. rows ≡ all_routes g)) → IfOk r (TellsAll t)
 told_all t (Ok rows) h = h
 told_all t (Err e) h = tt

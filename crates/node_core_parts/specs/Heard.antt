@@ -13,10 +13,10 @@ pub record IsHeard (t : Table) : Type 0 where
   pub here : routing.here.0 < 2 ^ 32
   pub hosts : HostsFit routing.hosts
 
--- these are the routes that a table tells, whatever it heard
+-- these are the routes that a table gives, whatever it heard
 abbrev pub TellsAll : Table → List RouteRow → Type 0
 TellsAll t rows = (r : Routing) → Stands r t → rows ≡ all_routes r
 
--- the routes that are kept beside a table, if there are any, are those that it tells
+-- the routes that are kept beside a table, if there are any, are those that it gives
 abbrev pub IsKept : Table → Option (List RouteRow) → Type 0
 IsKept t rows = IfSome rows (TellsAll t)

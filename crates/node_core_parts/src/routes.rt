@@ -43,7 +43,7 @@ fn number_of(host: Host) -> u32
     host.0
 }
 
-/// The routes that are kept beside a table, or else those that it tells.
+/// The routes that are kept beside a table, or else those that it gives.
 #[tactic(auto, using(crate::proofs::HostLaws::told_all))]
 fn rows_or(alloc: Global, kept: Option<Router>, table: &Table) -> Result<Router, NoMemory>
     requires { IsKept table.now kept }
@@ -106,7 +106,7 @@ impl Routes {
         self.table.router_to(alloc, host)
     }
 
-    /// What the node tells its neighbours.
+    /// What the node advertises to its neighbours.
     pub fn advert(&self, alloc: Global) -> Result<Advert, NoMemory>
         ensures is { (r : Routing) → Stands r self.now → IfOk result (λ a. a ≡ own_advert r) }
         ensures fits { IfOk result AdvertFits }

@@ -1,4 +1,4 @@
-//! The windows of a node, which tell stale frames from fresh ones.
+//! The windows of a node, which distinguish stale frames from fresh ones.
 ghost use Rattle.std.specs.Prelude.{◌≡◌, List, IfOk, slice_get};
 ghost use Rattle.replay_window.specs.Seen.{Seen};
 ghost use Rattle.replay_window.specs.declared.window.Took.TheVariants.{Fresh as FreshOne};

@@ -1,4 +1,4 @@
--- What stands around a visit is in order, and devices in order are few.
+-- The context of a visit is in order, and devices in order are few.
 use Rattle.std.proofs.Common.{ℕ, ◌+◌, ◌≤◌, ◌<◌, List, [], ◌∷◌, length, Option, None, Some, arith}
 use Rattle.std.specs.Prelude.{All, map}
 use Rattle.std.proofs.lemmas.List.Elements.{All-head, All-tail, All-weaker}

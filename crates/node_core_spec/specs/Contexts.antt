@@ -1,4 +1,4 @@
--- What stands around a visit is in order.
+-- The context of a visit is in order.
 use Rattle.std.specs.Prelude.{ℕ, IsTrue, Option, Some, None, List, [], ◌∷◌}
 use Rattle.service_api.specs.declared.ctx.Ctx.{Ctx}
 use Rattle.service_api.specs.declared.router.RouteRow.{RouteRow}

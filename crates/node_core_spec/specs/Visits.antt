@@ -40,7 +40,7 @@ services_end begun (stopped _ s) = abandoned_services begun
 unfoldable pub services_after : Ctx → ServiceState → Packet → ServiceState
 services_after ctx services p = services_end services (evaluated_packet ctx services p)
 
--- what stands around the visit of a packet at a node: the packet's bound is the purse
+-- the context of the visit of a packet at a node: the packet's bound is the purse
 abbrev pub around : NodeState → Packet → Ctx
 around node p =
     record {

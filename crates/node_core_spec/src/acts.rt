@@ -37,7 +37,7 @@ pub enum Act {
     Noted(Note),
     /// A visit of a packet of this family ended so, with these evals paid and this rest of the purse.
     Ended(Family, Outcome, u32, u32),
-    /// Its source is told of that visit by a call of this handler, with this bound.
+    /// That visit is reported to its source by a call of this handler, with this bound.
     Handled(Family, Name, u32),
     /// A packet of this family was queued on this device with this bound.
     Queued(Dev, Family, u32),

@@ -48,7 +48,7 @@ pub fn step_keeps()
         (node_step node e).node }
 {}
 
-/// What stands around a visit at a node is in order: its neighbours by device, and its routes by host.
+/// The context of a visit at a node is in order: its neighbours by device, and its routes by host.
 pub fn contexts_are_ordered()
     ensures { (node : NodeState) (p : Packet) → NodeFits node → IsOrdered (around node p) }
 {}

@@ -320,10 +320,10 @@ pub fn read_ask(alloc: Global, bytes: &[u8]) -> Result<AskFile, LineFault>
     requires { length bytes.now ≤ 4194304 }
     // What is answered is what the file says.
     ensures found { IfOk result (λ a. ask_of bytes.now ≡ Ok a) }
-    // A file that says a request is answered so, unless memory is refused.
+    // A file that says a request is answered so, unless an allocation fails.
     ensures only { (a : Request) → ask_of bytes.now ≡ Ok a → MatchResult result (λ b. b ≡ a)
         (λ e. e ≡ LineFault.NoMemory) }
-    // A refusal is the file's first one, unless memory is refused.
+    // A refusal is the file's first one, unless an allocation fails.
     ensures fault { IfErr result (λ e. (e ≡ LineFault.NoMemory) ⊎ (ask_of bytes.now ≡ Err e)) }
     // A request keeps the rules.
     ensures rules { IfOk result KeepsAsk }

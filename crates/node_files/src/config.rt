@@ -547,10 +547,10 @@ pub fn read_config(alloc: Global, bytes: &[u8]) -> Result<ServeConfig, LineFault
     requires { length bytes.now ≤ 4194304 }
     // What is answered is what the file says.
     ensures found { IfOk result (λ c. config_of bytes.now ≡ Ok c) }
-    // A file that says a configuration is answered so, unless memory is refused.
+    // A file that says a configuration is answered so, unless an allocation fails.
     ensures only { (c : Serving) → config_of bytes.now ≡ Ok c → MatchResult result (λ d. d ≡ c)
         (λ e. e ≡ LineFault.NoMemory) }
-    // A refusal is the file's first one, unless memory is refused.
+    // A refusal is the file's first one, unless an allocation fails.
     ensures fault { IfErr result (λ e. (e ≡ LineFault.NoMemory) ⊎ (config_of bytes.now ≡ Err e)) }
     // A configuration keeps the rules.
     ensures rules { IfOk result KeepsServe }

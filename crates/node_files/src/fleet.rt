@@ -171,10 +171,10 @@ pub fn read_fleet(alloc: Global, bytes: &[u8]) -> Result<Fleet, LineFault>
     requires { length bytes.now ≤ 4194304 }
     // What is answered is what the file says.
     ensures found { IfOk result (λ f. fleet_of bytes.now ≡ Ok f) }
-    // A file that says a fleet is answered so, unless memory is refused.
+    // A file that says a fleet is answered so, unless an allocation fails.
     ensures only { (f : Children) → fleet_of bytes.now ≡ Ok f → MatchResult result (λ g. g ≡ f)
         (λ e. e ≡ LineFault.NoMemory) }
-    // A refusal is the file's first one, unless memory is refused.
+    // A refusal is the file's first one, unless an allocation fails.
     ensures fault { IfErr result (λ e. (e ≡ LineFault.NoMemory) ⊎ (fleet_of bytes.now ≡ Err e)) }
     // A fleet keeps the rules.
     ensures rules { IfOk result KeepsFleet }

@@ -511,10 +511,10 @@ pub fn read_log(alloc: Global, bytes: &[u8]) -> Result<Log, LineFault>
     requires { length bytes.now ≤ 4194304 }
     // What is answered is what the file says.
     ensures found { IfOk result (λ l. log_of bytes.now ≡ Ok l) }
-    // A file that says a log is answered so, unless memory is refused.
+    // A file that says a log is answered so, unless an allocation fails.
     ensures only { (l : Logged) → log_of bytes.now ≡ Ok l → MatchResult result (λ k. k ≡ l)
         (λ e. e ≡ LineFault.NoMemory) }
-    // A refusal is the file's first one, unless memory is refused.
+    // A refusal is the file's first one, unless an allocation fails.
     ensures fault { IfErr result (λ e. (e ≡ LineFault.NoMemory) ⊎ (log_of bytes.now ≡ Err e)) }
     // A log keeps the rules.
     ensures rules { IfOk result KeepsLog }

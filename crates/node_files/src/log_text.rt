@@ -166,7 +166,7 @@ pub fn put_log_line(alloc: Global, event: &Event, out: &mut Bytes) -> Result<(),
     ensures line { OnOk result (out.new ≡ out.old ++ entry_text (Entry.Step event.now)) }
     // What the line says can be read again.
     ensures again { OnOk result (IsSpellable (Entry.Step event.now)) }
-    // Where memory is refused, nothing is appended.
+    // Where an allocation fails, nothing is appended.
     ensures stays { OnErr result (out.new ≡ out.old) }
 {
     let mut line = Bytes::new(alloc);
@@ -175,10 +175,10 @@ pub fn put_log_line(alloc: Global, event: &Event, out: &mut Bytes) -> Result<(),
     Ok(())
 }
 
-/// Appends the line of an event that was refused for memory.
+/// Appends the line of an event for which an allocation failed.
 pub fn put_lost_line(out: &mut Bytes) -> Result<(), NoMemory>
     ensures line { OnOk result (out.new ≡ out.old ++ entry_text Entry.Lost) }
-    // Where memory is refused, nothing is appended.
+    // Where an allocation fails, nothing is appended.
     ensures stays { OnErr result (out.new ≡ out.old) }
 {
     out.add_all(b"lost\n")?;
@@ -329,7 +329,7 @@ pub fn put_log_head(
     out: &mut Bytes,
 ) -> Result<(), NoMemory>
     ensures lines { OnOk result (out.new ≡ out.old ++ spec.head_text node.now missing.now) }
-    // Where memory is refused, nothing is appended.
+    // Where an allocation fails, nothing is appended.
     ensures stays { OnErr result (out.new ≡ out.old) }
 {
     let mut lines = Bytes::new(alloc);

@@ -1,4 +1,4 @@
--- When a call of the outside may fail: a count of faults rises in it.
+-- When a call of the environment may fail: a count of faults rises in it.
 use Rattle.std.specs.Prelude.{ℕ, List, ◌+◌, ◌-◌, ◌^◌, ◌≤◌, ◌==◌, min, IsTrue}
 use Rattle.std.specs.List.{list_any}
 

@@ -1,4 +1,4 @@
--- Peers of a link, what a link answers, and what it tells of its frames.
+-- Peers of a link, what a link answers, and what it reports of its frames.
 use Rattle.std.specs.Prelude.{ℕ, Bool, not, ◌||◌, if◌then◌else◌, List, [], ◌∷◌, ◌++◌, drop, take, length, ◌≡◌, ◌⊎◌, ◌<◌, ◌≤◌, ◌==◌, IsTrue}
 use Rattle.std.specs.Prelude.{Option, Some, None, Result, Ok, Err}
 use Rattle.std.specs.List.{list_any}

@@ -46,7 +46,7 @@ IsDuePush s = IsDue s.fails (one_more s.calls)
 abbrev pub IsFull : MemSink → List ℕ → Type 0
 IsFull s piece = (s.room ≡ Some 0) × (0 < length piece)
 
--- a growth of the sink was refused for memory
+-- a growth of the sink was that found no memory
 abbrev pub LacksRoom : MemSink → MemSink → Type 0
 LacksRoom old new = HasRisen old.refused new.refused
 
@@ -58,7 +58,7 @@ CountsPush old new = (new.calls ≡ one_more old.calls) × (new.fails ≡ old.fa
 abbrev pub IsDueCall : MemFiles → Type 0
 IsDueCall f = IsDue f.fails (one_more f.calls)
 
--- a growth of the files was refused for memory
+-- a growth of the files was that found no memory
 abbrev pub LacksMemory : MemFiles → MemFiles → Type 0
 LacksMemory old new = HasRisen old.refused new.refused
 
@@ -70,7 +70,7 @@ CountsCall old new = (new.calls ≡ one_more old.calls) × (new.fails ≡ old.fa
 abbrev pub IsDueAtLink : MemLink → Type 0
 IsDueAtLink l = IsDue l.fails (one_more l.calls)
 
--- a growth of the link was refused for memory
+-- a growth of the link was that found no memory
 abbrev pub LinkLacksMemory : MemLink → MemLink → Type 0
 LinkLacksMemory old new = HasRisen old.refused new.refused
 
@@ -82,7 +82,7 @@ CountsAtLink old new = (new.calls ≡ one_more old.calls) × (new.fails ≡ old.
 abbrev pub IsDueAtSpawner : MemSpawner → Type 0
 IsDueAtSpawner s = IsDue s.fails (one_more s.calls)
 
--- a growth of the spawner was refused for memory
+-- a growth of the spawner was that found no memory
 abbrev pub SpawnerLacksMemory : MemSpawner → MemSpawner → Type 0
 SpawnerLacksMemory old new = HasRisen old.refused new.refused
 

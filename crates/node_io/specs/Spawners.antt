@@ -31,7 +31,7 @@ pub record KeepsStatuses (old new : SpawnerState) : Type 0 where
   pub statuses : new.statuses ≡ old.statuses
   pub later : old.faults ≤ new.faults
 
--- a new child is open, with the next number, or the spawner failed; the words stand among the starts, but where memory was refused
+-- a new child is open, with the next number, or the spawner failed; the words stand among the starts, but where an allocation failed
 abbrev pub StartResult : {E : Type 0} → Words → SpawnerState → SpawnerState → Result Child E → Type 0
 StartResult words old new (Ok child) = (new.children ≡ old.children ++ child ∷ []) × IsFresh old.children child × Contains new.children child
     × (IsTrue old.observable → (new.starts ≡ old.starts ++ words ∷ []) × (child.0 ≡ old.started) × (new.started ≡ old.started + 1))

@@ -1,4 +1,4 @@
-//! What tells the time, and a clock in memory.
+//! What gives the time, and a clock in memory.
 ghost use Rattle.std.specs.Prelude.{◌≡◌, true, drop, get_or, IfOk};
 ghost use Rattle.node_io.specs.Clocks.{ClockState, Tells};
 
@@ -9,7 +9,7 @@ use std::alloc::Global;
 /// The answers of a clock in memory, in milliseconds.
 pub type Moments = Items<u64>;
 
-/// What tells the time.
+/// What gives the time.
 pub trait Clock {
     ghost state: { Self → ClockState };
 

@@ -57,7 +57,7 @@ impl FileList {
         &self.all[i]
     }
 
-    /// Adds a file at the end. Where memory is refused, the file is dropped and the list stays.
+    /// Adds a file at the end. Where an allocation fails, the file is dropped and the list stays.
     pub fn add(&mut self, file: (Text, Bytes)) -> Result<(), NoMemory>
         ensures ok { OnOk result (self.new ≡ self.old ++ file ∷ []) }
         ensures err { OnErr result (self.new ≡ self.old) }
@@ -80,7 +80,7 @@ impl FileList {
         Some(&self.all[i].1)
     }
 
-    /// Makes the file `name` empty, and adds it where it is missing. Where memory is refused, the
+    /// Makes the file `name` empty, and adds it where it is missing. Where an allocation fails, the
     /// files stay.
     pub(crate) fn clear(&mut self, alloc: Global, name: &[u8]) -> Result<(), NoMemory>
         ensures ok { OnOk result (ChangesOnly self.old self.new name.now []) }
@@ -98,8 +98,8 @@ impl FileList {
         Ok(())
     }
 
-    /// Adds `piece` at the end of the file `name`, which is begun where it is missing. Where memory
-    /// is refused, the files stay.
+    /// Adds `piece` at the end of the file `name`, which is begun where it is missing. Where an
+    /// allocation fails, the files stay.
     pub(crate) fn extend(
         &mut self,
         alloc: Global,

@@ -1,5 +1,5 @@
 //! The outside of a node: files, sinks, links, clocks and child processes as traits, their forms in
-//! memory, which tell what they hold, and adapters over the real files and outputs, which don't.
+//! memory, which report what they hold, and adapters over the real files and outputs, which don't.
 //!
 //! Every call that can fail answers [`Failed`] only where a count of faults rose in it.
 #![tactic(auto)]

@@ -12,7 +12,7 @@ use crate::text::{add_name, text_of};
 use plan_base::{NoMemory, Text, Texts};
 use std::alloc::Global;
 
-/// Files in memory, which tell what they hold and which names were asked for and made.
+/// Files in memory, which report what they hold and which names were asked for and made.
 #[derive(Drop)]
 pub struct MemFiles {
     alloc: Global,
@@ -20,7 +20,7 @@ pub struct MemFiles {
     asked: Texts,
     made: Texts,
     fails: Calls,
-    // the calls so far, the growths refused for memory, and the faults
+    // the calls so far, the growths that found no memory, and the faults
     calls: u64,
     refused: u64,
     read_faults: u64,

@@ -21,7 +21,7 @@ pub struct MemLink {
     binds: Items<(u16, Peers)>,
     peers: Peers,
     fails: Calls,
-    // the calls so far, the growths refused for memory, and the faults
+    // the calls so far, the growths that found no memory, and the faults
     calls: u64,
     refused: u64,
     faults: u64,

@@ -13,7 +13,7 @@ use std::alloc::Global;
 pub struct MemSink {
     taken: Bytes,
     fails: Calls,
-    // the pushes so far, the growths refused for memory, and the faults
+    // the pushes so far, the growths that found no memory, and the faults
     calls: u64,
     refused: u64,
     faults: u64,

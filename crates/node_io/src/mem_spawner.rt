@@ -20,7 +20,7 @@ pub struct MemSpawner {
     starts: Items<Texts>,
     children: Children,
     fails: Calls,
-    // the calls so far, the growths refused for memory, and the faults
+    // the calls so far, the growths that found no memory, and the faults
     calls: u64,
     refused: u64,
     faults: u64,

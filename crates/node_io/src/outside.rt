@@ -5,7 +5,7 @@ ghost use Rattle.node_io.specs.FileStates.{FilesState, BeginsReading, Pulls, Beg
 
 use containers::Items;
 
-/// The answer of a call of the outside that failed. A count of faults rose in that call.
+/// The answer of a call of the environment that failed. A count of faults rose in that call.
 #[derive(Clone, Copy, PartialEq, Eq)]
 pub struct Failed;
 

@@ -19,7 +19,7 @@ pub(crate) fn is_text(text: &Text, bytes: &[u8]) -> bool
     text.as_slice() == bytes
 }
 
-/// Adds `name` at the end of `names`. Where memory is refused, the names stay.
+/// Adds `name` at the end of `names`. Where an allocation fails, the names stay.
 pub(crate) fn add_name(alloc: Global, names: &mut Texts, name: &[u8]) -> Result<(), NoMemory>
     ensures ok { OnOk result (names.new ≡ names.old ++ name.now ∷ []) }
     ensures err { OnErr result (names.new ≡ names.old) }

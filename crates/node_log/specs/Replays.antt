@@ -4,7 +4,7 @@ use Rattle.node_io.specs.Sinks.{SinkState, Writes, WritesPrefix, FailsIn}
 use Rattle.node_log.specs.declared.fault.ReplayFault.{ReplayFault}
 use Rattle.node_log.specs.declared.fault.ReplayFault.TheVariants.{WriteFault, NoMemory}
 
--- a prefix of this text was written, and then the output failed or memory was refused
+-- a prefix of this text was written, and then the output failed or an allocation failed
 abbrev pub Stops : ReplayFault → List ℕ → SinkState → SinkState → Type 0
 Stops WriteFault text old new = FailsIn old new text
 Stops NoMemory text old new = WritesPrefix old new text

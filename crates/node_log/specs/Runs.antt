@@ -85,7 +85,7 @@ with_sent d x r = record r { sent = r.sent ++ (d, stamped_bytes x) ∷ [] }
 
 -- ---- what a run does
 
--- what is done, by the numbers of the steps that are refused for memory
+-- what is done, by the numbers of the steps for which an allocation failed
 abbrev pub Action : Type 0
 Action = List ℕ → Running → Running
 

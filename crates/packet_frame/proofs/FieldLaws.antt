@@ -98,7 +98,7 @@ bound_kept = record {
   goes = λ more f. one_step frame_step a_bound more f (λ _. more) (bound_at f) refl;
 }
 
--- a part of a spelling, with its faults told as those of the frame
+-- a part of a spelling, with its faults reported as those of the frame
 part_takes : {A : Type 0} (p : Part A) → Lawful p → ((x : A) → p.nodes x ≡ 0) → (f g : Scan) (x : A) → IsBytes f.front.rest → f.nodes ≤ 4096 → told_fault of_spelling (p.read f) ≡ Ok (x, g)
     → Took f (p.bytes x) 0 g × p.Fits x
 part_takes p l none f g x h k e =

@@ -31,7 +31,7 @@ is_spelled v bytes x w h o e =
       holds = e ∙ ap (λ y. what_of y.frame) (sym r);
     }
 
--- what stands beside a frame stands beside what its bytes spell
+-- what is cached with a frame is cached with what its bytes spell
 pub is_beside : (v : Version) (bytes : List ℕ) (x : PlainStamped) (stamp : Option Stamp) (frame : Option Frame) → frame_in v bytes ≡ x → stamp ≡ x.stamp → IsFrame x.frame frame → IsBeside (frame_in v bytes) stamp frame
 is_beside v bytes x stamp frame e s h = (s ∙ sym (ap (λ y. y.stamp) e), subst (λ y. IsFrame y.frame frame) (sym e) h)
 
@@ -115,6 +115,6 @@ version_is Two bytes w h = by_stamp (frame_in Two bytes).stamp (two_bears bytes 
     by_stamp None e = cc
     by_stamp (Some s) e = refl
 
--- the bytes are accepted in the version that the stamp tells
+-- the bytes are accepted in the version that the stamp gives
 pub accepted_as : (v : Version) (bytes : List ℕ) (w : What) → IsSpelled v bytes w → AcceptsBy (version_of (frame_in v bytes).stamp) bytes (frame_in v bytes)
 accepted_as v bytes w h = subst (λ u. AcceptsBy u bytes (frame_in v bytes)) (version_is v bytes w h) h.accepted

@@ -48,7 +48,7 @@ abbrev pub IsFrame : PlainFrame → Option Frame → Type 0
 IsFrame x None = Unit {0}
 IsFrame x (Some y) = plain_of y ≡ x
 
--- the stamp and the frame that stand beside bytes are those of the frame that they spell
+-- the stamp and the frame that are cached with bytes are those of the frame that they spell
 abbrev pub IsBeside : PlainStamped → Option Stamp → Option Frame → Type 0
 IsBeside x stamp frame = (stamp ≡ x.stamp) × IsFrame x.frame frame
 

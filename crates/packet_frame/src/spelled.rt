@@ -32,7 +32,7 @@ pub enum What {
     Advert,
 }
 
-/// What stands beside the bytes of a frame, so that they need not be read again: how they are read, what they hold, and
+/// What is cached with the bytes of a frame, so that they need not be read again: how they are read, what they hold, and
 /// where they are few, the frame itself.
 struct Beside {
     version: Version,
@@ -41,7 +41,7 @@ struct Beside {
     frame: Option<Frame>,
 }
 
-// (with a drop of its own, as the frame below, so that what lets one go need not prove again how a packet is dropped)
+// (with its own `Drop`, as the frame below, so that what drops one need not prove again how a packet is dropped)
 impl Drop for Beside {
     fn drop(self) {
         let Beside {
@@ -54,7 +54,7 @@ impl Drop for Beside {
 }
 
 /// A packet with a typed chunk or an advert, kept as the bytes of its frame, which contracts see as that frame with its
-/// stamp. What stands beside them is boxed, since a queue has room for many frames and holds few.
+/// stamp. What is cached with them is boxed, since a queue has room for many frames and holds few.
 pub struct EncodedFrame {
     bytes: Bytes,
     beside: Box<Beside>,
@@ -178,7 +178,7 @@ fn packet_beside(packet: CheckedPacket, bound: u32, bytes: &Bytes) -> Option<Fra
     Some(Frame::Packet(packet.with_bound(bound)))
 }
 
-/// What stands beside bytes, in a box.
+/// What is cached with bytes, in a box.
 fn boxed(alloc: Global, beside: Beside) -> Result<Box<Beside>, NoMemory>
     ensures { IfOk result (λ b. b.value ≡ beside) }
 {
@@ -283,7 +283,7 @@ impl EncodedFrame {
         self.beside.stamp
     }
 
-    /// The frame itself, where it stands beside its bytes and they are read by this version. Takes no memory.
+    /// The frame itself, where it is cached with its bytes and they are read by this version. Takes no memory.
     #[tactic(auto, using(crate::proofs::Reading::version_is))]
     pub fn frame(&self, version: Version) -> Option<&Frame>
         ensures frame { IfSome result (λ x. plain_of x.now ≡ self.now.frame) }
@@ -344,7 +344,7 @@ impl EncodedFrame {
     }
 }
 
-/// What stands beside bytes, for those with this number.
+/// What is cached with bytes, for those with this number.
 fn beside_numbered(beside: Box<Beside>, link: u64) -> Box<Beside>
     ensures { result.value
         ≡ record beside.value { stamp = spec.stamp_with link beside.value.stamp } }

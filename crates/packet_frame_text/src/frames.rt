@@ -152,8 +152,8 @@ fn put_frame(alloc: Global, x: &Stamped, out: &mut Bytes) -> Result<(), NoMemory
 }
 
 /// Appends what a frame says: a packet or an ask with the call of its chunk and the printed program, an advert with its
-/// rows, and at the end of the first line its stamp, if it bears one, and its handler, if it has one. Where memory is
-/// refused, `out` stays.
+/// rows, and at the end of the first line its stamp, if it bears one, and its handler, if it has one. Where an allocation
+/// fails, `out` stays.
 pub fn print_frame(alloc: Global, x: &Stamped, out: &mut Bytes) -> Result<(), NoMemory>
     ensures whole { OnOk result (out.new ≡ out.old ++ frame_text (stamped_plain x.now)) }
     ensures stays { OnErr result (out.new ≡ out.old) }

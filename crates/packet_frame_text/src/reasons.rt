@@ -58,7 +58,7 @@ fn reason_of(alloc: Global, fault: &FrameFault) -> Result<String, AllocError>
     }
 }
 
-/// Appends why bytes are no frame, as a note says it. Where memory is refused, `out` stays.
+/// Appends why bytes are no frame, as a note says it. Where an allocation fails, `out` stays.
 pub fn put_reason(alloc: Global, fault: &FrameFault, out: &mut Bytes) -> Result<(), NoMemory>
     ensures whole { OnOk result (out.new ≡ out.old ++ reason_text fault.now) }
     ensures stays { OnErr result (out.new ≡ out.old) }

@@ -42,7 +42,7 @@ well_formed_text s = is_utf8 s && nat_le (length s) 65535
 abbrev pub names_all_but_last : {Y : Type 0} → (Y → Bool) → List Y → Bool
 names_all_but_last named cs = list_all named (take (length cs - 1) cs)
 
--- the counts and forms of one level; `named` tells whether a clause has a name
+-- the counts and forms of one level; `named` says whether a clause has a name
 abbrev pub formed_expr_level : {X Y : Type 0} → (X → Bool) → (Y → Bool) → (Y → Bool) → Expr-F X Y → Bool
 formed_expr_level formed named clause (Expr-F.Char c) = scalar c
 formed_expr_level formed named clause (Expr-F.Str s) = well_formed_text s

@@ -10,7 +10,7 @@ pub struct Bytes {
     all: Vec<u8>,
 }
 
-// (with a drop of its own, so that what lets bytes go need not prove again how they are dropped)
+// (with its own `Drop`, so that what drops bytes need not prove again how they are dropped)
 impl Drop for Bytes {
     fn drop(self) {
         let Bytes { all: _all } = self;
@@ -83,7 +83,7 @@ impl Bytes {
         Ok(Bytes { all })
     }
 
-    /// Adds `byte` at the end. Where memory is refused, the bytes stay.
+    /// Adds `byte` at the end. Where an allocation fails, the bytes stay.
     pub fn add(&mut self, byte: u8) -> Result<(), AllocError>
         ensures ok { OnOk result (self.new ≡ self.old ++ byte ∷ []) }
         ensures err { OnErr result (self.new ≡ self.old) }
@@ -92,7 +92,7 @@ impl Bytes {
         Ok(())
     }
 
-    /// Adds `more` at the end. Where memory is refused, the bytes stay.
+    /// Adds `more` at the end. Where an allocation fails, the bytes stay.
     pub fn add_all(&mut self, more: &[u8]) -> Result<(), AllocError>
         ensures ok { OnOk result (self.new ≡ self.old ++ more.now) }
         ensures err { OnErr result (self.new ≡ self.old) }

@@ -3,7 +3,7 @@ ghost use Rattle.std.specs.Prelude.{◌≡◌};
 
 use std::alloc::AllocError;
 
-/// The answer of a call whose growth was refused for memory.
+/// The answer of a call for which an allocation failed.
 #[derive(Clone, Copy, PartialEq, Eq)]
 pub struct NoMemory;
 

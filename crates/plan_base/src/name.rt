@@ -19,7 +19,7 @@ pub struct Name {
     bytes: Shared<InlineBytes<32>>,
 }
 
-// (with a drop of its own, so that what lets a name go need not prove again how its bytes are dropped)
+// (with its own `Drop`, so that what drops a name need not prove again how its bytes are dropped)
 impl Drop for Name {
     fn drop(self) {
         let Name { bytes: _bytes } = self;

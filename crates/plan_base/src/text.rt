@@ -24,7 +24,7 @@ pub struct Text {
     alloc: Global,
 }
 
-// (with a drop of its own, so that what lets a text go need not prove again how its bytes are dropped)
+// (with its own `Drop`, so that what drops a text need not prove again how its bytes are dropped)
 impl Drop for Text {
     fn drop(self) {
         let Text {
@@ -127,7 +127,7 @@ impl Text {
         Ok(Text { held, alloc })
     }
 
-    /// Adds `byte` at the end. Where memory is refused, the bytes stay.
+    /// Adds `byte` at the end. Where an allocation fails, the bytes stay.
     pub fn add(&mut self, byte: u8) -> Result<(), AllocError>
         ensures ok { OnOk result (self.new ≡ self.old ++ byte ∷ []) }
         ensures err { OnErr result (self.new ≡ self.old) }
@@ -136,7 +136,7 @@ impl Text {
         self.add_all(more.as_slice())
     }
 
-    /// Adds `more` at the end. Where memory is refused, the bytes stay.
+    /// Adds `more` at the end. Where an allocation fails, the bytes stay.
     pub fn add_all(&mut self, more: &[u8]) -> Result<(), AllocError>
         ensures ok { OnOk result (self.new ≡ self.old ++ more.now) }
         ensures err { OnErr result (self.new ≡ self.old) }

@@ -218,7 +218,7 @@ pub struct Program {
     pub funs: Funs,
 }
 
-// (as a service and a function with a drop of its own, so that a crate which lets a program go need not prove again how its
+// (as a service and a function with its own `Drop`, so that a crate which drops a program need not prove again how its
 // expressions are dropped)
 impl Drop for Program {
     fn drop(self) {
@@ -304,7 +304,7 @@ pub struct Packet {
     pub route: Name,
     /// What it carries.
     pub chunk: Chunk,
-    /// The name of its handler, a function of its code that is told why a visit gave no value.
+    /// The name of its handler, a function of its code that is called with why a visit gave no value.
     pub handler: Option<Name>,
 }
 

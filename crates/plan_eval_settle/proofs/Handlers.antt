@@ -1,4 +1,4 @@
--- The chunk that tells a handler is a checked one.
+-- The chunk that reports to a handler is a checked one.
 use Rattle.std.proofs.Common.{◌≡◌, ℕ, ◌+◌, ◌<◌, ◌≤◌, Bool, true, ◌&&◌, List, [], ◌∷◌, length, Option, Some, None, refl, sym, ap, ◌∙◌, arith}
 use Rattle.std.specs.Prelude.{nat_le, slice_get, IsTrue}
 use Rattle.std.specs.List.{list_all}
@@ -139,6 +139,6 @@ module _ (c : Chunk) (n : Name) (s : List ℕ) where
   pub told_typed : IsName n → is_handler c.code n ≡ true → length s ≤ 32 → IsTypedChunk c → IsTypedChunk (handler_chunk c n s)
   told_typed w h short (within at d t p g v z q) = let f = handling c.code n s h in within f.at f.d t f.place f.get f.types told_nests (told_weighs t.small w short)
 
-  -- the chunk that tells a handler of a checked chunk's code is checked
+  -- the chunk that reports to a handler of a checked chunk's code is checked
   pub handler_checked : IsCheckedChunk c → IsName n → is_handler c.code n ≡ true → is_utf8 s ≡ true → length s ≤ 32 → IsCheckedChunk (handler_chunk c n s)
   handler_checked k w h u short = record { typed = told_typed w h short k.typed; formed = told_formed k.formed u short; full = told_full k.full }

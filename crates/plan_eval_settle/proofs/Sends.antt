@@ -23,7 +23,7 @@ pub sent_plain : (ss : List Sent) → AreGoodPackets ss → All IsPlain ss
 sent_plain [] g = All-nil IsPlain
 sent_plain (s ∷ ss) g = All-cons IsPlain s ss (All-head IsGoodSent s ss g).1 (sent_plain ss (All-tail IsGoodSent s ss g))
 
--- whatever holds of what the visit sends with the handler, and of the packet that tells the source, holds of all
+-- whatever holds of what the visit sends with the handler, and of the packet that reports to the source, holds of all
 module _ (P : Sent → Type 0) where
   all_handed : (h : Option Name) (ss : List Sent) → All (λ s. P (handed_packet h s)) ss → All P (map (handed_packet h) ss)
   all_handed h [] a = All-nil P

@@ -1,4 +1,4 @@
--- What is made of a visit's end: the packet's handler goes on with what it sends, and a visit without a value is told to the
+-- What is made of a visit's end: the packet's handler goes on with what it sends, and a visit without a value is reported to the
 -- source. Names are tested to be names, since trees may have any bytes there; those of a program always are.
 use Rattle.std.specs.Prelude.{◌≡◌, ℕ, ◌==◌, if◌then◌else◌, [], ◌∷◌, ◌++◌, map, codes, Option, Some, None}
 use Rattle.std.specs.Option.{option_to_list}
@@ -35,7 +35,7 @@ handler_for (Some n) p = if is_handler p.chunk.code n then Some n else None
 abbrev pub handed_packet : Option Name → Sent → Sent
 handed_packet h s = record s { packet = record s.packet { handler = handler_for h s.packet } }
 
--- ---- what is told
+-- ---- what is reported
 
 -- why a visit gave no value: the exception's name, or that its work was spent
 abbrev pub reason_of : Outcome → Option Text
@@ -47,7 +47,7 @@ reason_of outcome.WorkSpent = Some (codes "WorkSpent")
 abbrev pub handler_chunk : Chunk → Name → Text → Chunk
 handler_chunk c n text = record { code = c.code; entry = n; args = value.Str text ∷ [] }
 
--- the packet that tells the source: it has all that was left
+-- the packet that reports to the source: it has all that was left
 abbrev pub telling : Packet → Name → Text → ℕ → Dev → Sent
 telling p n text left dev = record {
   dev = dev;
@@ -77,13 +77,13 @@ abbrev pub telling_by : Packet → Option Name → Ctx → ℕ → Outcome → O
 telling_by p None ctx left o = None
 telling_by p (Some n) ctx left o = if is_name n then telling_why p n ctx left (reason_of o) else None
 
--- the packet that tells the source of a visit without a value
+-- the packet that reports a visit without a value to the source
 abbrev pub telling_of : Packet → Ctx → Visit → Option Sent
 telling_of p ctx v = telling_by p p.handler ctx v.left v.outcome
 
 -- ---- the visit that is settled
 
--- what is left beside the packet that tells the source
+-- what is left beside the packet that reports to the source
 abbrev pub left_beside : ℕ → Option Sent → ℕ
 left_beside left None = left
 left_beside left (Some t) = 0
@@ -93,7 +93,7 @@ abbrev pub handled_by : Option Name → Option Sent → Option Name
 handled_by h None = None
 handled_by h (Some t) = h
 
--- a visit with the packet that tells the source, if there is one, sent last
+-- a visit with the packet that reports to the source, if there is one, sent last
 abbrev pub with_telling : Option Name → Visit → Option Sent → Settled
 with_telling h v told = record {
   visit = record v { left = left_beside v.left told; outbox = map (handed_packet h) v.outbox ++ option_to_list told };

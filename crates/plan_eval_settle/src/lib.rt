@@ -1,7 +1,7 @@
-//! What is made of a visit's end: the packet's handler goes on with what the visit sends, and the source is told of a visit
+//! What is made of a visit's end: the packet's handler goes on with what the visit sends, and a visit is reported to the source
 //! that gave no value.
 //!
-//! `specs/Settles.antt` says it; docs/language/meaning.md tells it in words.
+//! `specs/Settles.antt` says it; docs/language/meaning.md says it in words.
 #![tactic(auto)]
 
 mod settling;

@@ -16,7 +16,7 @@ use std::alloc::Global;
 /// A visit that is settled.
 #[derive(Drop)]
 pub struct Settled {
-    /// The visit, with the packet that tells the source, if there is one, sent last and paid from what was left.
+    /// The visit, with the packet that reports to the source, if there is one, sent last and paid from what was left.
     pub visit: Visit,
     /// The handler that this packet calls.
     pub handled: Option<Name>,
@@ -71,7 +71,7 @@ fn all_handed(alloc: Global, handler: &Option<Name>, outbox: Outbox) -> Result<O
     Ok(sends)
 }
 
-/// What is sent, with the packet that tells the source, if there is one, last.
+/// What is sent, with the packet that reports to the source, if there is one, last.
 fn with_last(outbox: Outbox, told: Option<Sent>) -> Result<Outbox, NoMemory>
     ensures { IfOk result (λ sends. sends ≡ outbox ++ option_to_list told) }
 {
@@ -82,7 +82,7 @@ fn with_last(outbox: Outbox, told: Option<Sent>) -> Result<Outbox, NoMemory>
     Ok(outbox)
 }
 
-/// What is left beside the packet that tells the source.
+/// What is left beside the packet that reports to the source.
 fn left_beside(left: u32, told: &Option<Sent>) -> u32
     ensures { result ≡ spec.left_beside left told.now }
 {
@@ -106,7 +106,7 @@ fn handled_by(
     }
 }
 
-/// All that a visit sends, with the handler, and the packet that tells the source, if there is one, last. Condition: what the
+/// All that a visit sends, with the handler, and the packet that reports to the source, if there is one, last. Condition: what the
 /// visit sends has no handler yet.
 fn handed_with_last(
     alloc: Global,
@@ -127,7 +127,7 @@ fn handed_with_last(
     }
 }
 
-/// A visit with the packet that tells the source, if there is one, and the handler that it calls. Condition: what the visit
+/// A visit with the packet that reports to the source, if there is one, and the handler that it calls. Condition: what the visit
 /// sends has no handler yet.
 fn told_visit(
     alloc: Global,
@@ -175,7 +175,7 @@ fn told_visit(
     }
 }
 
-/// A visit with the packet that tells the source, if there is one. Condition: what it sends has no handler yet.
+/// A visit with the packet that reports to the source, if there is one. Condition: what it sends has no handler yet.
 fn with_telling(
     alloc: Global,
     handler: &Option<Name>,

@@ -1,4 +1,4 @@
-//! The packet that tells the source why a visit gave no value.
+//! The packet that reports to the source why a visit gave no value.
 ghost use Rattle.std.specs.Prelude.{◌≡◌, ◌≤◌, ◌∷◌, [], length, codes, true, IfOk, IfSome, None, Some};
 ghost use Rattle.std.specs.Str.{is_utf8};
 ghost use Rattle.plan_base.specs.declared.tree.Value.TheVariants as value;
@@ -122,7 +122,7 @@ fn packet_home(
     Ok(packet)
 }
 
-/// The packet that tells the source, by a device. Conditions: those of `handler_chunk`, and that at most 65,535 is left.
+/// The packet that reports to the source, by a device. Conditions: those of `handler_chunk`, and that at most 65,535 is left.
 fn telling_on(
     alloc: Global,
     p: &CheckedPacket,
@@ -142,7 +142,7 @@ fn telling_on(
     Ok(Some(Sent { dev, packet }))
 }
 
-/// The packet that tells the source, on a hop. Conditions: those of `handler_chunk`, and that at most 65,535 is left.
+/// The packet that reports to the source, on a hop. Conditions: those of `handler_chunk`, and that at most 65,535 is left.
 fn telling_over(
     alloc: Global,
     p: &CheckedPacket,
@@ -175,7 +175,7 @@ fn hop_home(alloc: Global, p: &CheckedPacket, ctx: &Ctx) -> Result<Hop, NoMemory
     Ok(ctx.router.next(&route, ctx.here, p.family().source))
 }
 
-/// The packet that tells the source that reason. Conditions: those of `handler_chunk`, and that at most 65,535 is left.
+/// The packet that reports that reason to the source. Conditions: those of `handler_chunk`, and that at most 65,535 is left.
 fn telling_reason(
     alloc: Global,
     p: &CheckedPacket,
@@ -204,7 +204,7 @@ fn telling_reason(
     }
 }
 
-/// The packet that tells the source by that handler. Conditions: the packet's code has it, and at most 65,535 is left.
+/// The packet that reports to the source by that handler. Conditions: the packet's code has it, and at most 65,535 is left.
 fn telling_why(
     alloc: Global,
     p: &CheckedPacket,
@@ -224,7 +224,7 @@ fn telling_why(
     }
 }
 
-/// The packet that tells the source of a visit without a value, if there is one: where the packet has a handler, something is
+/// The packet that reports a visit without a value to the source, if there is one: where the packet has a handler, something is
 /// left, and the source is this host or has a route. Condition: at most 65,535 is left.
 pub fn telling_of(
     alloc: Global,

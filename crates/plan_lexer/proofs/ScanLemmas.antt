@@ -102,7 +102,7 @@ pub Refuses-unique : (d e : LexFault) (at : ℕ) (text : List ℕ) → Refuses d
 Refuses-unique d e _ _ (here at text some p) other = sym (Refuses-here e d at text other p)
 Refuses-unique d e _ _ (past at text k next some p h) other = Refuses-unique d e next (rest_at at text next) h (Refuses-move e at text other (k, next) p)
 
--- a call that is refused for memory or by the text's first refusal keeps to the text's tokens
+-- a call that fails to allocate or is refused by the text's first refusal keeps to the text's tokens
 pub refused_only : (e : LexFault) (text : List ℕ) (ts : List Token) → (e ≡ NoMemory) ⊎ Refuses e 0 text → Toks 0 text ts → e ≡ NoMemory
 refused_only e text ts (inl is) h = is
 refused_only e text ts (inr r) h = absurd (Toks-refused e 0 text ts h r)

@@ -22,7 +22,7 @@ Fails (OpenComment at) read = read ≡ Err (OpenComment at)
 Fails (NumberTooLarge at) read = read ≡ Err (NumberTooLarge at)
 Fails (LongName at) read = read ≡ Err (LongName at)
 
--- a call answered what a reading gives, or was refused for memory
+-- a call answered what a reading gives, or an allocation failed
 abbrev pub Gives : {X A : Type 0} → (X → A) → Result X LexFault → Result A LexFault → Type 0
 Gives view (Ok x) read = read ≡ Ok (view x)
 Gives view (Err e) read = Fails e read

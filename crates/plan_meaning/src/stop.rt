@@ -14,7 +14,7 @@ pub enum EvalStop {
     WorkSpent,
     /// No case of the meaning applies. A typed chunk never comes here.
     Wrong,
-    /// A growth was refused for memory. The meaning never gives it.
+    /// An allocation failed. The meaning never gives it.
     NoMemory,
 }
 

@@ -17,7 +17,7 @@ pub struct Gathered {
     pub node_at: Places,
 }
 
-// (with a drop of its own, so that a function which stops on its way lets it go by one call)
+// (with its own `Drop`, so that a function which stops on its way drops it by one call)
 impl Drop for Gathered {
     fn drop(self) {
         let Gathered {

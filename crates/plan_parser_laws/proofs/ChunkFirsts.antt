@@ -36,7 +36,7 @@ AllKept : Chunk → List Condition → Type 0
 AllKept c [] = Unit {0}
 AllKept c (k ∷ more) = Keeps c k × AllKept c more
 
--- what is told, or that all is kept
+-- what is reported, or that all is kept
 abbrev Stands : Chunk → List Condition → Option ChunkFault → Type 0
 Stands c ks None = AllKept c ks
 Stands c ks (Some f) = FirstFailing c f ks
@@ -73,7 +73,7 @@ one_first c f g _ (here k more n b) (later _ _ h s) = absurd (n h)
 one_first c f g _ (later k more h r) (here _ _ m d) = absurd (m h)
 one_first c f g _ (later k more h r) (later _ _ m s) = one_first c f g more r s
 
--- an answer that stands for a list of conditions is that fault exactly where it is told for the first that fails
+-- an answer that stands for a list of conditions is that fault exactly where it is reported for the first that fails
 fault_is_first : (c : Chunk) (ks : List Condition) (o : Option ChunkFault) (f : ChunkFault) → Stands c ks o → (o ≡ Some f) ↔ FirstFailing c f ks
 fault_is_first c ks None f s = (λ h. absurd (cc), λ g. absurd (never_both c f ks s g))
 fault_is_first c ks (Some e) f s = (λ h. (let same : e ≡ f = cc in subst (λ z. FirstFailing c z ks) same s), λ g. ap Some (one_first c e f ks s g))

@@ -33,7 +33,7 @@ Keeps c (of_argument n) =
     ≡ Some t → HasType v t
 Keeps c of_size = (1 + chunk_weight c ≤ 16384) × (chunk_nesting c ≤ 4)
 
--- What is told where a condition isn't kept: for code what is told for the first condition that it doesn't keep itself, for
+-- What is reported where a condition isn't kept: for code what is reported for the first condition that it doesn't keep itself, for
 -- an argument its place, which stops at 255.
 pub data Blames (c : Chunk) : Condition → ChunkFault → Type 0 where
   for_code : (f : TypeFault) → FirstRefusal c.code f → Blames c of_code (Ill (Code f))
@@ -59,7 +59,7 @@ conditions c = of_code ∷ of_call c []
 abbrev pub call_conditions : Chunk → List Condition
 call_conditions c = of_call c (of_size ∷ [])
 
--- f is told for the first condition of the list that isn't kept
+-- f is reported for the first condition of the list that isn't kept
 pub data FirstFailing (c : Chunk) (f : ChunkFault) : List Condition → Type 0 where
   here : (k : Condition) (more : List Condition) → (Keeps c k → ⊥) → Blames c k f → FirstFailing c f (k ∷ more)
   later : (k : Condition) (more : List Condition) → Keeps c k → FirstFailing c f more → FirstFailing c f (k ∷ more)

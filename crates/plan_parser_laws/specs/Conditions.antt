@@ -45,7 +45,7 @@ Keeps p of_size = (q : Program) → Fills p q → code_size q ≤ 16000
 abbrev pub nodes_before : Program → ℕ → ℕ
 nodes_before p k = sum_by (λ d. expr_nodes d.body) (take k p.funs)
 
--- What is told where a condition isn't kept: for a name its declaration, counted from the first service through exceptions
+-- What is reported where a condition isn't kept: for a name its declaration, counted from the first service through exceptions
 -- and functions; for a body its own first refusal, its expressions counted behind those of the bodies before.
 pub data Blames (p : Program) : Condition → TypeFault → Type 0 where
   for_service : (k : ℕ) → Blames p (of_service k) (TwiceNamed (Decl (behind 0 k)))
@@ -67,7 +67,7 @@ conditions p =
     (conditions_from of_exception 0 (length p.exns)
     (conditions_from of_function 0 (length p.funs) (conditions_from of_body 0 (length p.funs) (of_size ∷ []))))
 
--- f is told for the first condition of the list that isn't kept
+-- f is reported for the first condition of the list that isn't kept
 pub data FirstUnkept (p : Program) (f : TypeFault) : List Condition → Type 0 where
   here : (k : Condition) (more : List Condition) → (Keeps p k → ⊥) → Blames p k f → FirstUnkept p f (k ∷ more)
   later : (k : Condition) (more : List Condition) → Keeps p k → FirstUnkept p f more → FirstUnkept p f (k ∷ more)

@@ -24,7 +24,7 @@ use Rattle.plan_types_spec.specs.TypingNames.{OpKind, arithmetic, joining, equal
 use Rattle.plan_types_spec.specs.TypingOrder.{items_of, parts_of, part_in, want_at, given_of, pair_of}
 use Rattle.plan_types_spec.specs.TypingFills.{Becomes}
 
--- Conditions in order: a test, with what is told where it fails; two types that must be the same, with what is told; and
+-- Conditions in order: a test, with what is reported where it fails; two types that must be the same, with what is reported; and
 -- a part under its bindings, of which a type may be wanted, where what is judged next depends on the type that it has.
 pub data Judgement : Type 0 where
   kept : Judgement
@@ -72,7 +72,7 @@ function_named f ds = find (λ d. bytes_eq d.name f) ds
 abbrev pub stands_earlier : Program → ℕ → Name → Option Fun
 stands_earlier code seen f = function_named f (take seen code.funs)
 
--- what is told where none does: it is the function with that number or a later one, or there is none of that name
+-- what is reported where none does: it is the function with that number or a later one, or there is none of that name
 abbrev pub none_earlier : Program → Name → ℕ → TypeFault
 none_earlier code f at = if is_some (function_named f code.funs) then NotEarlier (Node at) else UnknownName (Node at)
 
@@ -158,7 +158,7 @@ module _ (code : Program) (seen : ℕ) where
       typed_part c ty.Chunk a (typed_part c ty.Host h (typed_part c ty.Int n (typed_part c ty.Dev d (suits at want ty.Unit))))
 
   mutual
-    -- f is told for the first condition that isn't kept, where the next part stands at the place n
+    -- f is reported for the first condition that isn't kept, where the next part stands at the place n
     pub data FirstFailing (f : TypeFault) : ℕ → Judgement → Type 0 where
       fails : {n : ℕ} {b : Bool} {more : Judgement} → b ≡ false → FirstFailing f n (test b f more)
       differ : {n : ℕ} {t u : Ty} {more : Judgement} → (t ≡ u → ⊥) → FirstFailing f n (same t u f more)

@@ -1,4 +1,4 @@
-//! What programs, types and values are by the grammar and by the rules of types, apart from their readers; what is refused is refused for the first thing that is wrong with it, and never for want of memory.
+//! What programs, types and values are by the grammar and by the rules of types, apart from their readers; what is refused is refused for the first thing that is wrong with it, and never for a failed allocation.
 #![tactic(auto)]
 
 mod grammar;

@@ -58,14 +58,14 @@ pub fn typing_refusals_hold_no_memory()
     ensures { (p : Program) (f : TypeFault) → annotated_program p ≡ Err f → f ≢ fault.NoMemory }
 {}
 
-/// What comes first that is wrong with a chunk, its own size aside, is what is told for the first condition that it doesn't
+/// What comes first that is wrong with a chunk, its own size aside, is what is reported for the first condition that it doesn't
 /// keep: its code, its entry, the number of its arguments, and each of them.
 pub fn first_failing_is_answered()
     ensures { (c : Chunk) (i : Ill) → IsWellFormedChunk c → ChunkHasTypes c → (illness c ≡ Some i) ↔
         FirstFailing c (chunk_fault.Ill i) (conditions c) }
 {}
 
-/// What comes first that forbids a chunk with that code, entry and arguments, the code aside, is what is told for the first
+/// What comes first that forbids a chunk with that code, entry and arguments, the code aside, is what is reported for the first
 /// condition that it doesn't keep: its entry, the number of its arguments, each of them, and its size.
 pub fn first_failing_call_is_answered()
     ensures { (c : Chunk) (f : ChunkFault) → IsTrue (list_all well_formed_value c.args) → IsTrue

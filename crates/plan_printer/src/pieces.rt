@@ -9,7 +9,7 @@ ghost use Rattle.plan_printer_spec.specs.Printed.{bool_text};
 use plan_base::{Bytes, Name, NoMemory};
 use std::alloc::Global;
 
-/// Adds bytes at the end, or none where memory is refused.
+/// Adds bytes at the end, or none where an allocation fails.
 pub fn put(out: &mut Bytes, more: &[u8]) -> Result<(), NoMemory>
     ensures { OnOk result (out.new ≡ out.old ++ more.now) }
 {

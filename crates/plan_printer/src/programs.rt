@@ -13,7 +13,7 @@ use crate::types::{put_empty, put_type, put_typed, put_types};
 use plan_base::{Bytes, Clause, Expr, Fun, Name, NoMemory, Op, Param, Program, Svc, Ty};
 use std::alloc::Global;
 
-/// Appends the printed form of a program. Where memory is refused, `out` stays.
+/// Appends the printed form of a program. Where an allocation fails, `out` stays.
 pub fn print_program(alloc: Global, program: &Program, out: &mut Bytes) -> Result<(), NoMemory>
     ensures whole { OnOk result (out.new ≡ out.old ++ program_text program.now) }
     ensures stays { OnErr result (out.new ≡ out.old) }

@@ -7,7 +7,7 @@ use crate::pieces::put;
 use plan_base::{Bytes, NoMemory, Ty};
 use std::alloc::Global;
 
-/// Appends the printed form of a type. Where memory is refused, `out` stays.
+/// Appends the printed form of a type. Where an allocation fails, `out` stays.
 pub fn print_type(alloc: Global, t: &Ty, out: &mut Bytes) -> Result<(), NoMemory>
     ensures whole { OnOk result (out.new ≡ out.old ++ type_text t.now) }
     ensures stays { OnErr result (out.new ≡ out.old) }

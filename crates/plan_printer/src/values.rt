@@ -12,7 +12,7 @@ use plan_base::{Bytes, Chunk, NoMemory, Value};
 use plan_base_size::chunk_weight;
 use std::alloc::Global;
 
-/// Appends the printed form of a value. A chunk shows its entry and its weight alone. Where memory is refused, `out` stays.
+/// Appends the printed form of a value. A chunk shows its entry and its weight alone. Where an allocation fails, `out` stays.
 pub fn print_value(alloc: Global, v: &Value, out: &mut Bytes) -> Result<(), NoMemory>
     ensures whole { OnOk result (out.new ≡ out.old ++ value_text v.now) }
     ensures stays { OnErr result (out.new ≡ out.old) }
@@ -67,7 +67,7 @@ fn put_between(
     put(out, after)
 }
 
-/// Adds values with commas between them. Bytes may stand behind `out` where memory is refused.
+/// Adds values with commas between them. Bytes may stand behind `out` where an allocation fails.
 #[cycle(put_value)]
 pub fn put_values(alloc: Global, values: &[Value], out: &mut Bytes) -> Result<(), NoMemory>
     ensures { OnOk result (out.new ≡ out.old ++ commas value_text values.now) }

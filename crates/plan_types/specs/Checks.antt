@@ -1,4 +1,4 @@
--- What a part of the checking ensures: the answer of its definition, unless memory is refused.
+-- What a part of the checking ensures: the answer of its definition, unless an allocation fails.
 use Rattle.std.specs.Prelude.{◌≡◌, ◌≢◌, ℕ, Option, Result, Ok, Err}
 use Rattle.std.specs.Option.{option_copied}
 use Rattle.std.specs.declared.alloc.Global.{Global}
@@ -12,7 +12,7 @@ use Rattle.plan_types_spec.specs.TypingOrder.{Checking, Found, checked_expressio
 use Rattle.plan_types.specs.declared.state.Scope.{Scope}
 use Rattle.plan_types.specs.declared.state.TypingState.{TypingState}
 
--- the answer and the next number are as wanted, unless memory is refused
+-- the answer and the next number are as wanted, unless an allocation fails
 abbrev pub Meets : {A : Type 0} → Result (A × ℕ) TypeFault → Result A TypeFault → ℕ → Type 0
 Meets want (Ok a) node = want ≡ Ok (a, node)
 Meets want (Err f) node = f ≢ NoMemory → want ≡ Err f
@@ -22,7 +22,7 @@ abbrev pub Leaves : {A B : Type 0} → Result (A × ℕ) TypeFault → Result B 
 Leaves want (Ok b) a node = want ≡ Ok (a, node)
 Leaves want (Err f) a node = f ≢ NoMemory → want ≡ Err f
 
--- the answer is as wanted, unless memory is refused
+-- the answer is as wanted, unless an allocation fails
 abbrev pub Gives : {A : Type 0} → Result A TypeFault → Result A TypeFault → Type 0
 Gives want (Ok a) = want ≡ Ok a
 Gives want (Err f) = f ≢ NoMemory → want ≡ Err f

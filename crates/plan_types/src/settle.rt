@@ -14,7 +14,7 @@ use plan_base_size::HasDepth;
 use plan_types_spec::TypeFault;
 use std::alloc::Global;
 
-/// The refusal of an expression, which is let go.
+/// The refusal of an expression, which is dropped.
 pub fn refuse_expr(e: Expr, fault: TypeFault) -> Result<(Expr, Ty), TypeFault>
     ensures { result ≡ Err fault }
 {

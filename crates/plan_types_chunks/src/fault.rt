@@ -25,7 +25,7 @@ pub enum ChunkFault {
     Ill(Ill),
     /// It weighs more than 16,384 bytes or nests more than 4 deep.
     TooLarge,
-    /// A growth was refused for memory.
+    /// An allocation failed.
     NoMemory,
 }
 

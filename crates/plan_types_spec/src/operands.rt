@@ -11,7 +11,7 @@ ghost use Rattle.plan_types_spec.specs.Rules as rules;
 ghost use Rattle.plan_types_spec.specs.Same.{same_value};
 ghost use Rattle.plan_types_spec.specs.Typed.{OperatorTakes, PrimitiveTakes, Fits};
 
-/// `=` tells whether two values are the same.
+/// `=` says whether two values are the same.
 pub fn equality()
     ensures { (a b : Value) → IsTrue (same_value a b) ↔ (a ≡ b) }
 {}

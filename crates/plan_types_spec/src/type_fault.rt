@@ -25,7 +25,7 @@ pub enum TypeFault {
     TypeTooDeep(Place),
     /// Marshalled code of more than 16,000 bytes.
     CodeTooLarge,
-    /// A growth was refused for memory.
+    /// An allocation failed.
     NoMemory,
 }
 

@@ -20,7 +20,7 @@ use Rattle.planet_cli.specs.Calls.{Calls}
 use Rattle.planet_cli.proofs.Views.{says_one, Took, took, left, view}
 use Rattle.planet_cli.proofs.Giving.{done_found}
 
--- what an answer that is done tells
+-- what an answer that is done says
 done_so : {T : Type 0} (P : Type 0) (result : Result T ServeFault) → serve_cause result ≡ Done → OnOk result P → P
 done_so P (Ok x) e h = h
 done_so P (Err faults.LinkFault) e h = absurd (cc)

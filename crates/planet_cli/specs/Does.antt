@@ -1,4 +1,4 @@
--- What a call does to the outside, and how it ends, by what its words ask for.
+-- What a call does to the environment, and how it ends, by what its words ask for.
 use Rattle.std.specs.Prelude.{◌≡◌, Option, Some, None}
 use Rattle.node_io.specs.Outsides.{Outside}
 use Rattle.node_serve.specs.Desks.{Serving}
@@ -40,7 +40,7 @@ shop_in o = record { children = o.children; out = o.out }
 abbrev pub serving_in : Outside → Serving
 serving_in o = record { files = o.files; out = o.out; link = o.link; clock = o.clock }
 
--- what a call does to the outside and how it ends, by what its words ask for; what it doesn't touch is the same whole state
+-- what a call does to the environment and how it ends, by what its words ask for; what it doesn't touch is the same whole state
 abbrev pub Does : Option Request → Cause → Outside → Outside → Type 0
 Does None cause old new = (cause ≡ Usage) × (new ≡ old)
 Does (Some (replay file)) cause old new =

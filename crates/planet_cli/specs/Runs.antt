@@ -25,12 +25,12 @@ first_node cfg old = own_node (begun_config cfg old)
 abbrev pub made_run : ServeConfig → ℕ → Serving → List ℕ → Running
 made_run cfg turns old refused = run_in (begun_config cfg old) (first_node cfg old) turns (begun_with cfg old) refused
 
--- after every number of entries, what stands around a visit is in order: neighbours by device and routes by host
+-- after every number of entries, the context of a visit is in order: neighbours by device and routes by host
 abbrev pub KeepsOrder : NodeState → List LogEvent → Type 0
 KeepsOrder node es = (k : ℕ) (p : Packet) → IsOrdered (around (node_at node es k) p)
 
 -- the run was made whole; after every number of its entries the node keeps its limits, each step is in balance, each visit has a
--- case and would end, and what stands around a visit is in order
+-- case and would end, and the context of a visit is in order
 pub record KeepsServing (cfg : ServeConfig) (turns : ℕ) (old new : Serving) : Type 0 where
   pub served : Served (begun_config cfg old) (first_node cfg old) turns (begun_with cfg old) new
   pub keeps : KeepsNodeRun (first_node cfg old) (made_run cfg turns old served.refused).events

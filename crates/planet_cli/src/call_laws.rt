@@ -34,7 +34,7 @@ pub fn usage()
         → q ≡ None }
 {}
 
-/// And there it does, unless memory is refused or its note isn't written.
+/// And there it does, unless an allocation fails or its note isn't written.
 pub fn usage_always()
     ensures { (cause : Why) (old new : Outside) (n m : SinkState)
         → Calls None cause old new n m
@@ -49,7 +49,7 @@ pub fn refused()
         → IfRefused cause (λ r. outcome_of q old.files.held ≡ refused r) }
 {}
 
-/// And where the file is refused, that is the answer, unless it wasn't read, memory is refused, or the note isn't written.
+/// And where the file is refused, that is the answer, unless it wasn't read, an allocation fails, or the note isn't written.
 pub fn refused_always()
     ensures { (q : Option Request) (cause : Why) (old new : Outside) (n m : SinkState)
         → Calls q cause old new n m
@@ -100,7 +100,7 @@ pub fn front()
         → BeginsOut (outcome_of q old.files.held) old.out new.out }
 {}
 
-/// Where the output is defined whole and no fault came, the call is done, or memory was refused.
+/// Where the output is defined whole and no fault came, the call is done, or an allocation failed.
 pub fn complete()
     ensures { (q : Option Request) (cause : Why) (old new : Outside) (n m : SinkState)
         → Calls q cause old new n m
@@ -235,7 +235,7 @@ pub fn statuses()
         → new.children.statuses ≡ old.children.statuses }
 {}
 
-/// A network that grows ends done, for want of memory, or where the output or the notes failed, whatever the files hold: it
+/// A network that grows ends done, for a failed allocation, or where the output or the notes failed, whatever the files hold: it
 /// is never refused.
 pub fn grow_ends()
     ensures { (seed k : ℕ) (cause : Why) (old new : Outside) (n m : SinkState)
@@ -258,7 +258,7 @@ pub fn fleet_stops()
         → Unstarted f old new ⊎ Unwaited f old new }
 {}
 
-/// After every answer a fleet's output has a prefix of the lines of some statuses, whatever the spawner tells.
+/// After every answer a fleet's output has a prefix of the lines of some statuses, whatever the spawner reports.
 pub fn fleet_lines()
     ensures { (file : List ℕ) (cause : Why) (old new : Outside) (n m : SinkState)
         → Calls (Some (fleet file)) cause old new n m

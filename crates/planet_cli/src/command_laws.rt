@@ -125,7 +125,7 @@ pub fn shown()
         → Writes old.out new.out (frame_text x) }
 {}
 
-/// A network that grows is never refused: it is done where no fault of writing came, or memory was refused.
+/// A network that grows is never refused: it is done where no fault of writing came, or an allocation failed.
 pub fn grown_whole()
     ensures { (seed k : ℕ) (cause : Why) (old new : Outside) (n m : SinkState)
         → Calls (Some (grow seed k)) cause old new n m
@@ -318,7 +318,7 @@ pub fn fleet_front()
         → RunsAtMost (fleet_said file old.files.held) old new }
 {}
 
-/// A fleet that no fault met ended, or memory was refused.
+/// A fleet that no fault met ended, or an allocation failed.
 pub fn fleet_complete()
     ensures { (file : List ℕ) (cause : Why) (old new : Outside) (n m : SinkState)
         → Calls (Some (fleet file)) cause old new n m
@@ -356,7 +356,7 @@ pub fn serves()
         → ServesAtMost (config_said file old.files.held) turns (serving_in old) (serving_in new) }
 {}
 
-/// A node that no fault met is done, or memory was refused.
+/// A node that no fault met is done, or an allocation failed.
 pub fn node_complete()
     ensures { (file : List ℕ) (turns : ℕ) (cause : Why) (old new : Outside) (n m : SinkState)
         → Calls (Some (node file turns)) cause old new n m
@@ -371,7 +371,7 @@ pub fn node_complete()
         → (cause ≡ Cause.Done) ⊎ (cause ≡ Cause.NoMemory) }
 {}
 
-/// No file but its log is changed, whatever the link, the clock and the output tell.
+/// No file but its log is changed, whatever the link, the clock and the output report.
 pub fn node_keeps_files()
     ensures { (file : List ℕ) (turns : ℕ) (cause : Why) (old new : Outside) (n m : SinkState)
         → Calls (Some (node file turns)) cause old new n m
@@ -439,7 +439,7 @@ pub fn served_agrees()
         → AgreesServing cfg turns (serving_in old) (serving_in new) }
 {}
 
-/// In the replay of a log, what stands around each visit is in order.
+/// In the replay of a log, the context of each visit is in order.
 pub fn logs_are_ordered()
     ensures { (words : List (List ℕ)) (files : FilesState) (l : Log)
         → ReplaysLog words files l
@@ -462,7 +462,7 @@ pub fn logs_replay()
 {}
 
 /// Such a replay, of a file of at most 4,194,304 bytes, that is done wrote that trace; and where no fault came it is done, or
-/// memory was refused.
+/// an allocation failed.
 pub fn replays_are_whole()
     ensures written { (log : List ℕ) (old new : Outside) (s : ReplaysSo log old new)
         → length s.bytes ≤ 4194304

@@ -57,7 +57,7 @@ pub fn planet<F: Files, K: Sink, N: Sink, L: Link, C: Clock, P: Spawner>(
     // .. and whatever bytes say a schedule: after every event of it the counts are in balance, and no
     // visit is without a case.
     ensures keeps { (bytes : List ℕ) (s : Schedule) → schedule_of bytes ≡ Ok s → KeepsRun s }
-    // What the words ask for was done, and the notes tell how it ended.
+    // What the words ask for was done, and the notes say how it ended.
     ensures does { Calls (request_of words.now) result.cause
         (outside (F.state files.old) (K.state out.old) (L.state link.old) (C.state clock.old)
         (P.state spawn.old))

@@ -28,7 +28,7 @@ said_at limit read (Some bytes) = said_within limit read bytes
 abbrev pub said_in : {A : Type 0} → ℕ → (List ℕ → Said A) → List ℕ → FileMap → Said A
 said_in limit read name files = said_at limit read (file_at files name)
 
--- what a reading of its lines gave; a definition never wants memory
+-- what a reading of its lines gave; a definition never fails to allocate
 abbrev pub said_by : {A : Type 0} → Result A LineFault → Said A
 said_by (Ok v) = says v
 said_by (Err (faults.Line n reason)) = outside (Line n reason)

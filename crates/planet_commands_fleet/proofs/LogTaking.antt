@@ -29,7 +29,7 @@ module _ {A : Type 0} (k : ℕ) (said : FileMap → Said A) (name : List ℕ) (o
   pub takes_numbered : (v : A) → Takes said name old new (Ok v) → Takes (λ held. said_of k (said held)) name old new (Ok v)
   takes_numbered v t = record { only = t.only; asked = t.asked; did = λ seen. ap (said_of k) (t.did seen) }
 
-  -- and a cause for which none was is told so
+  -- and a cause for which none was is reported so
   pub takes_not : (c : Cause) → Takes said name old new (Err c) → Takes (λ held. said_of k (said held)) name old new (Err (cause_of k c))
   takes_not (Refused r) t = record { only = t.only; asked = t.asked; did = (own k r t.did.0, λ seen. ap (said_of k) (t.did.1 seen)) }
   takes_not ReadFault t = record { only = t.only; asked = t.asked; did = t.did }

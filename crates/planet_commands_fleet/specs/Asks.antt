@@ -16,7 +16,7 @@ use Rattle.planet_commands.specs.Said.{Said, lines_said}
 abbrev pub ask_said : List ℕ → FileMap → Said AskFile
 ask_said name files = lines_said ask_of name files
 
--- the cause that tells how a request ended
+-- the cause that says how a request ended
 abbrev pub ask_cause : {T : Type 0} → Result T AskFault → Cause
 ask_cause (Ok x) = causes.Done
 ask_cause (Err LinkFault) = causes.LinkFault
@@ -31,7 +31,7 @@ pub record Wire : Type 0 where
 abbrev pub wire : LinkState → SinkState → Wire
 wire link out = record { link = link; out = out }
 
--- a request that was read was sent so, and this cause tells how it ended
+-- a request that was read was sent so, and this cause says how it ended
 pub record AsksAs (a : AskFile) (cause : Cause) (old new : Wire) : Type 0 where
   pub result : Result (Unit {0}) AskFault
   pub is : cause ≡ ask_cause result

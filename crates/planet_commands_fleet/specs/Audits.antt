@@ -25,7 +25,7 @@ use Rattle.planet_commands.specs.Said.{Said, nothing, outside, says, lines_said}
 use Rattle.planet_commands.specs.Takes.{Untaken, TakeResult}
 use Rattle.planet_commands.specs.Renders.{Prints}
 
--- the refusal of a file of lines, told as that of the log with this number
+-- the refusal of a file of lines, reported as that of the log with this number
 abbrev pub refusal_of : ℕ → Refusal → Refusal
 refusal_of k (Line n reason) = OfLog k n reason
 refusal_of k TooLong = LogTooLong k

@@ -18,7 +18,7 @@ use Rattle.planet_commands.specs.Said.{Said, lines_said}
 abbrev pub fleet_said : List ℕ → FileMap → Said Fleet
 fleet_said name files = lines_said fleet_of name files
 
--- the cause that tells how a fleet ended
+-- the cause that says how a fleet ended
 abbrev pub fleet_cause : Result FleetEnd FleetFault → Cause
 fleet_cause (Ok Well) = causes.Done
 fleet_cause (Ok (Failed host status)) = causes.NodesFailed host status
@@ -35,7 +35,7 @@ pub record Shop : Type 0 where
 abbrev pub shop : SpawnerState → SinkState → Shop
 shop children out = record { children = children; out = out }
 
--- a fleet that was read ran so, and this cause tells how it ended
+-- a fleet that was read ran so, and this cause says how it ended
 pub record RunsAs (f : Fleet) (cause : Cause) (old new : Shop) : Type 0 where
   pub result : Result FleetEnd FleetFault
   pub is : cause ≡ fleet_cause result

@@ -49,14 +49,14 @@ begun_config cfg old = booted_config (moment cfg.node.version old.clock) cfg
 abbrev pub begun_with : ServeConfig → Serving → Serving
 begun_with cfg old = record old { clock = behind_moment cfg.node.version old.clock }
 
--- the cause that tells how a serving node ended
+-- the cause that says how a serving node ended
 abbrev pub serve_cause : {T : Type 0} → Result T ServeFault → Cause
 serve_cause (Ok x) = causes.Done
 serve_cause (Err LinkFault) = causes.LinkFault
 serve_cause (Err WriteFault) = causes.WriteFault
 serve_cause (Err NoMemory) = causes.NoMemory
 
--- a node that was read served so many turns so, and this cause tells how it ended
+-- a node that was read served so many turns so, and this cause says how it ended
 pub record ServesAs (turns : ℕ) (cfg : ServeConfig) (cause : Cause) (old new : Serving) : Type 0 where
   pub result : Result (Unit {0}) ServeFault
   pub is : cause ≡ serve_cause result

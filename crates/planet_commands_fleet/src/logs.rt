@@ -19,7 +19,7 @@ use plan_base::{Host, Text};
 use planet_commands::value_of;
 use std::alloc::Global;
 
-/// The refusal of a file of lines, told as that of the log with this number.
+/// The refusal of a file of lines, reported as that of the log with this number.
 fn refusal_of(number: u32, refusal: Refusal) -> Refusal
     ensures { result ≡ spec.refusal_of number refusal }
 {
@@ -30,7 +30,7 @@ fn refusal_of(number: u32, refusal: Refusal) -> Refusal
     }
 }
 
-/// The cause of a file of lines that wasn't taken, told as that of the log with this number.
+/// The cause of a file of lines that wasn't taken, reported as that of the log with this number.
 fn cause_of(number: u32, cause: Cause) -> Cause
     ensures { result ≡ spec.cause_of number cause }
 {

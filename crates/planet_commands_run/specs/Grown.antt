@@ -5,8 +5,8 @@ use Rattle.grow_run.specs.Pings.{OfGrown}
 use Rattle.exit_status.specs.declared.status.Cause.{Cause}
 use Rattle.exit_status.specs.declared.status.Cause.TheVariants.{Done, Usage, Refused, ReadFault, WriteFault, LinkFault, SpawnFault, NoMemory, NodesFailed}
 
--- the summary of the network of a seed after n events was written, or a prefix of it where the output failed; nothing, where memory
--- was refused; and it ends with no other causes
+-- the summary of the network of a seed after n events was written, or a prefix of it where the output failed; nothing, where an
+-- allocation failed; and it ends with no other causes
 abbrev pub GrowsAs : ℕ → ℕ → Cause → SinkState → SinkState → Type 0
 GrowsAs seed n Done old new = OfGrown seed n (Writes old new)
 GrowsAs seed n WriteFault old new = OfGrown seed n (FailsIn old new)

@@ -54,7 +54,7 @@ replay_text s = run_text s.frames s.events (opening s.topology)
 abbrev pub log_trace : Log → List ℕ
 log_trace l = whole_trace l.node.here (played_entries 0 (log_node l) l.events)
 
--- what was read of a file says; a definition never wants memory
+-- what was read of a file says; a definition never fails to allocate
 abbrev pub run_said : Result Replayed LineFault → Said (List ℕ)
 run_said (Ok (scheduled s)) = says (replay_text s)
 run_said (Ok (logged l)) = says (log_trace l)

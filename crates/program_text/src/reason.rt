@@ -99,7 +99,7 @@ fn put_text_reason(alloc: Global, fault: &TextFault, out: &mut Bytes) -> Result<
     Ok(())
 }
 
-/// Appends the name of a refusal and its `what`, or for a mismatch the two types as printed. Where memory is refused,
+/// Appends the name of a refusal and its `what`, or for a mismatch the two types as printed. Where an allocation fails,
 /// `out` stays.
 pub fn put_reason(alloc: Global, fault: &TextFault, out: &mut Bytes) -> Result<(), NoMemory>
     ensures whole { OnOk result (out.new ≡ out.old ++ reason_text fault.now) }

@@ -102,7 +102,7 @@ no_messages = record { delivered = []; early = [] }
 abbrev pub next_of : Receiving → ℕ
 next_of r = suc (length r.delivered)
 
--- the chunk that tells a host which number is awaited
+-- the chunk that says to a host which number is awaited
 abbrev pub ack_from : Host → Receiving → Chunk
 ack_from dest r = ack_chunk dest (pos (next_of r))
 

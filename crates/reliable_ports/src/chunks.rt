@@ -21,8 +21,8 @@ fn port_text() -> &'static [u8]
     b"svc thisHostIs : (host) -> bool\nsvc getRB : () -> int\nsvc deliver : (int, (int * blob)) -> unit\nfun data(dest : host, seq : int, body : blob) : unit =\n  if thisHostIs(dest) then deliver(1, (seq, body))\n  else OnRemote(|data|(dest, seq, body), dest, getRB(), defaultRoute)\nfun ack(dest : host, next : int) : unit =\n  if thisHostIs(dest) then deliver(2, (next, #\"\"))\n  else OnRemote(|ack|(dest, next), dest, getRB(), defaultRoute)\n"
 }
 
-/// The program of a port, read from its text. That the text is that program's is tested; else it would be told as want
-/// of memory.
+/// The program of a port, read from its text. That the text is that program's is tested; else it would be reported as a
+/// failed allocation.
 pub fn port_code(alloc: Global) -> Result<Checked, NoMemory>
     ensures text { IfOk result (λ code. program_of port_text ≡ Ok code) }
     ensures tree { IfOk result (λ code. code ≡ spec.port_program) }
@@ -83,7 +83,7 @@ fn ack_args(alloc: Global, dest: Host, next: u64) -> Result<Values, NoMemory>
     Ok(args)
 }
 
-/// The chunk that tells a host which message is awaited. Condition: the code is a port's.
+/// The chunk that says to a host which message is awaited. Condition: the code is a port's.
 #[tactic(auto, using(crate::proofs::Arguments::ack_formed, crate::proofs::Arguments::ack_full), unfolding(plan_base::specs::Words::is_name, plan_base::specs::Words::is_word, plan_base::specs::Words::is_reserved))]
 pub fn ack_chunk(
     alloc: Global,

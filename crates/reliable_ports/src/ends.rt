@@ -70,7 +70,7 @@ fn pad(early: &mut VecDeque<Option<Bytes>>, place: usize)
     }
 }
 
-/// Keeps a body at its place, unless one is there. Where memory is refused, all is as before.
+/// Keeps a body at its place, unless one is there. Where an allocation fails, all is as before.
 #[tactic(auto, using(crate::proofs::Counts::kept_here, crate::proofs::Counts::kept_there, crate::proofs::Counts::kept_past))]
 pub fn keep(early: &mut VecDeque<Option<Bytes>>, place: usize, body: Bytes) -> Result<(), NoMemory>
     requires { place < 63 }

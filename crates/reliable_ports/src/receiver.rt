@@ -35,7 +35,7 @@ pub enum Came {
 pub enum AckFault {
     /// The purse holds less than 4.
     NoBound,
-    /// A growth was refused for memory.
+    /// An allocation failed.
     NoMemory,
 }
 
@@ -151,7 +151,7 @@ impl Receiver {
         keep(&mut self.early, place, body)
     }
 
-    /// The ack that tells a host which message is awaited, which the purse pays 4 for. Refused as `NoBound` exactly where
+    /// The ack that says to a host which message is awaited, which the purse pays 4 for. Refused as `NoBound` exactly where
     /// it holds less. After a refusal the purse is as before. Condition: fewer than 2^62 were delivered.
     #[tactic(auto, using(crate::proofs::Held::pays_four, crate::proofs::Held::four_paid))]
     pub fn ack(

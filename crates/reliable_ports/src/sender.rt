@@ -30,7 +30,7 @@ pub enum Ack {
 pub enum OfferFault {
     /// 64 messages are offered and not acknowledged.
     Full,
-    /// A growth was refused for memory.
+    /// An allocation failed.
     NoMemory,
 }
 
@@ -51,7 +51,7 @@ pub enum TransmitFault {
     NotHeld,
     /// The purse holds less than 4.
     NoBound,
-    /// A growth was refused for memory.
+    /// An allocation failed.
     NoMemory,
 }
 

@@ -15,7 +15,7 @@ use Rattle.reliable_ports_world.specs.Told.{told_line, note_told, heard_told}
 use Rattle.reliable_ports_world.specs.Limits.{FewAfter}
 use Rattle.reliable_ports_world.specs.Stands.{Goes}
 
--- what a line does and tells, by its note
+-- what a line does and says, by its note
 abbrev Says : ℕ → Line → PortState → PortState → List ℕ → Type 0
 Says n l s t told = (t ≡ hears_line l s) × (told ≡ heard_told n l s)
 

@@ -101,7 +101,7 @@ fn paid_by(purse: &Purse, first: u32) -> u64
 }
 
 impl<S: Services> Ports<S> {
-    /// Appends how the ends stand, whose purses were these at first. Where memory is refused, `out` stays.
+    /// Appends how the ends stand, whose purses were these at first. Where an allocation fails, `out` stays.
     pub fn put_ends(
         &self,
         alloc: Global,

@@ -111,7 +111,7 @@ impl<S: Services> Ports<S> {
         self.world.step(alloc, event)
     }
 
-    /// Makes the second host's ack of all that was delivered, where its purse pays; else that is told.
+    /// Makes the second host's ack of all that was delivered, where its purse pays; else that is reported.
     fn acknowledge(&mut self, alloc: Global, number: u64, text: &mut Bytes) -> Result<(), NoMemory>
         requires ready { IsStanding S.stands self.old }
         requires few { length self.old.receiver.delivered < 2 ^ 62 }
@@ -194,7 +194,7 @@ impl<S: Services> Ports<S> {
         Ok(())
     }
 
-    /// Hears a line of an event, and tells that the event changed nothing where the line says so.
+    /// Hears a line of an event, and says that the event changed nothing where the line says so.
     fn hear_line(
         &mut self,
         alloc: Global,
@@ -259,7 +259,7 @@ impl<S: Services> Ports<S> {
         self.hear(alloc, number, lines.as_slice(), text)
     }
 
-    /// Offers a body, and tells where the sender is full.
+    /// Offers a body, and says where the sender is full.
     fn offer(
         &mut self,
         alloc: Global,
@@ -281,7 +281,7 @@ impl<S: Services> Ports<S> {
         }
     }
 
-    /// Transmits a message, where it is held and the first purse pays; else that is told.
+    /// Transmits a message, where it is held and the first purse pays; else that is reported.
     fn transmit(
         &mut self,
         alloc: Global,

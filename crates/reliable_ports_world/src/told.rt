@@ -6,7 +6,7 @@ use plan_base::{Bytes, NoMemory};
 use std::alloc::Global;
 use trace_text::put_number;
 
-/// What an event is told to have met.
+/// What an event is reported to have met.
 #[derive(Clone, Copy, PartialEq, Eq)]
 pub enum PortLine {
     /// 64 messages are offered and not acknowledged.
@@ -40,7 +40,7 @@ fn put_told_line(out: &mut Bytes, number: u64, line: PortLine) -> Result<(), NoM
     Ok(())
 }
 
-/// Appends the line of an event, with the event's number. Where memory is refused, `out` stays.
+/// Appends the line of an event, with the event's number. Where an allocation fails, `out` stays.
 pub fn put_told(alloc: Global, out: &mut Bytes, number: u64, line: PortLine) -> Result<(), NoMemory>
     ensures whole { OnOk result (out.new ≡ out.old ++ spec.told_line number line) }
     ensures stays { OnErr result (out.new ≡ out.old) }

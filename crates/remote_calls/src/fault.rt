@@ -19,7 +19,7 @@ pub enum SendFault {
     NoRoute,
     /// The host isn't next over the device.
     NotNeighbor,
-    /// A growth was refused for memory.
+    /// An allocation failed.
     NoMemory,
 }
 

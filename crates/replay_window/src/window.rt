@@ -1,4 +1,4 @@
-//! The window of a device, which tells stale stamps from fresh ones.
+//! The window of a device, which distinguishes stale stamps from fresh ones.
 ghost use Rattle.std.specs.Prelude.{◌≡◌, replicate};
 ghost use Rattle.replay_window.specs.Seen as spec;
 ghost use Rattle.replay_window.specs.Seen.{Seen};

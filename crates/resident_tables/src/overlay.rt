@@ -195,7 +195,7 @@ impl Overlay {
         value_of(alloc, self.find(base, &wanted), ty, now)
     }
 
-    /// What [`Tables::remove`] does to the rows after the changes; where memory is refused nothing changes.
+    /// What [`Tables::remove`] does to the rows after the changes; where an allocation fails nothing changes.
     /// Condition: the changes were used over `base` alone.
     pub fn remove(
         &mut self,

@@ -185,10 +185,10 @@ pub fn read_schedule(alloc: Global, bytes: &[u8]) -> Result<Schedule, LineFault>
     requires { length bytes.now ≤ 4194304 }
     // What is answered is what the file says.
     ensures found { IfOk result (λ s. schedule_of bytes.now ≡ Ok s) }
-    // A file that says a schedule is answered so, unless memory is refused.
+    // A file that says a schedule is answered so, unless an allocation fails.
     ensures only { (s : Schedule) → schedule_of bytes.now ≡ Ok s → MatchResult result (λ t. t ≡ s)
         (λ e. e ≡ NoMemory) }
-    // A refusal is the file's first one, unless memory is refused.
+    // A refusal is the file's first one, unless an allocation fails.
     ensures fault { IfErr result (λ e. (e ≡ NoMemory) ⊎ (schedule_of bytes.now ≡ Err e)) }
     // A schedule keeps the rules.
     ensures rules { IfOk result KeepsRules }

@@ -1,4 +1,4 @@
-//! What a node tells its neighbours of its routes.
+//! What a node advertises to its neighbours of its routes.
 use containers::Items;
 use plan_base::Host;
 
@@ -14,7 +14,7 @@ pub struct AdvertRow {
 /// Rows by host.
 pub type AdvertRows = Items<AdvertRow>;
 
-/// The routes that a node tells its neighbours.
+/// The routes that a node advertises to its neighbours.
 #[derive(Drop)]
 pub struct Advert {
     /// The node.

@@ -1,8 +1,8 @@
-//! What a service answers, and what it tells the owner.
+//! What a service answers, and what it reports to the owner.
 use containers::Items;
 use plan_base::{Exn, Value};
 
-/// What a service tells the node's owner.
+/// What a service reports to the node's owner.
 #[derive(Drop)]
 pub enum Note {
     /// A value that was printed.

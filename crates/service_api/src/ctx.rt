@@ -9,7 +9,7 @@ use std::alloc::Global;
 /// The neighbours of a node, each with the device that leads to it, by device.
 pub type Neighbours = Items<(Host, Dev)>;
 
-/// What stands around a visit. It doesn't change within one, but for the purse.
+/// The context of a visit. It doesn't change within one, but for the purse.
 #[derive(Drop)]
 pub struct Ctx {
     /// The host of the node.

@@ -8,7 +8,7 @@ pub enum PackageName {
     Net,
     /// The node's table.
     Resident,
-    /// What is told to the node's owner.
+    /// What is reported to the node's owner.
     Host,
 }
 

@@ -4,7 +4,7 @@ use Rattle.plan_base.specs.declared.memory.NoMemory.{NoMemory}
 use Rattle.service_api.specs.declared.answer.Answer.{Answer}
 use Rattle.service_api.specs.Services.{Rows, Served}
 
--- the answer and the rows are those that the call means; the rows stay where memory was refused
+-- the answer and the rows are those that the call means; the rows stay where an allocation failed
 abbrev pub Meets : Served → Rows → Result Answer NoMemory → Rows → Type 0
 Meets s old (Ok a) new = s ≡ record { answer = a; rows = new }
 Meets s old (Err e) new = new ≡ old

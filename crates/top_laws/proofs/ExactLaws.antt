@@ -1,4 +1,4 @@
--- What is in range is told by the outermost level.
+-- What is in range is decided by the outermost level.
 use Rattle.std.proofs.Common.{◌≡◌, Bool, true, refl, ◌∙◌, ap}
 use Rattle.std.specs.Prelude.{◌&&◌}
 use Rattle.std.proofs.lemmas.Bool.Decides.{nat_tests}

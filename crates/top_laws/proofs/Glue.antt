@@ -1,4 +1,4 @@
--- The texts that stand around the parts of a printed form, as their tokens.
+-- The texts between the parts of a printed form, as their tokens.
 use Rattle.std.proofs.Common.{◌≡◌, ℕ, ◌<◌, ◌≤◌, ◌^◌, ◌==◌, Bool, true, false, List, [], ◌∷◌, ◌++◌, get_or, Some, ℤ, FitsSigned, w64, refl, sym, ◌∙◌, subst, arith, append-nil}
 use Rattle.std.specs.Prelude.{codes}
 use Rattle.std.specs.Char.{is_ascii_digit, is_ascii_alphabetic, IsScalar}

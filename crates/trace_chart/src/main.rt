@@ -12,7 +12,7 @@ const REFUSED: u8 = 2;
 const READ_FAULT: u8 = 3;
 /// The exit code where the output can't be written.
 const WRITE_FAULT: u8 = 4;
-/// The exit code where memory was refused.
+/// The exit code where an allocation failed.
 const NO_MEMORY: u8 = 7;
 
 /// The bytes of the standard input, and one past the limit of a trace at most.

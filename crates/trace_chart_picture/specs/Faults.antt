@@ -1,4 +1,4 @@
--- Just when bytes have no chart, but for want of memory.
+-- Just when bytes have no chart, but for a failed allocation.
 use Rattle.std.specs.Prelude.{◌≡◌, ◌<◌, ℕ, List, length}
 use Rattle.trace_chart_picture.specs.declared.line.Entry.{Entry}
 use Rattle.trace_chart_picture.specs.declared.line.Trace.{Trace}

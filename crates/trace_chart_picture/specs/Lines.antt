@@ -86,7 +86,7 @@ paid_text evals rest = codes " evals " ++ (decimal evals ++ (codes " left " ++ d
 abbrev pub end_text : Family → List ℕ → ℕ → ℕ → List ℕ
 end_text f how evals rest = codes " " ++ (family_text f ++ (codes " " ++ (how ++ paid_text evals rest)))
 
--- a name with the bound that is told to it
+-- a name with the bound that is reported to it
 abbrev pub told_text : List ℕ → ℕ → List ℕ
 told_text n bound = n ++ (codes " bound " ++ decimal bound)
 

@@ -40,7 +40,7 @@ arrow_text m = path_text (stroke_word m.stroke) m.at ++ (codes "L" ++ (point_tex
 unfoldable pub inward_text : Mark → List ℕ
 inward_text m = if m.is_outside then path_text (stroke_word m.stroke) m.at ++ (codes "m-80 -12L" ++ (point_text m.at ++ close_path)) else []
 
--- an arrow to the outside, or nothing where the frame went onto the wire
+-- an arrow out of the network, or nothing where the frame went onto the wire
 unfoldable pub outward_text : Mark → List ℕ
 outward_text m = if m.is_outside then path_text (stroke_word m.stroke) m.at ++ (codes "l80 12" ++ close_path) else []
 

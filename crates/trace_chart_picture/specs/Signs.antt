@@ -1,4 +1,4 @@
--- How arrows and signs are told apart: classes of the style, and the forms of signs.
+-- How arrows and signs are distinguished: classes of the style, and the forms of signs.
 use Rattle.std.specs.Prelude.{ℕ, List, [], codes}
 use Rattle.trace_chart_picture.specs.declared.drawing.Kind.{Kind}
 use Rattle.trace_chart_picture.specs.declared.drawing.Kind.TheVariants as kind

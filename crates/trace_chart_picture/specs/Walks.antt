@@ -93,7 +93,7 @@ take_row l s = if takes_row l then record (free_row s) { is_row_used = true } el
 abbrev pub here : ℕ → Option ℕ → TraceWalk → LinePlace
 here across frame s = record { at = record { across = across; row = s.row }; begins = false; is_off = s.is_off; frame = frame }
 
--- a link that is told for the first time
+-- a link that is seen for the first time
 abbrev pub new_link : Option ℕ → TraceLink → List TraceLink → List TraceLink
 new_link (Some far) l ls = ls
 new_link None l ls = if nat_lt (length ls) 1024 then ls ++ l ∷ [] else ls

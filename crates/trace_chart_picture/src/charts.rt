@@ -72,8 +72,8 @@ fn drawing_text(alloc: Global, d: &Drawing) -> Result<Bytes, NoMemory>
     Ok(picture)
 }
 
-/// The chart of the trace that these bytes are, as SVG. Each refusal has its cause, but for want of
-/// memory.
+/// The chart of the trace that these bytes are, as SVG. Each refusal has its cause, but for a failed
+/// allocation.
 pub fn chart(alloc: Global, bytes: &[u8]) -> Result<Bytes, ChartFault>
     ensures chart { IfOk result (λ picture. IsChart bytes.now picture) }
     ensures fault { IfErr result (λ e. IsChartFault bytes.now e) }

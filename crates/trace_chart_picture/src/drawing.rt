@@ -82,7 +82,7 @@ pub struct Mark {
     pub is_outside: bool,
 }
 
-// (with a drop of its own, so that what lets a mark go need not work out how its label is dropped)
+// (with its own `Drop`, so that what drops a mark need not work out how its label is dropped)
 impl Drop for Mark {
     fn drop(self) {
         let Mark {
@@ -123,7 +123,7 @@ pub struct Drawing {
     pub height: u64,
 }
 
-// (with a drop of its own, as a mark)
+// (with its own `Drop`, as a mark)
 impl Drop for Drawing {
     fn drop(self) {
         let Drawing {

@@ -55,7 +55,7 @@ pub enum Line {
     Raised(Host, Family, Bytes, u32, u32),
     /// A visit passed its allowance of work, and so much is left.
     Spent(Host, Family, u32),
-    /// The source is told of a visit by a call of this handler, with this bound.
+    /// A visit is reported to the source by a call of this handler, with this bound.
     Handled(Host, Family, Bytes, u32),
     /// A packet was put into a queue with this bound.
     Queued(Host, Dev, Family, u32),
@@ -157,7 +157,7 @@ pub struct Entry {
     pub line: Line,
 }
 
-// (with a drop of its own, so that what lets an entry go need not work out how each line is dropped)
+// (with its own `Drop`, so that what drops an entry need not work out how each line is dropped)
 impl Drop for Entry {
     fn drop(self) {
         let Entry {
@@ -192,7 +192,7 @@ pub struct Trace {
     pub ledger: Option<Items<Row>>,
 }
 
-// (with a drop of its own, as an entry)
+// (with its own `Drop`, as an entry)
 impl Drop for Trace {
     fn drop(self) {
         let Trace {

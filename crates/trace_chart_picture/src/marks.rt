@@ -195,7 +195,7 @@ fn is_log(ledger: &Option<Items<Row>>) -> bool
 
 /// The chart of a trace. It has as many arrows as frames went onto the wire, as many crosses as
 /// frames were lost, and as many signs of ends as visits ended. It is refused where more than
-/// [`crate::MOST_HOSTS`] hosts are named, and else only for want of memory.
+/// [`crate::MOST_HOSTS`] hosts are named, and else only for a failed allocation.
 #[tactic(auto, using(crate::proofs::Counts::draws))]
 pub fn draw(alloc: Global, trace: &Trace) -> Result<Drawing, DrawFault>
     ensures drawn { IfOk result (λ d. Draws trace.now d) }

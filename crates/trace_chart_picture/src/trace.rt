@@ -146,7 +146,7 @@ fn read_body(
 }
 
 /// The trace that these bytes are, of a schedule or of a log. What is read prints as exactly these
-/// bytes; else the first line that goes wrong is told, the line behind the last one where the trace
+/// bytes; else the first line that goes wrong is reported, the line behind the last one where the trace
 /// ends too early.
 #[tactic(auto, unfolding(crate::specs::Traces::trace_text))]
 pub fn read_trace(alloc: Global, bytes: &[u8]) -> Result<Trace, TraceFault>

@@ -40,7 +40,7 @@ fn put_inward(alloc: Global, out: &mut Bytes, m: &Mark) -> Result<(), NoMemory>
     put_end(alloc, out, b"m-80 -12L", m.at)
 }
 
-/// Appends an arrow to the outside, or nothing where the frame went onto the wire.
+/// Appends an arrow out of the network, or nothing where the frame went onto the wire.
 #[tactic(auto, unfolding(crate::specs::Pictures::outward_text))]
 fn put_outward(alloc: Global, out: &mut Bytes, m: &Mark) -> Result<(), NoMemory>
     ensures { OnOk result (out.new ≡ out.old ++ outward_text m.now) }

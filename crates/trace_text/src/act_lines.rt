@@ -18,7 +18,7 @@ use plan_printer::print_value;
 use service_api::Note;
 use std::alloc::Global;
 
-/// Appends a number in decimal. Where memory is refused, `out` stays.
+/// Appends a number in decimal. Where an allocation fails, `out` stays.
 #[tactic(auto, using(std::proofs::lemmas::Fmt::decimal_digit))]
 pub fn put_number(out: &mut Bytes, n: u64) -> Result<(), NoMemory>
     ensures whole { OnOk result (out.new ≡ out.old ++ decimal n) }
@@ -34,7 +34,7 @@ pub fn put_number(out: &mut Bytes, n: u64) -> Result<(), NoMemory>
     Ok(())
 }
 
-/// Appends a family: its source and its serial number. Where memory is refused, a part of it may stand behind `out`.
+/// Appends a family: its source and its serial number. Where an allocation fails, a part of it may stand behind `out`.
 pub fn put_family(out: &mut Bytes, f: Family) -> Result<(), NoMemory>
     ensures { OnOk result (out.new ≡ out.old ++ spec.family_text f) }
 {
@@ -529,7 +529,7 @@ fn put_taken(out: &mut Bytes, event: u64, host: Host, dev: Dev, what: What) -> R
     text.put(out)
 }
 
-/// Appends the line of an act at a host, with the number of its event. Where memory is refused, a part of it may stand behind
+/// Appends the line of an act at a host, with the number of its event. Where an allocation fails, a part of it may stand behind
 /// `out`.
 #[tactic(auto, unfolding(node_core_spec::specs::Texts::act_text, node_core_spec::specs::Texts::act_line))]
 pub fn put_act_line(
@@ -566,7 +566,7 @@ pub fn put_act_line(
     }
 }
 
-/// Appends the line of an act at a host, with the number of its event. Where memory is refused, `out` stays.
+/// Appends the line of an act at a host, with the number of its event. Where an allocation fails, `out` stays.
 pub fn put_act(
     alloc: Global,
     event: u64,

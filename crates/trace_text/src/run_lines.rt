@@ -145,7 +145,7 @@ fn put_line(
     Ok(())
 }
 
-/// Appends the lines of an event, each with the event's number. Where memory is refused, a part of them may stand behind
+/// Appends the lines of an event, each with the event's number. Where an allocation fails, a part of them may stand behind
 /// `out`.
 pub fn put_all_lines(
     alloc: Global,

@@ -143,7 +143,7 @@ impl ShortText {
         self.number(event);
     }
 
-    /// Appends the text. Where memory is refused, `out` stays.
+    /// Appends the text. Where an allocation fails, `out` stays.
     pub fn put(&self, out: &mut Bytes) -> Result<(), NoMemory>
         ensures whole { OnOk result (out.new ≡ out.old ++ self.now) }
         ensures stays { OnErr result (out.new ≡ out.old) }
