@@ -11,6 +11,7 @@ from pathlib import Path
 from typing import List
 
 from edges.room import ROOT, Node, Room
+from planet_tools.frames.read import MAGIC
 
 PINGS = """svc print : (int) -> unit
 fun g(n : int) : unit = print(n)
@@ -29,7 +30,7 @@ def killed_node(room: Room, number: int, draw: random.Random) -> None:
         # not so much that a replay wouldn't take the log
         for _ in range(3):
             node.asks()
-            node.hears(b"PLAN" + draw.randbytes(draw.choice((3, 40, 40, 40, 8_000))))
+            node.hears(MAGIC + draw.randbytes(draw.choice((3, 40, 40, 40, 8_000))))
         time.sleep(0.002)
     os.kill(node.process.pid, draw.choice((signal.SIGKILL, signal.SIGTERM, signal.SIGINT, signal.SIGHUP)))
     node.process.wait()

@@ -1,34 +1,20 @@
 """The layer for scapy builds and reads the bytes of frames; values of bytes are worked out by hand from the formats."""
 from __future__ import annotations
 
-import importlib.util
-import logging
-from pathlib import Path
 from typing import Any
 
 import pytest
 
-logging.getLogger("scapy").setLevel(logging.ERROR)
+from planet_tools.frames.layer import layer
+
 SCAPY = pytest.importorskip("scapy.packet", reason="scapy is missing, install it with: apt-get install python3-scapy")
-PLACE = Path(__file__).resolve().parents[2] / "scapy" / "planet.py"
+L = layer("tests")
 ROUTE = "0c64656661756c74526f757465"
 # the chunk of `fun f() : unit = ()`, called without arguments
 UNIT_CHUNK = "0000010166000020016600"
 PACKET = f"504c414e0101 00000001 0000000000000001 00000002 00000009 {ROUTE} {UNIT_CHUNK}"
 ADVERT = "504c414e0102 00000002 0003 00000001 00000001 00000002 00000000 00000003 00000001"
 SAID = "packet 1.1 dest @2 bound 9 route defaultRoute\n|f|()\nfun f() : unit = ()\n"
-
-
-def layer() -> Any:
-    """The module of the layer."""
-    spec = importlib.util.spec_from_file_location("planet", PLACE)
-    assert spec and spec.loader
-    module = importlib.util.module_from_spec(spec)
-    spec.loader.exec_module(module)
-    return module
-
-
-L = layer()
 
 
 def held(text: str) -> bytes:
