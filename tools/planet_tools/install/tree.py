@@ -11,9 +11,10 @@ from planet_tools.manual import pages
 ROOT = pathlib.Path(__file__).resolve().parents[3]
 HOME = "lib/planet"
 MANIFEST = f"{HOME}/installed"
-TOOLS = ("explore", "fleet", "scenario", "send", "sweep", "trace")
+# what the launcher calls itself
 INSIDE = ("explain", "front")
-PACKAGES = (*INSIDE, *TOOLS, "frames", "install", "manual", "plot")
+# what is of use to who changes the repository alone
+LEFT_OUT = ("editor", "explorer_test", "tests", "__pycache__")
 SCRIPTS = ("eval", "install", "sources.py", "build/together")
 
 
@@ -38,14 +39,26 @@ def one(file: str, to: str) -> tuple[str, Entry]:
     return to, Entry(source=ROOT / file, is_run=os.access(ROOT / file, os.X_OK))
 
 
+def tools() -> list[str]:
+    """Returns the names of the tools."""
+    known = sorted(it.name for it in (ROOT / "tools").iterdir() if it.is_file() and os.access(it, os.X_OK))
+    return [it for it in known if it not in INSIDE]
+
+
+def packages() -> list[str]:
+    """Returns the names of the packages that the tools stand on."""
+    known = sorted(it.name for it in (ROOT / "tools/planet_tools").iterdir() if it.is_dir())
+    return [it for it in known if it not in LEFT_OUT]
+
+
 def home(program: pathlib.Path, built_from: str) -> Iterator[tuple[str, Entry]]:
     """Yields what the program and the tools stand on, in a folder of their own."""
     yield f"{HOME}/program", Entry(source=program, is_run=True)
     yield f"{HOME}/built-from", Entry(built_from)
     yield from (one(it, f"{HOME}/{it}") for it in ("planet", "VERSION"))
     yield from (one(f"scripts/{it}", f"{HOME}/scripts/{it}") for it in SCRIPTS)
-    yield from (one(f"tools/{it}", f"{HOME}/tools/{it}") for it in (*TOOLS, *INSIDE))
-    for folder in ("explorer", "scapy", "wireshark", *(f"planet_tools/{it}" for it in PACKAGES)):
+    yield from (one(f"tools/{it}", f"{HOME}/tools/{it}") for it in (*tools(), *INSIDE))
+    for folder in ("explorer", "scapy", "wireshark", *(f"planet_tools/{it}" for it in packages())):
         yield from copied(ROOT / "tools" / folder, f"{HOME}/tools/{folder}")
     for file in sorted((ROOT / "tools/planet_tools").glob("*.*")):
         yield one(f"tools/planet_tools/{file.name}", f"{HOME}/tools/planet_tools/{file.name}")
@@ -70,7 +83,7 @@ def commands() -> Iterator[tuple[str, Entry]]:
     """Yields the commands, as links to what they run."""
     yield "bin/planet", Entry(link=f"../{HOME}/planet")
     yield "bin/planet-eval", Entry(link=f"../{HOME}/scripts/eval")
-    yield from ((f"bin/planet-{it}", Entry(link=f"../{HOME}/tools/{it}")) for it in TOOLS)
+    yield from ((f"bin/planet-{it}", Entry(link=f"../{HOME}/tools/{it}")) for it in tools())
 
 
 def made(program: pathlib.Path, built_from: str, date: str) -> dict[str, Entry]:

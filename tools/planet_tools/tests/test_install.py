@@ -43,7 +43,8 @@ def test_it_runs_where_it_is_installed(tmp_path: Path, entries: dict[str, tree.E
     assert said(planet, "check", "-") == "check /dev/stdin\n"
     assert said(planet, "--version") == BUILT_FROM
     assert said(planet, "help", "gather").startswith("usage: planet gather PORT FILE\n")
-    for tool in tree.TOOLS:
+    assert {"explore", "trace", "scenario"} <= set(tree.tools())
+    for tool in tree.tools():
         assert said(prefix / f"bin/planet-{tool}", "--help").startswith("usage: ")
     for file in SHARED:
         assert (prefix / "share" / file).exists(), file
