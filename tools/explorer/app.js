@@ -1,7 +1,7 @@
 // The page: what was chosen, where in time it is, and what each view shows of it.
 import { Balance } from "./balance.js";
 import { byId, html, refill, say, svg } from "./dom.js";
-import { Ledger, Tree } from "./family.js";
+import { HEADS, Ledger, Tree } from "./family.js";
 import { LineView, fillKinds } from "./lines.js";
 import { Network } from "./network.js";
 import { PacketView } from "./packet.js";
@@ -227,6 +227,7 @@ class Page {
     const { run, event, choice } = this;
     const subject = this.subject();
     byId("slider").value = String(event + 1);
+    byId("slider").setAttribute("aria-valuetext", String(run.number(event)));
     say(byId("now"), event < 0 ? `before the first of ${run.eventCount}` : `event ${run.number(event)} of ${run.number(run.eventCount - 1)}`);
     this.network.show(event, { ...choice, packet: subject.packet?.index ?? -1 });
     this.lines.show(event);
@@ -337,7 +338,7 @@ function explain() {
   });
   const signs = WORDS.filter((word) => word !== "port").map((word) => [signOf(word, 13), word]);
   refill(byId("legend"), ...[...marks, ...signs].map(([sign, name]) => html("div", {}, html("dt", {}, sign), html("dd", {}, name))));
-  refill(byId("ledger-head"), ...["family", "granted", "hops", "evals", "live", "left"].map((name) => html("span", {}, name)));
+  refill(byId("ledger-head"), ...["family", ...HEADS].map((name) => html("span", {}, name)));
 }
 
 const page = new Page();

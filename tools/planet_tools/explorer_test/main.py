@@ -11,7 +11,7 @@ from typing import Callable, List, Sequence, Tuple
 
 from planet_tools.explore import page
 from planet_tools.explore.logs import Program, run_program
-from planet_tools.explorer_test import checks, fleets, pictures, schedules
+from planet_tools.explorer_test import checks, fleets, looks, pictures, schedules
 from planet_tools.explorer_test.browser import Browser
 from planet_tools.explorer_test.figures import measured
 
@@ -19,7 +19,7 @@ ROOT = Path(__file__).resolve().parents[3]
 SEEDS = range(1, 13)
 GROWN = (1, 2)
 GROWN_EVENTS = 60
-CHECKS = ("steps", "inputs", "choices", "labels", "ledgers", "fleets")
+CHECKS = ("steps", "inputs", "choices", "labels", "looks", "ledgers", "fleets")
 FIGURES = "figures"
 STEPPED = (
     "ticks-and-ping", "first-run", "loss-and-order", "frames-repeat", "handler-called", "bytes-from-outside",
@@ -117,6 +117,18 @@ class Trial:
         traces = [self.trace_of(name, schedules.quiet_network(links)) for name, links in networks.items()]
         checks.check_labels(self.browser, traces)
         return f"no names over each other in {len(traces)} networks"
+
+    def looks(self) -> str:
+        """Texts and controls as a person sees them."""
+        widest = self.room / "widest.trace"
+        widest.write_text(looks.WIDEST, "utf-8")
+        shelf = ROOT / "samples/programs"
+        for trace, keys in (
+            (widest, ["End"]), (self.ping, ["ArrowRight"] * 14), (shelf / "flood/trace", ["n"] * 12),
+            (shelf / "traceroute/trace", ["End"] + ["p"] * 12),
+        ):
+            looks.check_looks(self.browser, trace, keys)
+        return "nothing is cut, no names lie over each other, and each control has a name"
 
     def fleets(self) -> str:
         """Live fleets as one run."""
