@@ -15,6 +15,7 @@ const KEYS = [
   ["Esc", "nothing chosen, no filters"], ["↑ ↓ Enter", "in a list: move, choose"],
 ];
 const SPEEDS = ["1", "4", "20"];
+const OF_SLIDERS = new Set(["ArrowLeft", "ArrowRight", "ArrowUp", "ArrowDown", "Home", "End", "PageUp", "PageDown"]);
 
 class Page {
   constructor() {
@@ -281,8 +282,10 @@ class Page {
       press.target.blur?.();
       return;
     }
-    const isOwn = press.target.matches?.("select, input[type=range]") && press.key !== "n" && press.key !== "p";
-    if (isTyping || isOwn || (press.key === " " && press.target.matches?.("button, input, a"))) return;
+    const isChoosing = press.target.matches?.("select") && press.key !== "n" && press.key !== "p";
+    const isSliding = press.target.matches?.("input[type=range]") && OF_SLIDERS.has(press.key);
+    const isPressing = press.key === " " && press.target.matches?.("button, input:not([type=range]), a");
+    if (isTyping || isChoosing || isSliding || isPressing) return;
     const acts = {
       ArrowRight: () => this.step(1), ArrowLeft: () => this.step(-1), n: () => this.jump(1), p: () => this.jump(-1), " ": () => this.togglePlay(),
       Home: () => this.go(-1), End: () => this.go(this.run.eventCount - 1), a: () => this.toggle("adverts"), t: () => this.toggle("ticks"),

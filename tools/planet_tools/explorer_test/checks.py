@@ -237,6 +237,13 @@ def check_selection(browser: Browser, trace: Path) -> None:
     browser.press("3")
     browser.run("return new Promise((done) => setTimeout(done, 1500))")
     same("the end of playing", [now_of(browser), browser.run(TEXTS, "#play")[0]], ["14", "play"])
+    browser.press("Home", "1")
+    browser.run("document.getElementById('slider').focus()")
+    browser.press(" ")
+    same("play by a key on the slider", browser.run(TEXTS, "#play")[0], "pause")
+    browser.press(" ")
+    same("pause by a key on the slider", browser.run(TEXTS, "#play")[0], "play")
+    browser.run("document.activeElement.blur()")
     check_packet(browser)
 
 

@@ -37,23 +37,29 @@ const cut = all(".host").flatMap((host) => [...host.querySelectorAll("text")]
 const ledger = box(document.getElementById("ledger-panel"));
 const numbers = all("#ledger-head span, #ledger .number");
 cut.push(...numbers.filter((it) => it.scrollWidth > it.clientWidth + 1 || !(box(it).right <= ledger.right)));
-cut.push(...all("header *, .bar *, #time *, #numbers *").filter((it) => box(it).left < -1 || box(it).right > innerWidth + 1));
+const rows = all("header *, .bar *, #time *, #numbers *");
+cut.push(...rows.filter((it) => box(it).left < -1 || box(it).right > innerWidth + 1));
 const axis = all("#areas text").filter((it) => box(it).left < box(document.getElementById("areas")).left);
 return [...cut, ...axis].map((it) => it.textContent);
 """
 OVER = BOXES + """
-const kinds = {device: all("text.device"), host: all(".host rect"), sign: all(".signs .sign"), mark: all(".mark path")};
-const name = (it) => it.textContent || it.closest(".host")?.getAttribute("aria-label") || it.closest(".mark")?.dataset.frame;
+const others = all("text.device, .host rect, .signs .sign, .mark path");
+const owner = (it) => it.closest(".host")?.getAttribute("aria-label") ?? `frame ${it.closest(".mark")?.dataset.frame}`;
+const name = (it) => it.textContent || owner(it);
 const found = [];
-for (const one of kinds.device) {
-  for (const [kind, others] of Object.entries(kinds)) {
-    for (const other of others) if (other !== one && meet(box(one), box(other))) found.push(`${name(one)} and ${kind} ${name(other)}`);
+for (const one of all("text.device")) {
+  for (const other of others) {
+    if (other !== one && meet(box(one), box(other))) found.push(`${name(one)} and ${name(other)}`);
   }
 }
+const written = (it) => {
+  const range = document.createRange();
+  range.selectNodeContents(it);
+  return box(range);
+};
 const spans = all("#ledger-head span, #ledger .row:first-child .number");
 spans.forEach((one, place) => spans.slice(0, place).forEach((other) => {
-  const [a, b] = [one, other].map((it) => { const range = document.createRange(); range.selectNodeContents(it); return box(range); });
-  if (meet(a, b)) found.push(`${name(one)} and ${name(other)}`);
+  if (meet(written(one), written(other))) found.push(`${name(one)} and ${name(other)}`);
 }));
 return found;
 """
@@ -62,7 +68,8 @@ const controls = document.querySelectorAll("button, input:not([type=file]), sele
 const name = (it) => it.getAttribute("aria-label") || it.labels?.[0]?.textContent.trim() || it.textContent.trim();
 const isLive = (it) => ["status", "alert"].includes(it.getAttribute("role"));
 const bare = [...controls].filter((it) => !isLive(it) && !name(it));
-const roleless = [...document.querySelectorAll("div[aria-label], div[tabindex]")].filter((it) => !it.getAttribute("role"));
+const divs = [...document.querySelectorAll("div[aria-label], div[tabindex]")];
+const roleless = divs.filter((it) => !it.getAttribute("role"));
 return [...bare, ...roleless].map((it) => it.outerHTML.slice(0, 80));
 """
 

@@ -3,6 +3,7 @@ from __future__ import annotations
 
 import argparse
 import os
+import shutil
 import sys
 import tempfile
 from concurrent.futures import ThreadPoolExecutor
@@ -47,7 +48,7 @@ class Trial:
 
     def __init__(self, browser: Browser, program: str, room: Path) -> None:
         self.browser, self.program, self.room = browser, program, room
-        self.ping = self.trace_of("ping", (ROOT / "samples/ticks-and-ping/ping.schedule").read_text("utf-8"))
+        self.ping = self.kept("ticks-and-ping", "ping")
 
     def trace_of(self, name: str, text: str) -> Path:
         """The trace of a schedule, as a file."""
@@ -57,12 +58,15 @@ class Trial:
         file.write_text(trace, "utf-8")
         return file
 
+    def kept(self, sample: str, name: str) -> Path:
+        """The trace that is kept of a sample's schedule, as a file of this name."""
+        file = self.room / f"{name}.trace"
+        shutil.copyfile(ROOT / f"samples/{sample}/output", file)
+        return file
+
     def steps(self) -> str:
         """Each event of the samples."""
-        count = 0
-        for sample in STEPPED:
-            words = (ROOT / f"samples/{sample}/command").read_text("utf-8").split()
-            count += checks.check_steps(self.browser, self.trace_of(sample, (ROOT / words[1]).read_text("utf-8")))
+        count = sum(checks.check_steps(self.browser, self.kept(sample, sample)) for sample in STEPPED)
         return f"{count} events as the lines say"
 
     def ledgers(self) -> str:
@@ -92,9 +96,9 @@ class Trial:
 
         with ThreadPoolExecutor(2) as workers:
             made = [*workers.map(grown, GROWN), *workers.map(drawn, SEEDS), *workers.map(settled, schedules.SHAPES)]
-            made += [(file.parent.name, file.read_text("utf-8")) for file in schedules.rows_by_hand(ROOT)]
             names = [f"{place}-{name}" for place, (name, _) in enumerate(made)]
-            return list(zip(names, workers.map(self.trace_of, names, (text for _, text in made))))
+            traces = list(zip(names, workers.map(self.trace_of, names, (text for _, text in made))))
+        return traces + [(file.parent.name, file) for file in schedules.kept_traces(ROOT)]
 
     def inputs(self) -> str:
         """Bad inputs and hostile texts."""

@@ -5,7 +5,7 @@ import random
 import subprocess
 import sys
 from pathlib import Path
-from typing import Callable, Iterator, List, Optional, Set
+from typing import Callable, Iterator, List, Set
 
 from planet_tools.explore.logs import Program
 from planet_tools.explorer_test.reckoning import states
@@ -199,24 +199,11 @@ def settled(program: str, shape: str, room: Path) -> str:
     return subprocess.run(words, capture_output=True, text=True, check=True).stdout
 
 
-def replayed(row: Path) -> Optional[Path]:
-    """The schedule or log of a row whose words replay one file, and which ends well."""
-    words = (row / "words").read_text("utf-8").split("\n") if (row / "words").exists() else []
-    if words[:1] != ["replay"] or (row / "status").read_text("utf-8").strip() not in ("", "0"):
-        return None
-    file = row / words[1]
-    return file if file.is_file() else None
-
-
-def rows_by_hand(root: Path) -> Iterator[Path]:
-    """The schedules that were written by hand: those of the samples, and those of the rows of replay."""
-    for command in sorted((root / "samples").glob("*/command")):
-        words = command.read_text("utf-8").split()
-        if words[0] == "replay":
-            yield root / words[1]
-    for row in sorted((root / "tests/replay").iterdir()):
-        file = replayed(row) if row.is_dir() else None
-        if file:
+def kept_traces(root: Path) -> Iterator[Path]:
+    """The traces with a ledger of schedules that were written by hand: of the samples, and of the rows of replay."""
+    for file in sorted([*root.glob("samples/*/output"), *root.glob("tests/replay/*/output")]):
+        text = file.read_text("utf-8")
+        if text.startswith("planet trace 1\n") and "\nledger\n" in text:
             yield file
 
 

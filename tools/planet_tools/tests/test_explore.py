@@ -131,6 +131,15 @@ def test_what_is_no_trace_is_refused(text: str, told: str, tmp_path: Path, capsy
     assert list(tmp_path.iterdir()) == [file]
 
 
+def test_a_trace_of_more_bytes_than_the_page_reads_is_refused(
+    tmp_path: Path, capsys: pytest.CaptureFixture[str]
+) -> None:
+    file = tmp_path / "it.trace"
+    file.write_bytes(b"planet trace 1\n" + b"2 nothing\n" * 6_711_000 + b"end\n")
+    assert main([str(file)]) == 2
+    assert capsys.readouterr().err == f"explore: more than 64 MB, {file}\n"
+
+
 def test_a_page_stands_beside_its_trace(tmp_path: Path) -> None:
     file = tmp_path / "run.trace"
     file.write_text("planet trace 1\n1 nothing\nledger\nend\n")
