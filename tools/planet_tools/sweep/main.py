@@ -92,7 +92,8 @@ def command_of(asked: argparse.Namespace, planet: str) -> list[str]:
 
 def batches_of(runs: list[int], asked: argparse.Namespace) -> list[str]:
     """The runs in batches: long enough that starting costs little, short enough that all processors end together."""
-    size = asked.batch or max(1, min(BATCH_MOST, len(runs) // (8 * (os.cpu_count() or 1))))
+    processors = (os.cpu_count() or 1) * max(1, len(",".join(asked.sshlogin).split(",")))
+    size = asked.batch or max(1, min(BATCH_MOST, len(runs) // (8 * processors)))
     if size < 1:
         fail("sweep", "a batch has at least one run", "--batch")
     return [ranges_of(runs[first:first + size]) for first in range(0, len(runs), size)]
@@ -111,7 +112,8 @@ def sweep(grid: Grid, table: Table, asked: argparse.Namespace, planet: str, outp
         batches.write("".join(batch + "\n" for batch in batches_of(runs, asked)))
         batches.flush()
         words = [*command, "--arg-file", batches.name, shlex.join(command_of(asked, planet)) + " {}"]
-        child = subprocess.Popen(words, stdin=subprocess.DEVNULL, stdout=subprocess.PIPE, start_new_session=True)
+        child = subprocess.Popen(words, stdin=subprocess.DEVNULL, stdout=subprocess.PIPE, start_new_session=True,
+                                 preexec_fn=program.ended_with_parent(signal.SIGTERM))
         try:
             receive(table, child, len(runs))
         except BaseException:
