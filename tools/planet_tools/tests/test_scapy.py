@@ -1,11 +1,15 @@
 """The layer for scapy builds and reads the bytes of frames; values of bytes are worked out by hand from the formats."""
 from __future__ import annotations
 
+import re
+import subprocess
+import sys
 from typing import Any
 
 import pytest
 
 from planet_tools.frames.layer import layer
+from planet_tools.program import ROOT
 
 SCAPY = pytest.importorskip("scapy.packet", reason="scapy is missing, install it with: apt-get install python3-scapy")
 L = layer("tests")
@@ -124,3 +128,11 @@ def test_no_field_hides_a_name_of_scapys() -> None:
     for one in (L.PLAN, L.PlanPacket, L.PlanHandled, L.PlanAdvert, L.PlanAsk, L.PlanRow, L.PlanChunk):
         for it in one.fields_desc:
             assert not hasattr(SCAPY.Packet, it.name), it.name
+
+
+def test_the_example_of_the_page_prints_what_the_page_shows() -> None:
+    page = (ROOT / "docs/use/data.md").read_text("utf-8")
+    found = re.search(r"```python\n(.*?)```.*?```\n(.*?)```", page, re.S)
+    assert found
+    done = subprocess.run([sys.executable, "-c", found[1]], cwd=ROOT, capture_output=True, text=True, check=False)
+    assert (done.stdout, done.returncode) == (found[2], 0), done.stderr
