@@ -23,6 +23,8 @@ from planet_tools.sweep.table import BadTable, Table, line_of
 ABOUT = """Runs a scenario once for each way to choose values for names that it sets, side by side by GNU parallel, and
 writes a table with a row a run. What was done is kept: the same words again run what is missing."""
 BATCH_MOST = 50
+# as a shell has it of SIGINT
+BROKEN_OFF = 130
 
 
 def main(words: Sequence[str]) -> int:
@@ -48,7 +50,12 @@ def main(words: Sequence[str]) -> int:
     if asked.take is not None:
         take(table, asked.take)
     else:
-        sweep(grid, table, asked, planet, output)
+        try:
+            sweep(grid, table, asked, planet, output)
+        except KeyboardInterrupt:
+            print("sweep: broken off, the same words again run what is missing", file=sys.stderr)
+            told_end(grid, table, output)
+            return BROKEN_OFF
     return told_end(grid, table, output)
 
 
