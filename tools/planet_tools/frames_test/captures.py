@@ -10,7 +10,7 @@ from typing import List, Optional, Tuple
 from planet_tools.explore.logs import Program
 from planet_tools.frames_test import wireshark
 from planet_tools.frames_test.show import shown
-from planet_tools.program import ROOT
+from planet_tools.program import ROOT, run
 from planet_tools.trace.capture import HOSTS_MAX, PORT, datagrams_of, write_capture
 from planet_tools.trace.files import run_of
 from planet_tools.trace.forms import Refused
@@ -39,12 +39,14 @@ def sample_datagrams(program: Program, sample: Path, room: Path) -> List[Datagra
         return datagrams_of(run_of(sample.read_text("utf-8"), name), None, PORT, name)
     text = sample.read_text("utf-8")
     if sample.suffix == ".scenario":
-        words = [sys.executable, str(ROOT / "tools/scenario"), str(sample), "--planet", program.path]
-        text = subprocess.run(words, capture_output=True, text=True, check=True).stdout
+        made = run(sys.executable, [str(ROOT / "tools/scenario"), str(sample), "--planet", program.path])
+        if made.status != 0:
+            raise Refused(f"{made.note}, {name}")
+        text = made.output.decode()
     schedule = room / "sample.schedule"
     schedule.write_text(with_frames(text), "utf-8")
-    run = run_of(program.on_text("replay", with_frames(text)), name)
-    return datagrams_of(run, read_schedule(str(schedule)), PORT, name)
+    trace = run_of(program.on_text("replay", with_frames(text)), name)
+    return datagrams_of(trace, read_schedule(str(schedule)), PORT, name)
 
 
 def fault_of_capinfos(path: Path, count: int) -> Optional[str]:
@@ -70,8 +72,8 @@ def compared(program: Program, sample: Path, room: Path) -> Tuple[int, List[str]
     found = wireshark.dissected(path, f"{PORT}-{PORT + HOSTS_MAX}")
     wrong = [fault_of_capinfos(path, len(datagrams))]
     wrong += [f"tshark shows {len(found)} of {len(datagrams)} frames"] if len(found) != len(datagrams) else []
+    said = {it: shown(program.path, it, room / "frame.hex") for it in {datagram.payload for datagram in datagrams}}
     for datagram, fields in zip(datagrams, found):
-        said = shown(program.path, datagram.payload, room / "frame.hex")
-        otherwise = wireshark.fault_of(fields, said, datagram.payload)
+        otherwise = wireshark.fault_of(fields, said[datagram.payload], datagram.payload)
         wrong += [f"event {datagram.seconds}: {otherwise}"] if otherwise else []
     return len(datagrams), [f"{name}: {it}" for it in wrong if it]

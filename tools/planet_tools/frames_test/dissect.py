@@ -10,6 +10,7 @@ from pathlib import Path
 from typing import Dict, Iterable, Iterator, List, Optional, Sequence, Tuple
 
 from planet_tools.debian import SCAPY, has_all
+from planet_tools.frames.layer import layer
 from planet_tools.frames_test import sets, wireshark
 from planet_tools.program import run
 from planet_tools.trace.forms import Refused
@@ -102,6 +103,8 @@ def main(given: Sequence[str], about: str) -> int:
     if not has_all("dissect", wireshark.COMMANDS, SCAPY):
         print(f"dissect: {wireshark.OTHERWISE}", file=sys.stderr)
         return 0
+    # goes on with the python3 that has scapy, before anything runs
+    layer("dissect")
     with tempfile.TemporaryDirectory() as folder:
         try:
             return tried(os.path.abspath(program) if program else None, Path(folder))

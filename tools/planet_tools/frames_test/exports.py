@@ -15,6 +15,7 @@ from typing import Callable, Dict, List, Sequence
 from planet_tools.debian import SCAPY, has_all
 from planet_tools.explore.logs import Program
 from planet_tools.explorer_test.schedules import long_schedule
+from planet_tools.frames.layer import layer
 from planet_tools.frames_test import captures, lines, show, wireshark
 from planet_tools.program import ROOT
 from planet_tools.trace.forms import Refused
@@ -75,6 +76,9 @@ class Trial:
 
     def captures(self) -> List[str]:
         """What tshark shows of the samples' captures."""
+        if not has_all("exports", wireshark.COMMANDS, {}):
+            print(f"exports: {wireshark.OTHERWISE}; no capture was tried", file=sys.stderr)
+            return []
         chosen = captures.samples()
         step = max(1, len(chosen) // self.size.samples)
         tried = [captures.compared(self.program, it, self.room) for it in chosen[::step]]
@@ -110,8 +114,10 @@ def words_of(given: Sequence[str], about: str) -> argparse.Namespace:
 def main(given: Sequence[str], about: str) -> int:
     """Does what the words ask for, and answers the exit status."""
     words = words_of(given, about)
-    if not has_all("exports", wireshark.COMMANDS, SCAPY):
+    if not has_all("exports", {}, SCAPY):
         return 1
+    # goes on with the python3 that has scapy, before anything runs
+    layer("exports")
     wrong: List[str] = []
     with tempfile.TemporaryDirectory() as folder:
         program = Program(os.path.abspath(words.program), folder)
