@@ -84,27 +84,30 @@ class Page {
     say(byId("fault"), fault ? `${place}${shown} — what stands before it is shown` : "");
   }
 
-  /** Whether the books, as the lines make them, are those that the trace has. */
+  /** Whether the ledger, as the lines make it, is the one that the trace has. */
   sayVerdict() {
-    const { run } = this;
+    const [className, text, more] = this.verdict();
     const box = byId("verdict");
-    box.title = "";
-    box.className = "good";
-    if (run.gap > 0) {
-      box.className = "bad";
-      say(box, `lines are missing, first before line ${run.gap}, so counts and places may be wrong`);
-    } else if (run.differences.length > 0) {
-      box.className = "bad";
-      box.title = run.differences.slice(0, 50).join("\n");
-      say(box, `the ledger isn't what the lines make: ${run.differences[0]}${run.differences.length > 1 ? `, and ${run.differences.length - 1} more` : ""}`);
-    } else if (run.accounts.unbalanced) {
-      box.className = "bad";
-      say(box, `the counts of ${run.accounts.unbalanced.family} don't add up from event ${run.number(run.accounts.unbalanced.event)} on`);
-    } else if (run.ledger && !run.fault) {
-      const { length } = run.ledger;
-      say(box, `the ledger of ${length} ${length === 1 ? "family" : "families"} is what the lines make`);
-    } else if (run.fault) say(box, "the trace ends early, so it has no ledger to compare with");
-    else say(box, run.isOpen ? "a node's log: it has no ledger, and frames come from outside" : "the trace has no ledger to compare with");
+    box.className = className;
+    box.title = more ?? "";
+    say(box, text);
+  }
+
+  /** The verdict as a class, a text, and what more there is to say. */
+  verdict() {
+    const { gap, differences, accounts, ledger, isWhole, isOpen } = this.run;
+    if (gap > 0) return ["bad", `lines are missing, first before line ${gap}, so counts and places may be wrong`];
+    if (differences.length > 0) {
+      const others = differences.length > 1 ? `, and ${differences.length - 1} more` : "";
+      return ["bad", `the ledger isn't what the lines make: ${differences[0]}${others}`, differences.slice(0, 50).join("\n")];
+    }
+    if (accounts.unbalanced) {
+      const { family, event } = accounts.unbalanced;
+      return ["bad", `the counts of ${family} don't add up from event ${this.run.number(event)} on`];
+    }
+    if (!isWhole) return ["open", "the trace ends early, so it has no ledger to compare with"];
+    if (ledger) return ["good", `the ledger of ${ledger.length} ${ledger.length === 1 ? "family" : "families"} is what the lines make`];
+    return ["open", isOpen ? "a node's log: it has no ledger, and frames come from outside" : "the trace has no ledger to compare with"];
   }
 
   fillChoices() {

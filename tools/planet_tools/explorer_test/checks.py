@@ -135,6 +135,7 @@ def check_wrong_ledgers(browser: Browser, trace: Path, room: Path) -> None:
         browser.load(file)
         verdict = browser.shown()["verdict"]
         same(f"a ledger with a wrong {name}", verdict.startswith("the ledger isn't what the lines make: "), True)
+        same(f"a ledger with a wrong {name}", browser.shown()["judged"], "bad")
 
 
 def bad_inputs(trace: str) -> Dict[str, Any]:
@@ -171,7 +172,9 @@ def check_bad_inputs(browser: Browser, trace: Path, room: Path) -> int:
         if words not in shown["fault"]:
             raise Wrong(f"{name}: {shown['fault']!r} doesn't say {words!r}")
         browser.press("End")
-        same(f"{name}: the last event", browser.shown()["now"].split(" ")[-1], str(last or 14))
+        shown = browser.shown()
+        same(f"{name}: the last event", shown["now"].split(" ")[-1], str(last or 14))
+        same(f"{name}: the ledger", shown["judged"], "good" if last in (None, 14) else "open")
         file.unlink()
     return len(cases)
 
