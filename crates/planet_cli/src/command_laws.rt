@@ -233,7 +233,8 @@ pub fn fleet_accepts_once()
         → AcceptOnce a.links logs }
 {}
 
-/// It asks at most for its file and for the logs that this names, in order, each once.
+/// It asks at most for its file and for the logs that this names, in order, each once, and for a log only where those before it
+/// say logs: an audit whose first log is refused never looks at the others.
 pub fn audit_asked()
     ensures { (file : List ℕ) (cause : Why) (old new : Outside) (n m : SinkState)
         → Calls (Some (audit file)) cause old new n m
