@@ -53,6 +53,7 @@ def main(words: Sequence[str]) -> int:
         try:
             sweep(grid, table, asked, planet, output)
         except KeyboardInterrupt:
+            clear_progress()
             print("sweep: broken off, the same words again run what is missing", file=sys.stderr)
             told_end(grid, table, output)
             return BROKEN_OFF
@@ -143,9 +144,14 @@ def receive(table: Table, child: subprocess.Popen[bytes], wanted: int) -> None:
             far = f"{number:,} of {wanted:,} runs, {table.failed:,} failed, some {left:,.0f} seconds left"
             print(f"\r\033[Ksweep: {far}", end="", file=sys.stderr, flush=True)
             told = now
+    clear_progress()
+    child.wait()
+
+
+def clear_progress() -> None:
+    """Takes the line away that says how far it is."""
     if sys.stderr.isatty():
         print("\r\033[K", end="", file=sys.stderr, flush=True)
-    child.wait()
 
 
 def take(table: Table, folder: Path) -> None:
