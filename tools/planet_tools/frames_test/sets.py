@@ -18,6 +18,8 @@ from planet_tools.program import ROOT
 # of a long frame, beginnings and changed bytes are tried near both its ends
 LONG, NEAR = 1_000, 40
 RANDOM = 250
+# a serial number that no other field has
+SERIAL = 2**40
 # the kinds of frames of both versions
 KINDS = ((1, 1), (1, 2), (1, 3), (2, 1), (2, 2), (2, 4))
 
@@ -67,12 +69,14 @@ def stamped(frame: bytes, boot: int, link: int) -> bytes:
     return bytes(plan.PLAN(version=2, kind=read.kind, boot=boot, link=link) / read.payload)
 
 
-def handled(handler: str, parameter: str = "string") -> bytes:
-    """A packet with a handler, whose program has a function `h` of one parameter and `f` of none."""
+def handled(handler: str, parameter: str = "string", gives: object = ()) -> bytes:
+    """A packet with a handler, whose program has a function `h` of one parameter, which gives this, and `f` of none."""
     plan = layer("frames")
-    handles = plan.Function("h", (("x", plan.Type(parameter)),), plan.UNIT, plan.literal(()))
+    result = plan.UNIT if gives == () else plan.Type("int")
+    handles = plan.Function("h", (("x", plan.Type(parameter)),), result, plan.literal(gives))
     program = plan.Program((), (), (handles, plan.Function("f", (), plan.UNIT, plan.literal(()))))
-    return bytes(plan.PLAN(version=2, boot=7, link=3) / plan.PlanHandled(handler=handler, chunk=plan.chunk_of(program)))
+    packet = plan.PlanHandled(serial=SERIAL, handler=handler, chunk=plan.chunk_of(program))
+    return bytes(plan.PLAN(version=2, boot=7, link=3) / packet)
 
 
 def second_version(shown: Dict[bytes, str]) -> Dict[bytes, str]:
@@ -85,11 +89,12 @@ def second_version(shown: Dict[bytes, str]) -> Dict[bytes, str]:
                 frames[stamped(frame, boot, link)] = f"{first} boot {boot} link {link}\n{rest}"
     good = handled("h")
     frames[good] = (
-        "packet 1.1 dest @2 bound 9 route defaultRoute boot 7 link 3 handler h\n"
+        f"packet 1.{SERIAL} dest @2 bound 9 route defaultRoute boot 7 link 3 handler h\n"
         "|f|()\nfun h(x : string) : unit = ()\nfun f() : unit = ()\n"
     )
-    # a function without parameters, one that isn't there, and one whose parameter is an int
-    frames[handled("f")] = frames[handled("g")] = frames[handled("h", "int")] = "IllTyped Handler"
+    # a function without parameters, one that isn't there, one whose parameter is an int, and one that gives an int
+    for it in (handled("f"), handled("g"), handled("h", "int"), handled("h", gives=1)):
+        frames[it] = "IllTyped Handler"
     frames[handled("if")] = "BadName 55"
     frames[good + b"\x00"] = f"Trailing {len(good)}"
     # kinds that a version doesn't have
