@@ -213,7 +213,7 @@ def preloaded(room: Room) -> Optional[str]:
     """The library that has calls fail, compiled; nothing where no compiler is there."""
     made = room.folder / "fail.so"
     if not made.exists():
-        words = ["cc", "-O1", "-shared", "-fPIC", "-o", str(made), str(Path(__file__).with_name("fail.c")), "-ldl"]
+        words = ["cc", "-O1", "-shared", "-fPIC", "-o", str(made), str(Path(__file__).with_name("fail.c"))]
         try:
             subprocess.run(words, check=True, capture_output=True)
         except (OSError, subprocess.CalledProcessError):
