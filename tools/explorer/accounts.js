@@ -78,6 +78,12 @@ export class Accounts {
     return Object.fromEntries(COUNTS.map((count) => [count, at < 0 ? 0 : this.columns[count].at(rows[at])]));
   }
 
+  /** The greatest number that each count reaches. */
+  greatest() {
+    const most = (column) => column.array.subarray(0, column.length).reduce((top, it) => Math.max(top, it), 0);
+    return Object.fromEntries(COUNTS.map((count) => [count, most(this.columns[count])]));
+  }
+
   /** The first event that changed a family's counts, or Infinity. */
   beginning(place) {
     const [row] = this.list[place].rows;

@@ -1,7 +1,7 @@
 // The page: what was chosen, where in time it is, and what each view shows of it.
 import { Balance } from "./balance.js";
 import { byId, html, refill, say, svg } from "./dom.js";
-import { Ledger, Tree } from "./family.js";
+import { HEADS, Ledger, Tree } from "./family.js";
 import { LineView, fillKinds } from "./lines.js";
 import { Network } from "./network.js";
 import { PacketView } from "./packet.js";
@@ -15,6 +15,7 @@ const KEYS = [
   ["Esc", "nothing chosen, no filters"], ["↑ ↓ Enter", "in a list: move, choose"],
 ];
 const SPEEDS = ["1", "4", "20"];
+const OF_SLIDERS = new Set(["ArrowLeft", "ArrowRight", "ArrowUp", "ArrowDown", "Home", "End", "PageUp", "PageDown"]);
 
 class Page {
   constructor() {
@@ -83,27 +84,30 @@ class Page {
     say(byId("fault"), fault ? `${place}${shown} — what stands before it is shown` : "");
   }
 
-  /** Whether the books, as the lines make them, are those that the trace has. */
+  /** Whether the ledger, as the lines make it, is the one that the trace has. */
   sayVerdict() {
-    const { run } = this;
+    const [className, text, more] = this.verdict();
     const box = byId("verdict");
-    box.title = "";
-    box.className = "good";
-    if (run.gap > 0) {
-      box.className = "bad";
-      say(box, `lines are missing, first before line ${run.gap}, so counts and places may be wrong`);
-    } else if (run.differences.length > 0) {
-      box.className = "bad";
-      box.title = run.differences.slice(0, 50).join("\n");
-      say(box, `the ledger isn't what the lines make: ${run.differences[0]}${run.differences.length > 1 ? `, and ${run.differences.length - 1} more` : ""}`);
-    } else if (run.accounts.unbalanced) {
-      box.className = "bad";
-      say(box, `the counts of ${run.accounts.unbalanced.family} don't add up from event ${run.number(run.accounts.unbalanced.event)} on`);
-    } else if (run.ledger && !run.fault) {
-      const { length } = run.ledger;
-      say(box, `the ledger of ${length} ${length === 1 ? "family" : "families"} is what the lines make`);
-    } else if (run.fault) say(box, "the trace ends early, so it has no ledger to compare with");
-    else say(box, run.isOpen ? "a node's log: it has no ledger, and frames come from outside" : "the trace has no ledger to compare with");
+    box.className = className;
+    box.title = more ?? "";
+    say(box, text);
+  }
+
+  /** The verdict as a class, a text, and what more there is to say. */
+  verdict() {
+    const { gap, differences, accounts, ledger, isWhole, isOpen } = this.run;
+    if (gap > 0) return ["bad", `lines are missing, first before line ${gap}, so counts and places may be wrong`];
+    if (differences.length > 0) {
+      const others = differences.length > 1 ? `, and ${differences.length - 1} more` : "";
+      return ["bad", `the ledger isn't what the lines make: ${differences[0]}${others}`, differences.slice(0, 50).join("\n")];
+    }
+    if (accounts.unbalanced) {
+      const { family, event } = accounts.unbalanced;
+      return ["bad", `the counts of ${family} don't add up from event ${this.run.number(event)} on`];
+    }
+    if (!isWhole) return ["open", "the trace ends early, so it has no ledger to compare with"];
+    if (ledger) return ["good", `the ledger of ${ledger.length} ${ledger.length === 1 ? "family" : "families"} is what the lines make`];
+    return ["open", isOpen ? "a node's log: it has no ledger, and frames come from outside" : "the trace has no ledger to compare with"];
   }
 
   fillChoices() {
@@ -227,6 +231,7 @@ class Page {
     const { run, event, choice } = this;
     const subject = this.subject();
     byId("slider").value = String(event + 1);
+    byId("slider").setAttribute("aria-valuetext", String(run.number(event)));
     say(byId("now"), event < 0 ? `before the first of ${run.eventCount}` : `event ${run.number(event)} of ${run.number(run.eventCount - 1)}`);
     this.network.show(event, { ...choice, packet: subject.packet?.index ?? -1 });
     this.lines.show(event);
@@ -280,8 +285,10 @@ class Page {
       press.target.blur?.();
       return;
     }
-    const isOwn = press.target.matches?.("select, input[type=range]") && press.key !== "n" && press.key !== "p";
-    if (isTyping || isOwn || (press.key === " " && press.target.matches?.("button, input, a"))) return;
+    const isChoosing = press.target.matches?.("select") && press.key !== "n" && press.key !== "p";
+    const isSliding = press.target.matches?.("input[type=range]") && OF_SLIDERS.has(press.key);
+    const isPressing = press.key === " " && press.target.matches?.("button, input:not([type=range]), a");
+    if (isTyping || isChoosing || isSliding || isPressing) return;
     const acts = {
       ArrowRight: () => this.step(1), ArrowLeft: () => this.step(-1), n: () => this.jump(1), p: () => this.jump(-1), " ": () => this.togglePlay(),
       Home: () => this.go(-1), End: () => this.go(this.run.eventCount - 1), a: () => this.toggle("adverts"), t: () => this.toggle("ticks"),
@@ -337,7 +344,7 @@ function explain() {
   });
   const signs = WORDS.filter((word) => word !== "port").map((word) => [signOf(word, 13), word]);
   refill(byId("legend"), ...[...marks, ...signs].map(([sign, name]) => html("div", {}, html("dt", {}, sign), html("dd", {}, name))));
-  refill(byId("ledger-head"), ...["family", "granted", "hops", "evals", "live", "left"].map((name) => html("span", {}, name)));
+  refill(byId("ledger-head"), ...["family", ...HEADS].map((name) => html("span", {}, name)));
 }
 
 const page = new Page();

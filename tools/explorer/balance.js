@@ -3,7 +3,7 @@ import { html, refill, svg } from "./dom.js";
 
 const PARTS = ["hops", "evals", "live", "left", "gone"];
 const NAMES = { gone: "sent outside", entered: "came in" };
-const [LEFT, TOP, BOTTOM] = [44, 8, 20];
+const [TOP, BOTTOM, AXIS_DIGIT] = [8, 20, 6.6];
 
 /** The corners of each part's area. Between events nothing changes, so an edge goes level and then up. */
 function edges(history, x, y, behind) {
@@ -80,16 +80,17 @@ export class Balance {
     const first = whole[0]?.event ?? 0;
     const last = Math.min(this.run.eventCount, (whole.at(-1)?.event ?? 0) + 1);
     const most = whole.reduce((top, it) => Math.max(top, it.granted + it.entered), 1);
-    this.x = (event) => LEFT + ((width - LEFT - 8) * Math.max(0, Math.min(1, (event - first) / Math.max(1, last - first))));
-    this.range = { first, last, width };
+    const left = Math.max(44, Math.ceil(String(most).length * AXIS_DIGIT) + 8);
+    this.x = (event) => left + ((width - left - 8) * Math.max(0, Math.min(1, (event - first) / Math.max(1, last - first))));
+    this.range = { first, last, left, width };
     const y = (value) => height - BOTTOM - ((height - TOP - BOTTOM) * value) / most;
     const areas = edges(thinned(whole, this.x), this.x, y, last).filter((area) => !area.isEmpty);
     const label = (text, at) => svg("text", { class: "axis", ...at }, text);
     this.cursor = svg("line", { class: "cursor", y1: TOP - 4, y2: height - BOTTOM + 4 });
     this.picture = svg("svg", { class: "areas", viewBox: `0 0 ${width} ${height}`, role: "img", "aria-label": "The balance over time" }, patterns(),
       ...areas.map(({ part, corners }) => svg("polygon", { points: corners, fill: `url(#area-${part})` }, svg("title", {}, NAMES[part] ?? part))),
-      label(String(most), { x: LEFT - 5, y: TOP + 6, "text-anchor": "end" }), label("0", { x: LEFT - 5, y: height - BOTTOM, "text-anchor": "end" }),
-      label(`event ${this.run.number(first)}`, { x: LEFT, y: height - 5 }),
+      label(String(most), { x: left - 5, y: TOP + 6, "text-anchor": "end" }), label("0", { x: left - 5, y: height - BOTTOM, "text-anchor": "end" }),
+      label(`event ${this.run.number(first)}`, { x: left, y: height - 5 }),
       label(String(this.run.number(Math.min(last, this.run.eventCount - 1))), { x: width - 8, y: height - 5, "text-anchor": "end" }), this.cursor);
     this.picture.addEventListener("click", (press) => this.clicked(press));
     refill(this.box, this.picture);
@@ -104,8 +105,8 @@ export class Balance {
   }
 
   clicked(press) {
-    const { first, last, width } = this.range;
-    const part = (press.clientX - this.picture.getBoundingClientRect().left - LEFT) / (width - LEFT - 8);
+    const { first, last, left, width } = this.range;
+    const part = (press.clientX - this.picture.getBoundingClientRect().left - left) / (width - left - 8);
     this.go(Math.max(0, Math.min(this.run.eventCount - 1, Math.floor(first + part * (last - first)))));
   }
 }

@@ -6,6 +6,12 @@ import { beginning, whereabouts } from "./words.js";
 
 const PACKET_HEIGHT = 24;
 const DEEPEST = 8;
+// pixels: how wide a digit of the ledger and a letter of its head are, and what stands between and beside its columns
+const DIGIT = 7.9;
+const HEAD_LETTER = 6.6;
+const MOST_OF_NAME = 14;
+const LEDGER_EDGE = 60;
+export const HEADS = ["granted", "hops", "evals", "live", "left"];
 const SIGNS = { injected: "inject", forged: "forged", entered: "arrive", sent: "send", handler: "handler", unknown: "nothing" };
 
 /** The packets of a family, each behind its parent and in front of its own children, with its depth. */
@@ -44,7 +50,23 @@ export class Ledger {
     this.event = -1;
     this.family = -1;
     this.list.cursor = -1;
+    this.widen();
     this.list.setCount(run.accounts.list.length);
+  }
+
+  /** Makes each column as wide as its head and its greatest number. */
+  widen() {
+    const { accounts, isOpen } = this.run;
+    const most = accounts.greatest();
+    if (isOpen) {
+      most.granted += most.entered;
+      most.left += most.gone;
+    }
+    const widths = HEADS.map((head) => Math.ceil(Math.max(head.length * HEAD_LETTER, String(most[head]).length * DIGIT)));
+    const name = Math.min(MOST_OF_NAME, accounts.list.reduce((longest, it) => Math.max(longest, it.name.length), 0));
+    const { style } = document.body;
+    style.setProperty("--ledger", `minmax(44px, 1.3fr) ${widths.map((width) => `minmax(${width}px, 1fr)`).join(" ")}`);
+    style.setProperty("--ledger-wide", `${widths.reduce((sum, width) => sum + width, name * DIGIT + LEDGER_EDGE)}px`);
   }
 
   show(event, family) {
@@ -65,7 +87,7 @@ export class Ledger {
     row.classList.toggle("later", isNotYet);
     const came = this.run.isOpen ? counts.granted + counts.entered : counts.granted;
     const last = this.run.isOpen ? counts.left + counts.gone : counts.left;
-    row.append(html("span", { class: `name ${colourOf(place)}` }, this.run.familyName(place)),
+    row.append(html("span", { class: `name ${colourOf(place)}`, title: this.run.familyName(place) }, this.run.familyName(place)),
       ...[came, counts.hops, counts.evals, counts.live, last].map((count) => html("span", { class: "number" }, String(count))));
     row.dataset.words = this.words(place);
   }

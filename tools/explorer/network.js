@@ -10,6 +10,13 @@ const LANE = 7;
 const MOST_IN_STACK = 6;
 const MOST_NAMED = 3;
 const MOST_ABOVE = 3;
+// pixels: how wide a letter of a host's name is, how far a device's name stands from its host and its link, and what it takes up
+const LETTER = 8;
+const AHEAD = 9;
+const BESIDE = 14;
+const SIGN_ROOM = { wide: 39, high: 12 };
+const NEAR = 8;
+const LONGEST_CLOCK = 7;
 
 /** The links of a run, each once, with the devices of its ends; a device whose other end no line shows leads outside. */
 function linksOf(run) {
@@ -31,6 +38,12 @@ function linksOf(run) {
 function progress(run, frame, event) {
   const behind = frame.off === NEVER ? run.eventCount : frame.off;
   return (event - frame.on + 1) / (behind - frame.on + 1);
+}
+
+/** A host's clock, as short as its box is wide; whole it stands in what is said of the host. */
+function clockText(now) {
+  const text = now < 1000 ? `now ${now}` : String(now);
+  return text.length <= LONGEST_CLOCK ? text : `…${text.slice(1 - LONGEST_CLOCK)}`;
 }
 
 export class Network {
@@ -75,7 +88,9 @@ export class Network {
     this.size = `${width} ${height}`;
     const many = this.run.hostNumbers.length > 12;
     this.half = many ? { x: width < 500 ? 15 : 18, y: width < 500 ? 9 : 11 } : { x: 24, y: 15 };
-    const room = { left: 44, right: width - 44, top: 48, bottom: height - 40 };
+    const longest = String(this.run.hostNumbers.at(-1) ?? "").length + 1;
+    this.half.x = Math.max(this.half.x, Math.ceil(longest * LETTER / 2) + 3);
+    const room = { left: this.half.x + 20, right: width - this.half.x - 20, top: 48, bottom: height - 40 };
     this.picture.setAttribute("viewBox", `0 0 ${width} ${height}`);
     const gap = many ? 6 : 30;
     this.spots = fitted(this.shape, room, this.half.x * 2 + gap, this.half.y * 2 + gap + 6);
@@ -124,8 +139,14 @@ export class Network {
     }
   }
 
+  /** Where the name of a device stands: to the left of who goes its way, where no frame goes. */
+  deviceSpot(way) {
+    const along = way.rim + AHEAD;
+    return { x: way.from.x + way.ux * along + way.uy * BESIDE, y: way.from.y + way.uy * along - way.ux * BESIDE };
+  }
+
   labelDevice(way, device) {
-    const at = { x: way.from.x + way.ux * (way.rim + 9) + way.uy * 12, y: way.from.y + way.uy * (way.rim + 9) - way.ux * 12 };
+    const at = this.deviceSpot(way);
     this.still.append(svg("text", { class: "device", x: at.x, y: at.y, "text-anchor": "middle", "dominant-baseline": "central" }, `%${device}`));
   }
 
@@ -138,7 +159,8 @@ export class Network {
       const name = svg("text", { class: "host-name", "text-anchor": "middle", "dominant-baseline": "central" }, `@${number}`);
       const clock = svg("text", { class: "clock", "text-anchor": "middle", y: this.half.y - 4 });
       const title = svg("title");
-      const signs = svg("g", { class: "signs", transform: `translate(${this.half.x - 12} ${-this.half.y - 15})` });
+      const free = this.freeCorner(number);
+      const signs = svg("g", { class: "signs", transform: `translate(${free.x} ${free.y})` });
       const host = svg("g", { class: "host", tabindex: 0, role: "button", "aria-label": `host @${number}`, transform: `translate(${x} ${y})` },
         title, body, name, clock, signs);
       host.addEventListener("click", () => this.choose({ host: number }));
@@ -150,6 +172,23 @@ export class Network {
       this.hostLayer.append(host);
       this.hostMarks.set(number, { host, name, clock, title, signs });
     }
+  }
+
+  /** Where the signs of an event stand at a host: at the corner that the fewest names, links and frames touch. */
+  freeCorner(number) {
+    const spot = this.spotOf(number);
+    const taken = [];
+    for (const device of this.run.hosts.get(number).devices) {
+      const way = this.way(number, device);
+      const name = this.deviceSpot(way);
+      taken.push({ x: name.x - spot.x, y: name.y - spot.y });
+      for (let along = 0; along < 60; along += STEP) taken.push({ x: way.ux * (way.rim + along), y: way.uy * (way.rim + along) });
+    }
+    const [right, left, above, below] = [this.half.x - 12, -this.half.x - 1, -this.half.y - 15, this.half.y + 4];
+    const corners = [[right, above], [left, above], [right, below], [left, below]];
+    const isIn = (it, x, y) => it.x > x - NEAR && it.x < x + SIGN_ROOM.wide + NEAR && it.y > y - NEAR && it.y < y + SIGN_ROOM.high + NEAR;
+    const counted = corners.map(([x, y]) => ({ x, y, hits: taken.filter((it) => isIn(it, x, y)).length }));
+    return counted.reduce((best, it) => (it.hits < best.hits ? it : best));
   }
 
   /** Shows the state after an event. The choice has the host and family that were chosen, and whether adverts and ticks are shown. */
@@ -208,7 +247,8 @@ export class Network {
       return;
     }
     const way = this.way(host, device);
-    const [from, to] = [Math.min(way.length * 0.35, MOST_IN_STACK * STEP + 8), Math.max(way.length - 6, way.length * 0.6)];
+    // behind the queue's stack, and in front of the name of the device at the other end
+    const [from, to] = [Math.min(way.length * 0.35, MOST_IN_STACK * STEP + 8), Math.max(way.length - 2 * AHEAD - 6, way.length * 0.6)];
     const places = Math.max(1, Math.floor((to - from) / STEP));
     const order = frames.map((frame) => [progress(this.run, frame, event), frame]).sort((a, b) => b[0] - a[0]);
     let before = to + STEP;
@@ -271,7 +311,7 @@ export class Network {
       host.classList.toggle("chosen", choice.host === number);
       const now = choice.ticks ? this.run.clock(number, event) : null;
       const hasRoom = this.half.y > 12;
-      say(clock, now === null || !hasRoom ? "" : `now ${now}`);
+      say(clock, now === null || !hasRoom ? "" : clockText(now));
       name.setAttribute("y", clock.textContent === "" ? 0 : -6);
       say(title, this.describe(number, event));
       const kinds = [...(told.signs.get(number) ?? [])].slice(0, 3);

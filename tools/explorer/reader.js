@@ -157,7 +157,7 @@ export class TraceText {
 
 /**
  * Reads a trace, and hands what its lines say to the sink. Answers its text, and a fault where a line may not stand where it
- * stands: the lines before it were handed on. A text that is no trace at all is refused.
+ * stands: the lines before it were handed on, up to the end where it is whole. A text that is no trace at all is refused.
  */
 export function readTrace(text, sink) {
   if (text.length === 0) throw new Refusal("the file is empty");
@@ -167,13 +167,11 @@ export function readTrace(text, sink) {
   const stages = new Stages(sink);
   for (let number = 2; number <= lines.count; number += 1) {
     if (!stages.take(lines.line(number), number)) {
-      return { lines, fault: { number, text: lines.line(number), what: "is no line that a trace has there" } };
+      return { lines, isWhole: stages.stage === "end", fault: { number, text: lines.line(number), what: "is no line that a trace has there" } };
     }
   }
-  if (stages.stage !== "end") {
-    return { lines, fault: { number: lines.count + 1, text: "", what: 'is missing: a trace ends with the line "end"' } };
-  }
-  return { lines, fault: null };
+  const isWhole = stages.stage === "end";
+  return { lines, isWhole, fault: isWhole ? null : { number: lines.count + 1, text: "", what: 'is missing: a trace ends with the line "end"' } };
 }
 
 /** The text of bytes, and behind it the number of the line that isn't UTF-8, if there is one: the text then ends before that line. */

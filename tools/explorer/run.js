@@ -14,16 +14,14 @@ function latestLeavings(frames) {
 }
 
 export class Run {
-  constructor(builder, lines, fault) {
-    Object.assign(this, builder);
-    this.lines = lines;
-    this.fault = fault;
+  constructor(builder, { lines, isWhole, fault }) {
+    Object.assign(this, builder, { lines, isWhole, fault });
     this.eventCount = builder.numbers.length;
     this.lineCount = builder.lineEvents.length;
     this.hostNumbers = [...builder.hosts.keys()].sort((a, b) => a - b);
     this.queueList = [...builder.queues.values()].sort((a, b) => a.host - b.host || a.device - b.device);
     for (const queue of this.queueList) queue.latest = latestLeavings(queue.frames);
-    this.differences = this.ledger && !fault ? differences(this.accounts, this.ledger) : [];
+    this.differences = this.ledger && isWhole ? differences(this.accounts, this.ledger) : [];
   }
 
   number(event) {
@@ -154,9 +152,9 @@ export function runOf(bytes) {
 /** The run that a text tells. */
 export function runOfText(text) {
   const builder = new RunBuilder();
-  const { lines, fault } = readTrace(text, builder);
+  const read = readTrace(text, builder);
   builder.finish();
-  return new Run(builder, lines, fault);
+  return new Run(builder, read);
 }
 
 /** The state in words, for a reader of the whole and for tests: what is queued and on the wire, in order. */

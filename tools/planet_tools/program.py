@@ -1,18 +1,22 @@
 """The program planet: where it stands, and what a run of it gave."""
 from __future__ import annotations
 
+import ctypes
 import os
 import re
+import signal
 import subprocess
 from dataclasses import dataclass
 from pathlib import Path
-from typing import Optional, Sequence
+from typing import Callable, Optional, Sequence
 
 from planet_tools.python import fail
 
 ROOT = Path(__file__).resolve().parents[2]
 BUILT = ROOT / "crates" / "planet" / "out" / "planet"
 LAUNCHER = ROOT / "planet"
+# what prctl is asked: a signal for this process once its parent has ended
+PR_SET_PDEATHSIG = 1
 NOTE = re.compile(r"planet: line (\d+): (.*)")
 
 
@@ -44,3 +48,16 @@ def run(program: str, words: Sequence[str], folder: Optional[Path] = None) -> En
     """Runs planet with these words, in a folder."""
     done = subprocess.run([program, *words], cwd=folder, stdin=subprocess.DEVNULL, capture_output=True, check=False)
     return Ended(done.returncode, done.stdout, done.stderr.decode("utf-8", "replace").strip())
+
+
+def ended_with_parent(what: signal.Signals) -> Callable[[], None]:
+    """What a child calls first, so that the system sends it this signal where its parent is killed."""
+    parent = os.getpid()
+
+    def ask() -> None:
+        prctl: Optional[Callable[..., int]] = getattr(ctypes.CDLL(None), "prctl", None)
+        if prctl is not None:
+            prctl(PR_SET_PDEATHSIG, what, 0, 0, 0)
+            if os.getppid() != parent:
+                os.kill(os.getpid(), what)
+    return ask

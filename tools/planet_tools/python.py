@@ -13,7 +13,9 @@ GONE_ON = "PLANET_TOOLS_PYTHON"
 
 def is_there(package: str) -> bool:
     """Whether this python3 can import the package."""
-    return importlib.util.find_spec(package) is not None
+    found = importlib.util.find_spec(package)
+    # a folder of that name on the path is no package
+    return found is not None and found.origin is not None
 
 
 def missing(package: str, debian: str) -> Optional[str]:

@@ -37,7 +37,6 @@ __all__ = [
     "chunk_of", "empty_list", "list_of", "literal", "type_of", "value_of",
 ]
 KINDS = {read.PACKET: "packet", read.ADVERT: "advert", read.ASK: "ask", read.HANDLED: "packet with a handler"}
-HEAD, STAMPED_HEAD = 6, 22
 T = TypeVar("T")
 
 
@@ -193,7 +192,7 @@ class PLAN(Packet):
         """Bytes that have no head of a frame are Raw."""
         if _pkt is None:
             return cls
-        head = STAMPED_HEAD if _pkt[4:5] == b"\x02" else HEAD
+        head = read.STAMPED_HEAD if _pkt[4:5] == b"\x02" else read.HEAD
         return cls if _pkt.startswith(read.MAGIC) and len(_pkt) >= head else conf.raw_layer
 
     def said(self) -> str:

@@ -15,7 +15,7 @@ ghost use Rattle.grow_run.specs.Pings as spec;
 use crate::draws::begin;
 use crate::events::next_event;
 use crate::summary::Summary;
-use crate::sums::totals;
+use crate::sums::sum_rows;
 use crate::text::put_summary;
 use crate::topology::ring;
 use bound_ledger::{Ledger, count_lines};
@@ -112,7 +112,7 @@ impl<S: Services> GrowingNetwork<S> {
             → ((f : Family) → Balanced f h w)
             → IfOk result (λ text. text ≡ grown_text seed events h w) }
     {
-        let sums = totals(&self.ledger);
+        let sums = sum_rows(&self.ledger);
         let mut text = Bytes::new(alloc);
         put_summary(
             alloc,

@@ -18,6 +18,6 @@ pub use choice::RandomEvent;
 pub use draws::{begin, choose};
 pub use run::grow;
 pub use summary::Summary;
-pub use sums::{Totals, totals};
+pub use sums::{Totals, sum_rows};
 pub use text::put_summary;
 pub use topology::ring;

@@ -35,7 +35,7 @@ fn plus(sums: Totals, row: Row) -> Totals
 }
 
 /// The sums of all rows.
-pub fn totals(ledger: &Ledger) -> Totals
+pub fn sum_rows(ledger: &Ledger) -> Totals
     ensures sums { result ≡ spec.row_sums ledger.now }
     ensures once { OneEach ledger.now }
 {

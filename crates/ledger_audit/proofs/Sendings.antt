@@ -1,6 +1,6 @@
 -- Nodes of version 2 send no frame twice.
 use Rattle.std.proofs.Common.{◌≡◌, ◌≢◌, ℕ, zero, suc, ◌+◌, ◌<◌, ◌≤◌, Bool, true, false, if◌then◌else◌, List, [], ◌∷◌, ◌++◌, Option, Some, None, refl, sym, ap, subst, ◌∙◌, arith}
-use Rattle.std.specs.Prelude.{◌==◌, slice_get, replicate}
+use Rattle.std.specs.Prelude.{◌==◌, slice_get, replicate, IsSomeAnd}
 use Rattle.std.specs.List.{AllByRecursion}
 use Rattle.std.specs.Str.{bytes_eq}
 use Rattle.std.proofs.lemmas.Bool.{eqb-true, eqb-false}
@@ -23,7 +23,7 @@ use Rattle.ledger_audit.specs.Crossings.{Crossing, same_crossing, times, crossin
 use Rattle.ledger_audit.specs.Runs.{crossing_from, sends_frame, sends, sent_in}
 use Rattle.ledger_audit.specs.Audits.{Logged, misfit, all_accepted, all_sent}
 use Rattle.ledger_audit.proofs.Multisets.{crossing_is, verdict_only}
-use Rattle.ledger_audit.specs.Once.{IsOfTwo, HostsApart}
+use Rattle.ledger_audit.specs.Once.{IsOfTwo, ComesFrom, FromTwo, HostsApart}
 use Rattle.ledger_audit.proofs.Takings.{as_list, frames_from, frames_rise, frames_read, frames_stamped, step_same}
 use Rattle.ledger_audit.proofs.Counting.{count, counted_once}
 
@@ -152,14 +152,17 @@ module _ (c : Crossing) (h : Host) (d : Dev) (from : c.from ≡ end h d) where
   all_elsewhere g [] e a = tt
   all_elsewhere g (l ∷ ls) e a = (elsewhere l (λ q. a.0 (q ∙ sym e)), all_elsewhere g ls e a.1)
 
-  logs_once : (ls : List Logged) → AllByRecursion IsOfTwo ls → HostsApart ls → times c (all_sent ls) ≤ 1
+  comes_here : (g : Host) → g.0 ≡ h.0 → ComesFrom c g
+  comes_here g e = subst (λ o. IsSomeAnd o (λ x. x.host.0 ≡ g.0)) (sym from) (sym e)
+
+  logs_once : (ls : List Logged) → FromTwo c ls → HostsApart ls → times c (all_sent ls) ≤ 1
   logs_once [] k a = omega arith
   logs_once (l ∷ ls) k a = by k.0 a.0 (logs_once ls k.1 a.1) (l.node.here.0 == h.0) refl
     where
-      by : IsOfTwo l → AllByRecursion (λ m. m.node.here.0 ≢ l.node.here.0) ls → times c (all_sent ls) ≤ 1 → (t : Bool) → (l.node.here.0 == h.0) ≡ t → times c (sent_in l.node l.entries ++ all_sent ls) ≤ 1
+      by : (ComesFrom c l.node.here → IsOfTwo l) → AllByRecursion (λ m. m.node.here.0 ≢ l.node.here.0) ls → times c (all_sent ls) ≤ 1 → (t : Bool) → (l.node.here.0 == h.0) ≡ t → times c (sent_in l.node l.entries ++ all_sent ls) ≤ 1
       by is others m true t =
           let rest = none_sent c ls (all_elsewhere l.node.here.0 ls (eqb-true l.node.here.0 h.0 t) others) in
-          omega (arith, times-append c (sent_in l.node l.entries) (all_sent ls), log_once c h d from l is, rest)
+          omega (arith, times-append c (sent_in l.node l.entries) (all_sent ls), log_once c h d from l (is (comes_here l.node.here (eqb-true l.node.here.0 h.0 t))), rest)
       by is others m false t =
           let here = elsewhere l (eqb-false l.node.here.0 h.0 t) in
           omega (arith, times-append c (sent_in l.node l.entries) (all_sent ls), here, m)
@@ -169,13 +172,13 @@ from_nobody : (c : Crossing) → c.from ≡ None → (ls : List Logged) → AllB
 from_nobody c e [] = tt
 from_nobody c e (l ∷ ls) = (sent_elsewhere c l.node.here (λ d q. absurd (let n : ◌≡◌ {A = Option LinkEnd} None (end l.node.here d) = sym e ∙ q in cc)) l.node l.entries refl, from_nobody c e ls)
 
-pub all_once : (ls : List Logged) → AllByRecursion IsOfTwo ls → HostsApart ls → (c : Crossing) → times c (all_sent ls) ≤ 1
-all_once ls k a c = by c.from refl
+pub all_once : (ls : List Logged) → HostsApart ls → (c : Crossing) → FromTwo c ls → times c (all_sent ls) ≤ 1
+all_once ls a c k = by c.from refl
   where
     by : (o : Option LinkEnd) → c.from ≡ o → times c (all_sent ls) ≤ 1
     by None e = let z = none_sent c ls (from_nobody c e ls) in omega (arith, z)
     by (Some x) e = logs_once c x.host x.dev e ls k a
 
-pub none_twice : (links : Cables) (ls : List Logged) → AllByRecursion IsOfTwo ls → HostsApart ls → misfit links ls ≡ None → (c : Crossing) → times c (crossings (all_accepted links 0 ls)) ≤ 1
+pub none_twice : (links : Cables) (ls : List Logged) → HostsApart ls → misfit links ls ≡ None → (c : Crossing) → FromTwo c ls → times c (crossings (all_accepted links 0 ls)) ≤ 1
 unfolding misfit
-none_twice links ls k a e c = omega (arith, all_once ls k a c, verdict_only (all_sent ls) [] (all_accepted links 0 ls) e (λ d. omega arith) c)
+none_twice links ls a e c k = omega (arith, all_once ls a c k, verdict_only (all_sent ls) [] (all_accepted links 0 ls) e (λ d. omega arith) c)

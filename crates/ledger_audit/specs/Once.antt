@@ -1,11 +1,13 @@
 -- Logs of nodes of version 2.
-use Rattle.std.specs.Prelude.{◌≡◌, ◌≢◌, List, [], ◌∷◌}
+use Rattle.std.specs.Prelude.{◌≡◌, ◌≢◌, List, [], ◌∷◌, IsSomeAnd}
 use Rattle.std.specs.List.{AllByRecursion}
+use Rattle.plan_base.specs.declared.ids.Host.{Host}
 use Rattle.plan_base.specs.declared.stamp.Version.{Version}
 use Rattle.plan_base.specs.declared.stamp.Version.TheVariants.{Two}
 use Rattle.network_config.specs.declared.event.LogEvent.{LogEvent}
 use Rattle.network_config.specs.declared.event.LogEvent.TheVariants.{Step, Lost}
 use Rattle.node_core_spec.specs.Fits.{NodeFits, comes_fit}
+use Rattle.ledger_audit.specs.Crossings.{Crossing}
 use Rattle.ledger_audit.specs.Audits.{Logged}
 use Rattle.ledger_audit.specs.Spelling.{Begins, ReadsAgain}
 
@@ -22,6 +24,14 @@ pub record IsOfTwo (l : Logged) : Type 0 where
   pub begin : Begins l
   pub entries : EntriesFit Two l.entries
   pub read : ReadsAgain l
+
+-- a crossing comes from a device of this host
+abbrev pub ComesFrom : Crossing → Host → Type 0
+ComesFrom c h = IsSomeAnd c.from (λ e. e.host.0 ≡ h.0)
+
+-- the log of the host that a crossing comes from, if there is one, is of version 2
+abbrev pub FromTwo : Crossing → List Logged → Type 0
+FromTwo c logs = AllByRecursion (λ l. ComesFrom c l.node.here → IsOfTwo l) logs
 
 -- no two logs are of one host
 abbrev pub HostsApart : List Logged → Type 0

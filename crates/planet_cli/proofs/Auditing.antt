@@ -20,7 +20,7 @@ use Rattle.planet_commands_fleet.specs.Audits.{said_then, logs_said, fit_text, t
 use Rattle.planet_cli.specs.Requests.{request_of, audit}
 use Rattle.planet_cli.specs.Calls.{Calls}
 use Rattle.planet_cli.specs.Outcomes.{whole, outcome_by, WritesOut}
-use Rattle.planet_cli.specs.Audited.{Audits, Fit, AllAddUp, AreOfTwo, AcceptOnce}
+use Rattle.planet_cli.specs.Audited.{Audits, Fit, AllAddUp, AcceptOnce}
 use Rattle.planet_cli.proofs.Giving.{done_found, is_written}
 use Rattle.planet_cli.proofs.FleetLogs.{said_apart, begins_all, of_two}
 
@@ -62,7 +62,7 @@ module _ (words : List (List ℕ)) (cause : Cause) (old new : Outside) (n m : Si
   audit_adds f =
       adds_up f a.links (map logged_of logs) (begins_all (map logged_of logs) (said_apart a.logs logs old.files.held r.says).kept) frames ((yes_sent a.links (map logged_of logs)).0 fit)
 
-  pub audit_once : AreOfTwo logs → AcceptOnce a.links logs
-  audit_once two =
+  pub audit_once : AcceptOnce a.links logs
+  audit_once c two =
       let apart = said_apart a.logs logs old.files.held r.says in
-      none_twice a.links (map logged_of logs) (of_two logs apart frames two) apart.hosts (yes_fits a.links (map logged_of logs) (verdict_of a.links (map logged_of logs)) refl fit)
+      none_twice a.links (map logged_of logs) apart.hosts (yes_fits a.links (map logged_of logs) (verdict_of a.links (map logged_of logs)) refl fit) c (of_two c logs apart frames two)

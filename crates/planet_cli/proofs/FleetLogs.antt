@@ -22,7 +22,8 @@ use Rattle.node_core_spec.specs.State.{new_node}
 use Rattle.node_core_spec.specs.Fits.{NodeFits, comes_fit}
 use Rattle.ledger_audit.specs.Audits.{Logged}
 use Rattle.ledger_audit.specs.Spelling.{Begins, ReadsAgain}
-use Rattle.ledger_audit.specs.Once.{EntriesFit, IsOfTwo, HostsApart}
+use Rattle.ledger_audit.specs.Crossings.{Crossing}
+use Rattle.ledger_audit.specs.Once.{EntriesFit, ComesFrom, FromTwo, HostsApart}
 use Rattle.ledger_audit.specs.Pasts.{logged_of}
 use Rattle.exit_status.specs.declared.status.Refusal.TheVariants.{TooLong, Log as OfLog}
 use Rattle.planet_commands.specs.Said.{Said, nothing, outside, says, said_by, said_at, line_limit, lines_said}
@@ -121,15 +122,17 @@ pub begins_all : (ls : List Logged) → AllByRecursion Kept ls → AllByRecursio
 begins_all [] k = tt
 begins_all (x ∷ ls) k = (k.0.begin, begins_all ls k.1)
 
-two_all : (ls : List Logged) → AllByRecursion Kept ls → AllByRecursion ReadsAgain ls → AllByRecursion (λ x. x.node.version ≡ Two) ls → AllByRecursion IsOfTwo ls
-two_all [] k r v = tt
-two_all (x ∷ ls) k r v =
-    (record { version = v.0; fits = k.0.fits; begin = k.0.begin; entries = k.0.entries v.0; read = r.0 }, two_all ls k.1 r.1 v.1)
+two_all : (c : Crossing) (ls : List Logged) → AllByRecursion Kept ls → AllByRecursion ReadsAgain ls → AllByRecursion (λ x. ComesFrom c x.node.here → x.node.version ≡ Two) ls → FromTwo c ls
+two_all c [] k r v = tt
+two_all c (x ∷ ls) k r v =
+    (λ from. record { version = v.0 from; fits = k.0.fits; begin = k.0.begin; entries = k.0.entries (v.0 from); read = r.0 }, two_all c ls k.1 r.1 v.1)
 
-versions : (logs : List Log) → AllByRecursion (λ l. l.node.version ≡ Two) logs → AllByRecursion (λ x. x.node.version ≡ Two) (map logged_of logs)
+versions : (c : Crossing) (logs : List Log) → AllByRecursion (λ l. ComesFrom c l.node.here → l.node.version ≡ Two) logs
+    → AllByRecursion (λ x. ComesFrom c x.node.here → x.node.version ≡ Two) (map logged_of logs)
 unfolding new_node
-versions [] a = tt
-versions (l ∷ logs) a = (a.0, versions logs a.1)
+versions c [] a = tt
+versions c (l ∷ logs) a = (a.0, versions c logs a.1)
 
-pub of_two : (logs : List Log) → Apart logs → AllByRecursion ReadsAgain (map logged_of logs) → AllByRecursion (λ l. l.node.version ≡ Two) logs → AllByRecursion IsOfTwo (map logged_of logs)
-of_two logs a r v = two_all (map logged_of logs) a.kept r (versions logs v)
+pub of_two : (c : Crossing) (logs : List Log) → Apart logs → AllByRecursion ReadsAgain (map logged_of logs) → AllByRecursion (λ l. ComesFrom c l.node.here → l.node.version ≡ Two) logs
+    → FromTwo c (map logged_of logs)
+of_two c logs a r v = two_all c (map logged_of logs) a.kept r (versions c logs v)

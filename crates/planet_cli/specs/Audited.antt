@@ -6,6 +6,7 @@ use Rattle.plan_base.specs.declared.stamp.Version.TheVariants.{Two}
 use Rattle.network_config.specs.declared.node.Log.{Log}
 use Rattle.net_world_spec.specs.World.{Cables}
 use Rattle.ledger_audit.specs.Crossings.{Crossing, times, crossings}
+use Rattle.ledger_audit.specs.Once.{ComesFrom}
 use Rattle.ledger_audit.specs.Audits.{all_accepted, AddsUp}
 use Rattle.ledger_audit.specs.Pasts.{logged_of}
 use Rattle.ledger_audit.specs.Ledgers.{verdict_of, IsYes}
@@ -32,10 +33,10 @@ Fit links logs = IsYes (verdict_of links (map logged_of logs))
 abbrev pub AllAddUp : Cables → List Log → Type 0
 AllAddUp links logs = (f : Family) → AddsUp f links (map logged_of logs)
 
--- all nodes are of version 2
-abbrev pub AreOfTwo : List Log → Type 0
-AreOfTwo logs = AllByRecursion (λ l. l.node.version ≡ Two) logs
+-- the log of the host that a crossing comes from, if there is one, is of version 2
+abbrev pub IsFromTwo : Crossing → List Log → Type 0
+IsFromTwo c logs = AllByRecursion (λ l. ComesFrom c l.node.here → l.node.version ≡ Two) logs
 
--- no frame was accepted twice: no two accepted frames from one end have the same bytes
+-- no frame of a node of version 2 was accepted twice: no two accepted frames from one of its ends have the same bytes
 abbrev pub AcceptOnce : Cables → List Log → Type 0
-AcceptOnce links logs = (c : Crossing) → times c (crossings (all_accepted links 0 (map logged_of logs))) ≤ 1
+AcceptOnce links logs = (c : Crossing) → IsFromTwo c logs → times c (crossings (all_accepted links 0 (map logged_of logs))) ≤ 1

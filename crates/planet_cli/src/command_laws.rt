@@ -39,7 +39,7 @@ ghost use Rattle.reliable_ports_world.specs.Texts.{port_output};
 ghost use Rattle.planet_cli.specs.PortCalls.{RunsPorts};
 ghost use Rattle.command_files.specs.declared.audit.AuditFile.{AuditFile};
 ghost use Rattle.planet_commands_fleet.specs.Audits.{fit_text, AsksAlong};
-ghost use Rattle.planet_cli.specs.Audited.{Audits, Fit, AllAddUp, AreOfTwo, AcceptOnce};
+ghost use Rattle.planet_cli.specs.Audited.{Audits, Fit, AllAddUp, AcceptOnce};
 ghost use Rattle.network_config.specs.declared.fleet.AskFile.{AskFile as Ask};
 ghost use Rattle.network_config.specs.declared.fleet.Fleet.{Fleet};
 ghost use Rattle.network_config.specs.declared.serve.ServeConfig.{ServeConfig as Config};
@@ -223,18 +223,19 @@ pub fn fleet_adds_up()
         → AllAddUp a.links logs }
 {}
 
-/// And where all their nodes are of version 2, no frame was accepted twice.
+/// And no frame of a node of version 2 was accepted twice, whatever version the others are of.
 pub fn fleet_accepts_once()
     ensures { (words : List (List ℕ)) (cause : Why) (old new : Outside) (n m : SinkState)
         → Calls (request_of words) cause old new n m
         → (a : AuditFile) (logs : List Log)
         → Audits words old.files a logs
         → cause ≡ Cause.Done
-        → Fit a.links logs → AreOfTwo logs
+        → Fit a.links logs
         → AcceptOnce a.links logs }
 {}
 
-/// It asks at most for its file and for the logs that this names, in order, each once.
+/// It asks at most for its file and for the logs that this names, in order, each once, and for a log only where those before it
+/// say logs: an audit whose first log is refused never looks at the others.
 pub fn audit_asked()
     ensures { (file : List ℕ) (cause : Why) (old new : Outside) (n m : SinkState)
         → Calls (Some (audit file)) cause old new n m

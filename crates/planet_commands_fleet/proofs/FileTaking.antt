@@ -1,9 +1,9 @@
 -- The file of an audit and its logs, as they are taken of the files.
 use Rattle.std.proofs.Common.{◌≡◌, inl, ℕ, ◌+◌, ◌<◌, ◌≤◌, IsTrue, List, [], ◌∷◌, ◌++◌, map, length, take, drop, get_or, Result, Ok, Err, IfOk, refl, sym, ap, subst, ◌∙◌, arith}
 use Rattle.std.proofs.lemmas.Grind.{take_at_read}
-use Rattle.std.proofs.lemmas.List.{take_all, drop_all, drop_more, take-append-drop, map-append, length-append, length-map}
+use Rattle.std.proofs.lemmas.List.{take_all, drop_all, drop_more, map-append, length-append, length-map}
 use Rattle.node_io.specs.Causes.{HasRisen}
-use Rattle.node_io.specs.FileMaps.{MayName}
+use Rattle.node_io.specs.FileMaps.{FileMap, MayName}
 use Rattle.node_io.specs.FileStates.{FilesState, OnlyReads}
 use Rattle.node_io.specs.Sinks.{SinkState}
 use Rattle.plan_base.specs.declared.ids.Host.{Host}
@@ -23,7 +23,7 @@ use Rattle.exit_status.specs.declared.status.Cause.TheVariants.{Done, Usage, Ref
 use Rattle.planet_commands.specs.Said.{Said, nothing, outside, says, lines_said}
 use Rattle.planet_commands.specs.Takes.{Untaken, TakeResult, Takes}
 use Rattle.planet_commands.specs.Renders.{Prints}
-use Rattle.planet_commands_fleet.specs.Audits.{said_then, log_said, hosts_in, logs_said, fit_text, text_said, audit_said, FramesRead, MayNames, names_in, TakesLogs, AuditsRead, AuditsFile}
+use Rattle.planet_commands_fleet.specs.Audits.{said_then, log_said, hosts_in, logs_said, fit_text, text_said, audit_said, FramesRead, MayNames, names_in, AsksLogs, TakesLogs, AuditsRead, AuditsFile}
 use Rattle.planet_commands_fleet.proofs.LogTaking.{untaken_then}
 
 -- ---- readings, one after the other
@@ -63,10 +63,25 @@ pub record Along (links : Cables) (all : List (List ℕ)) (i : ℕ) (old new : F
   pub only : OnlyReads old new
   pub asked : MayNames (take i all) old.asked new.asked
   pub kept : IsReckoned links (map logged_of logs) r
+  pub front : IsTrue old.observable → logs_said (take i all) [] old.held ≡ says logs
   pub said : IsTrue old.observable → logs_said all [] old.held ≡ logs_said (drop i all) logs old.held
 
 pub along_none : (links : Cables) (all : List (List ℕ)) (s : FilesState) (r : AuditState) → IsReckoned links [] r → Along links all 0 s s r
-along_none links all s r k = record { logs = []; count = refl; only = reads_none s; asked = refl; kept = k; said = λ seen. refl }
+along_none links all s r k = record { logs = []; count = refl; only = reads_none s; asked = refl; kept = k; front = λ seen. refl; said = λ seen. refl }
+
+-- what is said of what is said of the first is said of the second
+then_then : {A B C : Type 0} (s : Said A) (first : A → Said B) (second : B → Said C) (both : A → Said C) → ((x : A) → both x ≡ said_then (first x) second)
+    → said_then s both ≡ said_then (said_then s first) second
+then_then nothing first second both e = refl
+then_then (outside r) first second both e = refl
+then_then (says x) first second both e = e x
+
+-- what names say behind others
+said_behind : (names more : List (List ℕ)) (logs : List Log) (files : FileMap) → logs_said (names ++ more) logs files ≡ said_then (logs_said names logs files) (λ ls. logs_said more ls files)
+said_behind [] more logs files = refl
+said_behind (n ∷ names) more logs files =
+    then_then (log_said (length logs + 1) (hosts_in logs) n files) (λ l. logs_said names (logs ++ l ∷ []) files) (λ ls. logs_said more ls files)
+    (λ l. logs_said (names ++ more) (logs ++ l ∷ []) files) (λ l. said_behind names more (logs ++ l ∷ []) files)
 
 hosts_of_logs : (logs : List Log) → hosts_of (map logged_of logs) ≡ hosts_in logs
 unfolding new_node
@@ -94,6 +109,20 @@ module _ (links : Cables) (all : List (List ℕ)) (i : ℕ) (n : ℕ) (name : Li
       ∙ ap (λ hs. said_then (log_said n hs name old.held) (λ l. logs_said (drop (i + 1) all) (k.logs ++ l ∷ []) old.held)) (sym hosts)
       ∙ ap (λ f. said_then (log_said n r.hosts name f) (λ l. logs_said (drop (i + 1) all) (k.logs ++ l ∷ []) old.held)) (sym k.only.held)
 
+  -- the first of them, by what the code knows
+  this_said : log_said (length k.logs + 1) (hosts_in k.logs) name old.held ≡ log_said n r.hosts name mid.held
+  this_said =
+      ap (λ m. log_said m (hosts_in k.logs) name old.held) log_is
+      ∙ ap (λ hs. log_said n hs name old.held) (sym hosts)
+      ∙ ap (λ f. log_said n r.hosts name f) (sym k.only.held)
+
+  -- with it one more log is said
+  front_next : (l : Log) → log_said n r.hosts name mid.held ≡ says l → IsTrue old.observable → logs_said (take (i + 1) all) [] old.held ≡ says (k.logs ++ l ∷ [])
+  front_next l e seen =
+      ap (λ ns. logs_said ns [] old.held) names ∙ said_behind (take i all) (name ∷ []) [] old.held
+      ∙ ap (λ s. said_then s (λ ls. logs_said (name ∷ []) ls old.held)) (k.front seen)
+      ∙ ap (λ s. said_then s (λ x. says (k.logs ++ x ∷ []))) (this_said ∙ e)
+
   seen_too : IsTrue old.observable → IsTrue mid.observable
   seen_too seen = subst IsTrue (sym k.only.observable) seen
 
@@ -110,11 +139,12 @@ module _ (links : Cables) (all : List (List ℕ)) (i : ℕ) (n : ℕ) (name : Li
     asked = grew t.asked;
     kept = subst (λ ls. IsReckoned links ls kept) (sym (map-append logged_of k.logs (l ∷ [])))
         (adds (map logged_of k.logs) k.kept (omega (arith, length-map k.logs logged_of, k.count, number)));
+    front = λ seen. front_next l (t.did (seen_too seen)) seen;
     said = λ seen. next_said seen ∙ ap (λ s. said_then s (λ x. logs_said (drop (i + 1) all) (k.logs ++ x ∷ []) old.held)) (t.did (seen_too seen));
   }
 
-  rest_named : MayNames (take (i + 1) all) old.asked new.asked → MayNames all old.asked new.asked
-  rest_named m = subst (λ ns. MayNames ns old.asked new.asked) (take-append-drop (i + 1) all) (named_then (take (i + 1) all) (drop (i + 1) all) old.asked new.asked new.asked m (stays (drop (i + 1) all) new.asked))
+  asks : MayName mid.asked new.asked name → AsksLogs all old new
+  asks m = record { before = i; logs = k.logs; asked = grew m; say = k.front }
 
   stop_is_untaken : (c : Cause) → Untaken (log_said n r.hosts name) mid new c → Untaken (logs_said all []) old new c
   stop_is_untaken (Refused q) u = (u.0, λ seen. next_said seen ∙ ap (λ s. said_then s (λ x. logs_said (drop (i + 1) all) (k.logs ++ x ∷ []) old.held)) (u.1 (seen_too seen)))
@@ -132,11 +162,11 @@ module _ (links : Cables) (all : List (List ℕ)) (i : ℕ) (n : ℕ) (name : Li
 
   -- it wasn't taken
   pub along_stopped : (c : Cause) → Takes (log_said n r.hosts name) name mid new (Err c) → TakesLogs links all old new (Err c)
-  along_stopped c t = record { only = reads_both old mid new k.only t.only; asked = rest_named (grew t.asked); did = stop_is_untaken c t.did }
+  along_stopped c t = record { only = reads_both old mid new k.only t.only; asks = asks t.asked; did = stop_is_untaken c t.did }
 
   -- it was taken, and found no memory
   pub along_poor : (l : Log) → Takes (log_said n r.hosts name) name mid new (Ok l) → TakesLogs links all old new (Err NoMemory)
-  along_poor l t = record { only = reads_both old mid new k.only t.only; asked = rest_named (grew t.asked); did = tt }
+  along_poor l t = record { only = reads_both old mid new k.only t.only; asks = asks t.asked; did = tt }
 
 -- the names of the code's own values are those of the definitions
 pub takes_named : (k : ℕ) (hs hosts : List Host) (w name : List ℕ) (mid new : FilesState) (res : Result Log Cause) → hs ≡ hosts → w ≡ name → Takes (log_said k hs w) w mid new res → Takes (log_said k hosts name) name mid new res
@@ -145,7 +175,12 @@ takes_named k hs hosts w name mid new res e f t = subst (λ x. Takes (log_said k
 pub along_all : (links : Cables) (all : List (List ℕ)) (i : ℕ) (old new : FilesState) (r : AuditState) → length all ≤ i → Along links all i old new r → TakesLogs links all old new (Ok r)
 along_all links all i old new r less k = record {
   only = k.only;
-  asked = subst (λ ns. MayNames ns old.asked new.asked) (take_all i all less) k.asked;
+  asks = record {
+    before = i;
+    logs = k.logs;
+    asked = subst (λ ns. MayNames ns old.asked new.asked) (take_all i all less ∙ sym (take_all (i + 1) all (omega (arith, less)))) k.asked;
+    say = k.front;
+  };
   did = (k.logs, (k.kept, λ seen. k.said seen ∙ ap (λ ns. logs_said ns k.logs old.held) (drop_all i all less)));
 }
 
@@ -167,7 +202,7 @@ pub read_all : (a : AuditFile) (old new : FilesState) (r : AuditState) (c : Caus
 read_all a old new r c x y t prints = record {
   taken = Ok (fit_text a t.did.0);
   only = t.only;
-  asked = t.asked;
+  asks = t.asks;
   did = λ seen. ap (λ s. said_then s (λ logs. says (fit_text a logs))) (t.did.1.1 seen);
   frames = λ seen logs e. subst FramesRead (says_same t.did.0 logs (sym (t.did.1.1 seen) ∙ e)) t.did.1.0.read;
   acts = prints (map logged_of t.did.0) t.did.1.0;
@@ -178,7 +213,7 @@ pub read_not : (a : AuditFile) (old new : FilesState) (c : Cause) (x : SinkState
 read_not a old new c x t = record {
   taken = Err c;
   only = t.only;
-  asked = t.asked;
+  asks = t.asks;
   did = untaken_then (logs_said a.logs []) (λ held logs. says (fit_text a logs)) [] old new c t.did;
   frames = tt;
   acts = (refl, refl);
@@ -222,9 +257,15 @@ module _ (name : List ℕ) (old mid new : FilesState) (c : Cause) (x y : SinkSta
     taken = r.taken;
     only = reads_both old mid new t.only r.only;
     asked = record {
-      names = a.logs;
-      asked = (mid.asked, (t.asked, r.asked));
-      named = λ seen. sym (ap names_in (t.did seen));
+      before = r.asks.before;
+      logs = r.asks.logs;
+      names = take (r.asks.before + 1) a.logs;
+      asked = (mid.asked, (t.asked, r.asks.asked));
+      named = λ seen. ap (λ s. take (r.asks.before + 1) (names_in s)) (sym (t.did seen));
+      say = λ seen.
+          ap (λ s. logs_said (take r.asks.before (names_in s)) [] old.held) (t.did seen)
+          ∙ ap (λ h. logs_said (take r.asks.before a.logs) [] h) (sym t.only.held)
+          ∙ r.asks.say (subst IsTrue (sym t.only.observable) seen);
     };
     did = by_result a t r.only r.taken r.did;
     frames = by_frames a t r.taken r.frames;
@@ -237,9 +278,12 @@ file_untaken name old new c x t = record {
   taken = Err c;
   only = t.only;
   asked = record {
-    names = names_in (lines_said audit_of name old.held);
-    asked = (new.asked, (t.asked, stays (names_in (lines_said audit_of name old.held)) new.asked));
+    before = 0;
+    logs = [];
+    names = take (0 + 1) (names_in (lines_said audit_of name old.held));
+    asked = (new.asked, (t.asked, stays (take (0 + 1) (names_in (lines_said audit_of name old.held))) new.asked));
     named = λ seen. refl;
+    say = λ seen. refl;
   };
   did = untaken_then (lines_said audit_of name) text_said name old new c t.did;
   frames = tt;

@@ -1,5 +1,5 @@
 -- The command `audit`: what its files say to it, and what is asked of them.
-use Rattle.std.specs.Prelude.{◌≡◌, ℕ, ◌+◌, if◌then◌else◌, IsTrue, List, [], ◌∷◌, ◌++◌, length, map, Result, Ok, Err, IfOk, MatchResult}
+use Rattle.std.specs.Prelude.{◌≡◌, ℕ, ◌+◌, if◌then◌else◌, IsTrue, List, [], ◌∷◌, ◌++◌, length, map, take, Result, Ok, Err, IfOk, MatchResult}
 use Rattle.std.specs.List.{AllByRecursion}
 use Rattle.plan_base.specs.declared.ids.Host.{Host}
 use Rattle.network_config.specs.Hosts.{is_listed}
@@ -93,11 +93,23 @@ abbrev pub names_in : Said AuditFile → List (List ℕ)
 names_in (says a) = a.logs
 names_in _ = []
 
--- the names asked grew at most by the file and the logs that it names, in order, each once
+-- the names asked grew at most by these, in order, each once, and up to the first that isn't of a log: those before the last
+-- of them say these logs
+pub record AsksLogs (names : List (List ℕ)) (old new : FilesState) : Type 0 where
+  pub before : ℕ
+  pub logs : List Log
+  pub asked : MayNames (take (before + 1) names) old.asked new.asked
+  pub say : IsTrue old.observable → logs_said (take before names) [] old.held ≡ says logs
+
+-- the names asked grew at most by the file and by the logs that it names, in order, each once, and up to the first that isn't of
+-- a log: those before the last of them say these logs
 pub record AsksAlong (name : List ℕ) (old new : FilesState) : Type 0 where
+  pub before : ℕ
+  pub logs : List Log
   pub names : List (List ℕ)
   pub asked : MayNames (name ∷ names) old.asked new.asked
-  pub named : IsTrue old.observable → names ≡ names_in (lines_said audit_of name old.held)
+  pub named : IsTrue old.observable → names ≡ take (before + 1) (names_in (lines_said audit_of name old.held))
+  pub say : IsTrue old.observable → logs_said (take before (names_in (lines_said audit_of name old.held))) [] old.held ≡ says logs
 
 -- logs were read, and the code keeps what is to be kept of them; or the first one that wasn't read
 abbrev pub LogsResult : Cables → List (List ℕ) → FilesState → FilesState → Result AuditState Cause → Type 0
@@ -108,14 +120,14 @@ LogsResult links names old new (Err cause) = Untaken (logs_said names []) old ne
 -- the files of these names were read, as far as they aren't refused
 pub record TakesLogs (links : Cables) (names : List (List ℕ)) (old new : FilesState) (result : Result AuditState Cause) : Type 0 where
   pub only : OnlyReads old new
-  pub asked : MayNames names old.asked new.asked
+  pub asks : AsksLogs names old new
   pub did : LogsResult links names old new result
 
 -- the logs that a file names were read, as far as they aren't refused, and where all say something their text is written
 pub record AuditsRead (a : AuditFile) (files read : FilesState) (cause : Cause) (old new : SinkState) : Type 0 where
   pub taken : Result (List ℕ) Cause
   pub only : OnlyReads files read
-  pub asked : MayNames a.logs files.asked read.asked
+  pub asks : AsksLogs a.logs files read
   pub did : TakeResult (λ held. text_said held a) files read taken
   pub frames : IfOk taken (λ text. IsTrue files.observable → (logs : List Log) → logs_said a.logs [] files.held ≡ says logs → FramesRead logs)
   pub acts : MatchResult taken (λ text. Prints text cause old new) (λ why. (cause ≡ why) × (new ≡ old))

@@ -4,10 +4,9 @@ from __future__ import annotations
 import os
 import resource
 import signal
-import subprocess
 from typing import Callable
 
-from edges.room import PROGRAM, ROOT, SCHEDULE, TRACE, Node, Room, words_of_commands
+from edges.room import PROGRAM, SCHEDULE, TRACE, Node, Room, words_of_commands
 
 READS = ["check", "show", "replay", "node", "inject", "fleet", "cut", "port", "gather", "audit"]
 
@@ -87,27 +86,4 @@ def full_disk(room: Room) -> None:
         room.wants("what was written is of steps that the log has", agrees, (done, log))
 
 
-def blanks(room: Room) -> None:
-    """The launcher hands each word on as it is, from a folder and to files whose names have blanks."""
-    link = room.folder / "a folder\twith 'blanks' $HOME *"
-    link.symlink_to(ROOT)
-    launcher = str(link / "planet")
-    if subprocess.run([ROOT / "scripts/build/state", "current", "built"], check=False).returncode != 0:
-        print("edge: no program is built from these sources, so the launcher wasn't tried")
-        return
-    for name in ("f g.plan", " f.plan ", "$HOME.plan", "*.plan", "f\ng.plan", "'f\".plan", "-f.plan", "ü.plan"):
-        room.put(name, PROGRAM)
-        done = subprocess.run([launcher, "check", name], cwd=room.folder, capture_output=True, check=False)
-        seen = (done.returncode, done.stdout) == (0, b"ok functions 1 nodes 1 code 8\n")
-        room.wants(f"the launcher hands {name!r} on", seen, done)
-    for words in (["check", ""], ["check", "a", ""], ["", "check", "f g.plan"], ["check", "f", "g.plan"]):
-        done = subprocess.run([launcher, *words], cwd=room.folder, capture_output=True, check=False)
-        direct = room.call(*words)
-        is_same = (done.returncode, done.stdout, done.stderr) == (direct.status, direct.output, direct.notes)
-        room.wants(f"the launcher hands {words!r} on", is_same, (done, direct))
-    elsewhere = [os.path.relpath(launcher, "/"), "check", str(room.folder / "f g.plan")]
-    outside = subprocess.run(elsewhere, cwd="/", capture_output=True, check=False)
-    room.wants("the launcher is found by a path from elsewhere", outside.returncode == 0, outside)
-
-
-TESTS = [unreadable, longest_names, shorter_log, full_disk, blanks]
+TESTS = [unreadable, longest_names, shorter_log, full_disk]

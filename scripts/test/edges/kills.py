@@ -11,6 +11,7 @@ from pathlib import Path
 from typing import List
 
 from edges.room import ROOT, Node, Room
+from planet_tools.frames.read import MAGIC
 
 PINGS = """svc print : (int) -> unit
 fun g(n : int) : unit = print(n)
@@ -29,7 +30,7 @@ def killed_node(room: Room, number: int, draw: random.Random) -> None:
         # not so much that a replay wouldn't take the log
         for _ in range(3):
             node.asks()
-            node.hears(b"PLAN" + draw.randbytes(draw.choice((3, 40, 40, 40, 8_000))))
+            node.hears(MAGIC + draw.randbytes(draw.choice((3, 40, 40, 40, 8_000))))
         time.sleep(0.002)
     os.kill(node.process.pid, draw.choice((signal.SIGKILL, signal.SIGTERM, signal.SIGINT, signal.SIGHUP)))
     node.process.wait()
@@ -49,8 +50,8 @@ def random_kills(room: Room, count: int = 0) -> None:
         killed_node(room, number, draw)
 
 
-def fleet_files(room: Room) -> List[str]:
-    """Copies the fleet of the samples to free ports, and answers the names of its logs."""
+def fleet_files(room: Room, is_busy: bool = False) -> List[str]:
+    """Copies the fleet of the samples to free ports, and answers the names of its logs. A busy one injects in each turn."""
     logs = []
     ports = {str(7101 + it): str(room.port()) for it in range(3)}
     ports.update({str(7201 + it): str(room.port()) for it in range(3)})
@@ -59,6 +60,10 @@ def fleet_files(room: Room) -> List[str]:
         text = path.read_text()
         for was, port in ports.items():
             text = re.sub(rf"\b{was}\b", port, text)
+        if is_busy:
+            text = text.replace("period 100\n", "period 10\n")
+            more = "".join(f"at {turn} inject ping 10 (@1, @3)\n" for turn in range(1, 200))
+            text += more if "end program\n" in text else ""
         room.put(path.name, text)
         logs += re.findall(r"^log (\S+)", text, re.M)
     room.put("fleet.txt", "planet fleet 1\nnode 1 one.cfg 1000000\nnode 2 two.cfg 1000000\nnode 3 three.cfg 1000000\n")
@@ -93,6 +98,39 @@ def logs_replay(room: Room, logs: List[str], saying: str) -> None:
     for it in logs:
         done = room.call("replay", it)
         room.wants(f"log {it} of {saying} replays", done.status == 0 and done.output.endswith(b"end\n"), done)
+
+
+def killed_at_random(room: Room, logs: List[str], draw: random.Random) -> None:
+    """Kills a process of a fleet, then the rest of it: its logs replay, and each frame that a node took is in its sender's."""
+    wrapper = draw.choice(("", "scripts/build/together", "tools/fleet"))
+    if wrapper == "tools/fleet":
+        fleet = supervised(room, logs, [str(ROOT / wrapper), "--planet", room.program, "fleet.txt"])
+    else:
+        fleet = begun_fleet(room, logs, *([str(ROOT / wrapper)] if wrapper else []))
+    below = [fleet.pid]
+    for it in below:
+        below += children_of(it)
+    time.sleep(draw.uniform(0.0, 0.6))
+    first = draw.choice(below)
+    for it in (first, *below):
+        if Path(f"/proc/{it}").exists():
+            os.kill(it, draw.choice((signal.SIGKILL, signal.SIGTERM)))
+    fleet.wait(20)
+    until = time.monotonic() + 5
+    while time.monotonic() < until and any(Path(f"/proc/{it}").exists() for it in below):
+        time.sleep(0.02)
+    logs_replay(room, logs, f"a fleet {wrapper} that was killed")
+    room.put("logs.audit", (ROOT / "samples/live-fleet/logs.audit").read_bytes())
+    done = room.call("audit", "logs.audit")
+    room.wants("what nodes took of each other is in their senders' logs", b"\nyes\n" in done.output, done)
+
+
+def random_fleets(room: Room) -> None:
+    """Kills fleets at random moments, a third as many as nodes."""
+    draw = random.Random(70)
+    logs = fleet_files(room, is_busy=True)
+    for _ in range(max(1, int(os.environ.get("EDGE_KILLS", "12")) // 3)):
+        killed_at_random(room, logs, draw)
 
 
 def killed_child(room: Room) -> None:
@@ -170,4 +208,4 @@ def signals(room: Room) -> None:
         node.kill()
 
 
-TESTS = [random_kills, killed_child, killed_fleet, signals, ended_together]
+TESTS = [random_kills, random_fleets, killed_child, killed_fleet, signals, ended_together]

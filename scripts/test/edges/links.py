@@ -7,7 +7,8 @@ import signal
 import socket
 import time
 
-from edges.room import CHUNK, LOOPBACK, MAGIC, Node, Room, bound_addresses, own_addresses, socket_at
+from edges.room import LOOPBACK, Node, Room, ask, bound_addresses, chunk_of, own_addresses, socket_at
+from planet_tools.frames.read import HEAD
 
 FRAME_MAX, DATAGRAM_MAX = 16_512, 65_507
 # milliseconds by which the clock of a node and this one's may differ; those that a quiet turn waits, at least and at most
@@ -64,7 +65,9 @@ def datagrams(room: Room) -> None:
     room.wants("a node serves", node.serves())
     draw = random.Random(69)
     sizes = [1, 2, 3, 5, 6, 10, 50, 1_000, 8_191, FRAME_MAX - 1, FRAME_MAX, FRAME_MAX + 1, FRAME_MAX + 2, 20_000, DATAGRAM_MAX]
-    sent = [MAGIC[:size] + draw.randbytes(max(0, size - len(MAGIC))) for size in sizes]
+    # the magic and the version
+    front = ask(5)[:HEAD - 1]
+    sent = [front[:size] + draw.randbytes(max(0, size - len(front))) for size in sizes]
     node.hears(b"")
     for frame in sent:
         node.hears(frame)
@@ -90,8 +93,8 @@ def bound_of_nothing(room: Room) -> None:
     node.asks(0)
     room.wants("a node ends with 0", node.ends() == 0)
     entries, said = node.entries(), node.said()
-    room.wants("an injection of bound 0 is logged", f"inject 0 {CHUNK.hex()}" in entries, entries)
-    room.wants("a request of bound 0 is logged", f"control {MAGIC.hex()}0300000000{CHUNK.hex()}" in entries, entries)
+    room.wants("an injection of bound 0 is logged", f"inject 0 {chunk_of(ask(0)).hex()}" in entries, entries)
+    room.wants("a request of bound 0 is logged", f"control {ask(0).hex()}" in entries, entries)
     room.wants("both are evaluated", said.count(" bound 0\n") == 2 and said.count(" value @1 ") == 2, said)
     room.wants("no line of a log that had memory is 'lost'", "lost" not in entries)
     node.replays("a node with bounds of 0")

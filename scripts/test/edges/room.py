@@ -1,6 +1,7 @@
 """What the tests of the edge share: a room for files, calls of the program, nodes that serve, and what isn't so."""
 from __future__ import annotations
 
+import functools
 import os
 import re
 import signal
@@ -12,11 +13,10 @@ import time
 from pathlib import Path
 from typing import Callable, Dict, List, Optional, Sequence, Tuple, Union
 
+from planet_tools.frames.layer import layer
+
 ROOT = Path(__file__).resolve().parents[3]
 LOOPBACK = "127.0.0.1"
-# the chunk of `fun f() : unit = ()` without arguments, and the letters and the version of a frame
-CHUNK = bytes.fromhex("0000010166000020016600")
-MAGIC = b"PLAN\x01"
 SECONDS = 60.0
 PROGRAM = "fun f() : unit = ()"
 # a schedule of one host in which a packet is evaluated, and what it writes
@@ -27,9 +27,16 @@ TRACE = (
 )
 
 
+@functools.lru_cache(None)
 def ask(bound: int) -> bytes:
-    """The frame by which an owner asks a node to inject the chunk."""
-    return MAGIC + b"\x03" + bound.to_bytes(4, "big") + CHUNK
+    """The frame by which an owner asks a node to inject the chunk of `fun f() : unit = ()` without arguments."""
+    plan = layer("edge")
+    return bytes(plan.PLAN() / plan.PlanAsk(bound=bound))
+
+
+def chunk_of(frame: bytes) -> bytes:
+    """The chunk of an ask."""
+    return bytes(layer("edge").PLAN(frame).chunk)
 
 
 class Done:
@@ -206,7 +213,7 @@ def preloaded(room: Room) -> Optional[str]:
     """The library that has calls fail, compiled; nothing where no compiler is there."""
     made = room.folder / "fail.so"
     if not made.exists():
-        words = ["cc", "-O1", "-shared", "-fPIC", "-o", str(made), str(Path(__file__).with_name("fail.c")), "-ldl"]
+        words = ["cc", "-O1", "-shared", "-fPIC", "-o", str(made), str(Path(__file__).with_name("fail.c"))]
         try:
             subprocess.run(words, check=True, capture_output=True)
         except (OSError, subprocess.CalledProcessError):

@@ -2,6 +2,7 @@
 from __future__ import annotations
 
 import os
+import select
 import signal
 import sys
 from types import FrameType
@@ -10,28 +11,48 @@ USAGE = """usage: explain PROGRAM WORD..
 
 Runs the program with the words. Its output, its notes and its status are as they are; behind a note stands more: the
 file, the line and the column, the line with the word that is wrong marked, and a sentence that helps. Where NO_COLOR is
-set it has no colours.
+set it has no colours. Where who read the output has ended, as in `.. | head`, nothing is said of it.
 """
 NOTE_MAX = 8_192
+WRITE_FAULT = b"planet: write fault\n"
 STDIN = "/dev/stdin"
 HANDED_ON = (signal.SIGINT, signal.SIGTERM, signal.SIGHUP, signal.SIGQUIT)
 
 
+def has_reader() -> bool:
+    """Whether somebody reads standard output, which no longer is so of a pipe whose reader has ended."""
+    poll = select.poll()
+    poll.register(1, 0)
+    return not any(what & select.POLLERR for _, what in poll.poll(0))
+
+
+def write_note(piece: bytes) -> None:
+    """Writes to standard error, where it takes something."""
+    try:
+        os.write(2, piece)
+    except OSError:
+        pass
+
+
 def passed_on(reading: int) -> bytes:
-    """Writes what comes to standard error as it comes, and returns its end."""
-    last = b""
+    """Writes what comes to standard error as it comes, but a last note of a pipe without a reader; returns its end."""
+    last, held = b"", b""
     while True:
         try:
             piece = os.read(reading, 65_536)
         except InterruptedError:
             continue
         if not piece:
-            return last
+            break
+        piece, held = held + piece, b""
+        if piece.endswith(WRITE_FAULT):
+            piece, held = piece[:-len(WRITE_FAULT)], WRITE_FAULT
         last = (last + piece)[-NOTE_MAX:]
-        try:
-            os.write(2, piece)
-        except OSError:
-            pass
+        write_note(piece)
+    if not held or not has_reader():
+        return last
+    write_note(held)
+    return last + held
 
 
 def ran(program: str, words: list[str]) -> tuple[int, bytes]:

@@ -4,8 +4,13 @@ from __future__ import annotations
 import os
 import tempfile
 from dataclasses import dataclass, field
-from typing import Dict, List, Tuple
+from typing import Dict, List
 
+from planet_tools.frames.judge import frame_of
+from planet_tools.frames.read import HEAD, Reader
+from planet_tools.frames.texts import program_text, value_text
+from planet_tools.frames.trees import Ask, Chunk
+from planet_tools.frames.write import number as number_bytes
 from planet_tools.program import run
 from planet_tools.trace.capture import entries_of
 from planet_tools.trace.files import run_of, text_of
@@ -14,9 +19,8 @@ from planet_tools.trace.forms import TRACE, Line, Refused
 
 # the program takes the frames off the wire again before it is full
 WIRE_MOST = 4_000
-ASK = bytes.fromhex("504c414e0103")
-# where in a frame of version 2 the moment stands at which its sender began
-BOOT = slice(6, 14)
+# the bytes of the moment at which the sender of a frame of version 2 began, behind its head
+BOOT_BYTES = 8
 
 
 @dataclass
@@ -70,7 +74,6 @@ class Program:
     def __init__(self, path: str, room: str) -> None:
         self.path = path
         self.room = room
-        self.shown: Dict[str, Tuple[str, str, str]] = {}
 
     def on_text(self, command: str, text: str) -> str:
         """What a command writes of a text."""
@@ -78,14 +81,6 @@ class Program:
         with open(file, "w", encoding="utf-8") as out:
             out.write(text)
         return run_program(self.path, [command, file])
-
-    def chunk(self, ask: str) -> Tuple[str, str, str]:
-        """The entry, the arguments and the program's text of the chunk of an ask."""
-        if ask not in self.shown:
-            _, call, text = self.on_text("show", ask).split("\n", 2)
-            entry, arguments = call[1:].split("|", 1)
-            self.shown[ask] = entry, arguments, text
-        return self.shown[ask]
 
 
 class Remade:
@@ -105,22 +100,23 @@ class Remade:
         self.events.append(text)
         self.owners.append(place)
 
-    def inject(self, place: int, ask: str, handler: str = "") -> None:
+    def inject(self, place: int, chunk: Chunk, bound: int, handler: str = "") -> None:
         """Adds an injection: its program is named, and its arguments are spelled as text."""
-        entry, arguments, text = self.program.chunk(ask)
-        name = self.programs.setdefault(text, f"p{len(self.programs) + 1}")
-        bound = int.from_bytes(bytes.fromhex(ask)[6:10], "big")
+        arguments = ", ".join(map(value_text, chunk.arguments))
+        name = self.programs.setdefault(program_text(chunk.program), f"p{len(self.programs) + 1}")
         with_handler = f"handler {handler} " if handler else ""
-        self.event(place, f"inject {self.log.host} {name} {entry} {bound} {with_handler}{arguments}")
+        self.event(place, f"inject {self.log.host} {name} {chunk.entry} {bound} {with_handler}({arguments})")
 
     def add(self, place: int, step: Step) -> None:
         """Adds the events that make a step again."""
         entry, host = step.entry, self.log.host
         if entry["kind"] == "inject":
-            bound = number(entry, "bound").to_bytes(4, "big")
-            self.inject(place, (ASK + bound).hex() + str(entry["hex"]), str(entry.get("handler", "")))
+            chunk = Reader(bytes.fromhex(str(entry["hex"]))).chunk()
+            self.inject(place, chunk, number(entry, "bound"), str(entry.get("handler", "")))
         elif entry["kind"] == "control" and any(line.startswith("inject ") for line in step.lines):
-            self.inject(place, str(entry["hex"]))
+            ask = frame_of(bytes.fromhex(str(entry["hex"]))).what
+            assert isinstance(ask, Ask)
+            self.inject(place, ask.chunk, ask.bound)
         elif entry["kind"] == "frame":
             self.event(place, f"raw {host} {entry['device']} {entry['hex']}")
         elif entry["kind"] == "tick":
@@ -157,7 +153,7 @@ class Remade:
         """A frame with the moment at which this log's node began."""
         if frame[4] != 2:
             return frame
-        return frame[: BOOT.start] + self.log.boot.to_bytes(8, "big") + frame[BOOT.stop:]
+        return frame[:HEAD] + number_bytes(self.log.boot, BOOT_BYTES) + frame[HEAD + BOOT_BYTES:]
 
 
 def network_of(lines: List[Line], host: int) -> List[str]:

@@ -79,8 +79,8 @@ def trace_of(words: argparse.Namespace) -> Tuple[str, str]:
 def explore(words: argparse.Namespace) -> None:
     """Makes the page of a file."""
     trace, said = trace_of(words)
-    if len(trace) > LONGEST:
-        raise Refused(f"more than {LONGEST} characters, {words.file}")
+    if len(trace.encode("utf-8")) > LONGEST:
+        raise Refused(f"more than {LONGEST >> 20} MB, {words.file}")
     if words.trace:
         write_whole(words.trace, trace)
     out = words.out or os.path.splitext(words.file)[0] + ".html"

@@ -25,6 +25,7 @@ return {
   now: document.getElementById("now").textContent, queued: texts("#queued li"), wired: texts("#wired li"), rows,
   lines: now.map((row) => row.querySelector(".event").textContent + " " + row.querySelector(".text").textContent),
   marks: states, counts: texts(".count"), verdict: document.getElementById("verdict").textContent,
+  judged: document.getElementById("verdict").className,
   fault: document.getElementById("fault").hidden ? "" : document.getElementById("fault").textContent,
   numbers: Object.fromEntries([...document.querySelectorAll("#numbers > div")].map(
     (it) => [it.querySelector("dt").textContent.trim(), Number(it.querySelector("dd").textContent)])),

@@ -135,6 +135,7 @@ def check_wrong_ledgers(browser: Browser, trace: Path, room: Path) -> None:
         browser.load(file)
         verdict = browser.shown()["verdict"]
         same(f"a ledger with a wrong {name}", verdict.startswith("the ledger isn't what the lines make: "), True)
+        same(f"a ledger with a wrong {name}", browser.shown()["judged"], "bad")
 
 
 def bad_inputs(trace: str) -> Dict[str, Any]:
@@ -171,7 +172,9 @@ def check_bad_inputs(browser: Browser, trace: Path, room: Path) -> int:
         if words not in shown["fault"]:
             raise Wrong(f"{name}: {shown['fault']!r} doesn't say {words!r}")
         browser.press("End")
-        same(f"{name}: the last event", browser.shown()["now"].split(" ")[-1], str(last or 14))
+        shown = browser.shown()
+        same(f"{name}: the last event", shown["now"].split(" ")[-1], str(last or 14))
+        same(f"{name}: the ledger", shown["judged"], "good" if last in (None, 14) else "open")
         file.unlink()
     return len(cases)
 
@@ -237,6 +240,13 @@ def check_selection(browser: Browser, trace: Path) -> None:
     browser.press("3")
     browser.run("return new Promise((done) => setTimeout(done, 1500))")
     same("the end of playing", [now_of(browser), browser.run(TEXTS, "#play")[0]], ["14", "play"])
+    browser.press("Home", "1")
+    browser.run("document.getElementById('slider').focus()")
+    browser.press(" ")
+    same("play by a key on the slider", browser.run(TEXTS, "#play")[0], "pause")
+    browser.press(" ")
+    same("pause by a key on the slider", browser.run(TEXTS, "#play")[0], "play")
+    browser.run("document.activeElement.blur()")
     check_packet(browser)
 
 

@@ -3,6 +3,7 @@ from __future__ import annotations
 
 import argparse
 import os
+import shutil
 import sys
 import tempfile
 from concurrent.futures import ThreadPoolExecutor
@@ -11,7 +12,7 @@ from typing import Callable, List, Sequence, Tuple
 
 from planet_tools.explore import page
 from planet_tools.explore.logs import Program, run_program
-from planet_tools.explorer_test import checks, fleets, pictures, schedules
+from planet_tools.explorer_test import checks, fleets, looks, pictures, schedules
 from planet_tools.explorer_test.browser import Browser
 from planet_tools.explorer_test.figures import measured
 
@@ -19,7 +20,7 @@ ROOT = Path(__file__).resolve().parents[3]
 SEEDS = range(1, 13)
 GROWN = (1, 2)
 GROWN_EVENTS = 60
-CHECKS = ("steps", "inputs", "choices", "labels", "ledgers", "fleets")
+CHECKS = ("steps", "inputs", "choices", "labels", "looks", "ledgers", "fleets")
 FIGURES = "figures"
 STEPPED = (
     "ticks-and-ping", "first-run", "loss-and-order", "frames-repeat", "handler-called", "bytes-from-outside",
@@ -47,7 +48,7 @@ class Trial:
 
     def __init__(self, browser: Browser, program: str, room: Path) -> None:
         self.browser, self.program, self.room = browser, program, room
-        self.ping = self.trace_of("ping", (ROOT / "samples/ticks-and-ping/ping.schedule").read_text("utf-8"))
+        self.ping = self.kept("ticks-and-ping", "ping")
 
     def trace_of(self, name: str, text: str) -> Path:
         """The trace of a schedule, as a file."""
@@ -57,12 +58,15 @@ class Trial:
         file.write_text(trace, "utf-8")
         return file
 
+    def kept(self, sample: str, name: str) -> Path:
+        """The trace that is kept of a sample's schedule, as a file of this name."""
+        file = self.room / f"{name}.trace"
+        shutil.copyfile(ROOT / f"samples/{sample}/output", file)
+        return file
+
     def steps(self) -> str:
         """Each event of the samples."""
-        count = 0
-        for sample in STEPPED:
-            words = (ROOT / f"samples/{sample}/command").read_text("utf-8").split()
-            count += checks.check_steps(self.browser, self.trace_of(sample, (ROOT / words[1]).read_text("utf-8")))
+        count = sum(checks.check_steps(self.browser, self.kept(sample, sample)) for sample in STEPPED)
         return f"{count} events as the lines say"
 
     def ledgers(self) -> str:
@@ -92,9 +96,9 @@ class Trial:
 
         with ThreadPoolExecutor(2) as workers:
             made = [*workers.map(grown, GROWN), *workers.map(drawn, SEEDS), *workers.map(settled, schedules.SHAPES)]
-            made += [(file.parent.name, file.read_text("utf-8")) for file in schedules.rows_by_hand(ROOT)]
             names = [f"{place}-{name}" for place, (name, _) in enumerate(made)]
-            return list(zip(names, workers.map(self.trace_of, names, (text for _, text in made))))
+            traces = list(zip(names, workers.map(self.trace_of, names, (text for _, text in made))))
+        return traces + [(file.parent.name, file) for file in schedules.kept_traces(ROOT)]
 
     def inputs(self) -> str:
         """Bad inputs and hostile texts."""
@@ -117,6 +121,18 @@ class Trial:
         traces = [self.trace_of(name, schedules.quiet_network(links)) for name, links in networks.items()]
         checks.check_labels(self.browser, traces)
         return f"no names over each other in {len(traces)} networks"
+
+    def looks(self) -> str:
+        """Texts and controls as a person sees them."""
+        widest = self.room / "widest.trace"
+        widest.write_text(looks.WIDEST, "utf-8")
+        shelf = ROOT / "samples/programs"
+        for trace, keys in (
+            (widest, ["End"]), (self.ping, ["ArrowRight"] * 14), (shelf / "flood/trace", ["n"] * 12),
+            (shelf / "traceroute/trace", ["End"] + ["p"] * 12),
+        ):
+            looks.check_looks(self.browser, trace, keys)
+        return "nothing is cut, no names lie over each other, and each control has a name"
 
     def fleets(self) -> str:
         """Live fleets as one run."""

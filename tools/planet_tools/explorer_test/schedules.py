@@ -5,10 +5,11 @@ import random
 import subprocess
 import sys
 from pathlib import Path
-from typing import Callable, Iterator, List, Optional, Set
+from typing import Callable, Iterator, List, Set
 
 from planet_tools.explore.logs import Program
 from planet_tools.explorer_test.reckoning import states
+from planet_tools.frames.layer import layer
 from planet_tools.trace.flow import End
 
 PING = """svc thisHostIs : (host) -> bool
@@ -46,8 +47,6 @@ fun spend(n : int) : int = n + n
 fun twice(n : int) : int = spend(spend(spend(spend(n))))
 """
 CALLS = ("ack ()", "ping (@{a}, @{b})", "flood ()", "again ()", "keep ({n})", "evals ()")
-# a packet of host 1 to host 2 and one to host 1, of both versions, and bytes that are no frame
-CHUNK = "0c64656661756c74526f7574650000010166000020016600"
 HOSTS, GROW_HOSTS = 5, 8
 DRAWN_PARTS, DRAWN_EVENTS = 5, 40
 EVENTS_MOST, ROUNDS = 50_000, 4
@@ -116,9 +115,12 @@ def on_wire(trace: str) -> Set[int]:
 
 def forged(draws: random.Random, version: int) -> str:
     """Bytes from outside in hex: packets to both of the first hosts, and what is no frame."""
-    family = f"{draws.randrange(1, 4):08x}{draws.randrange(1, 9):016x}"
-    stamp = f"{1:016x}{draws.randrange(1, 5):016x}" if version == 2 else ""
-    frame = f"504c414e0{version}01{stamp}{family}{draws.randrange(1, 3):08x}{draws.randrange(0, 9):08x}{CHUNK}"
+    plan = layer("explorer")
+    source, serial = draws.randrange(1, 4), draws.randrange(1, 9)
+    head = plan.PLAN(version=2, boot=1, link=draws.randrange(1, 5)) if version == 2 else plan.PLAN()
+    destination, bound = draws.randrange(1, 3), draws.randrange(0, 9)
+    packet = plan.PlanPacket(source=source, serial=serial, destination=destination, bound=bound)
+    frame = bytes(head / packet).hex()
     return draws.choice([frame, frame, frame, frame[:-2], "ff"])
 
 
@@ -197,24 +199,11 @@ def settled(program: str, shape: str, room: Path) -> str:
     return subprocess.run(words, capture_output=True, text=True, check=True).stdout
 
 
-def replayed(row: Path) -> Optional[Path]:
-    """The schedule or log of a row whose words replay one file, and which ends well."""
-    words = (row / "words").read_text("utf-8").split("\n") if (row / "words").exists() else []
-    if words[:1] != ["replay"] or (row / "status").read_text("utf-8").strip() not in ("", "0"):
-        return None
-    file = row / words[1]
-    return file if file.is_file() else None
-
-
-def rows_by_hand(root: Path) -> Iterator[Path]:
-    """The schedules that were written by hand: those of the samples, and those of the rows of replay."""
-    for command in sorted((root / "samples").glob("*/command")):
-        words = command.read_text("utf-8").split()
-        if words[0] == "replay":
-            yield root / words[1]
-    for row in sorted((root / "tests/replay").iterdir()):
-        file = replayed(row) if row.is_dir() else None
-        if file:
+def kept_traces(root: Path) -> Iterator[Path]:
+    """The traces with a ledger of schedules that were written by hand: of the samples, and of the rows of replay."""
+    for file in sorted([*root.glob("samples/*/output"), *root.glob("tests/replay/*/output")]):
+        text = file.read_text("utf-8")
+        if text.startswith("planet trace 1\n") and "\nledger\n" in text:
             yield file
 
 

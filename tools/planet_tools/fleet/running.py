@@ -1,18 +1,16 @@
 """A child that runs: how it is started, what it says, and how it ended."""
 from __future__ import annotations
 
-import ctypes
 import os
 import re
 import signal
 import subprocess
 import time
-from typing import Callable, Dict, Iterator, Optional, Tuple
+from typing import Dict, Iterator, Tuple
 
 from planet_tools.fleet.files import Child, Use
+from planet_tools.program import ended_with_parent
 
-# what prctl is asked: a signal for this process once its parent has ended
-PR_SET_PDEATHSIG = 1
 ENTRIES_MAX = 50_000
 # a longer line is cut where it is shown, and never kept whole
 LINE_MAX, SHOWN_MAX = 1_000_000, 2_000
@@ -28,16 +26,6 @@ STATUSES = {
     7: "there was no memory",
     8: "a child of it failed",
 }
-
-
-def ends_with_its_parent() -> None:
-    """Has the system kill this process where its supervisor is killed, which no handler could see."""
-    parent = os.getppid()
-    prctl: Optional[Callable[..., int]] = getattr(ctypes.CDLL(None), "prctl", None)
-    if prctl is not None:
-        prctl(PR_SET_PDEATHSIG, signal.SIGKILL, 0, 0, 0)
-        if os.getppid() != parent:
-            os.kill(os.getpid(), signal.SIGKILL)
 
 
 def text(held: bytes) -> str:
@@ -76,7 +64,7 @@ class Running:
         self.has_begun = False
         self.process = subprocess.Popen(
             [program, *child.words], stdin=subprocess.DEVNULL, stdout=subprocess.PIPE, stderr=subprocess.PIPE,
-            start_new_session=True, preexec_fn=ends_with_its_parent,
+            start_new_session=True, preexec_fn=ended_with_parent(signal.SIGKILL),
         )
         self.lines: Dict[int, Lines] = {}
 

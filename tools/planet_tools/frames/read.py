@@ -11,6 +11,8 @@ from planet_tools.frames.trees import (
 )
 
 MAGIC = b"PLAN"
+# the bytes of a head: the magic, the version and the kind; under version 2 with the stamp behind them
+HEAD, STAMPED_HEAD = 6, 22
 FRAME_MAX, CODE_MAX, WEIGHT_MAX, BOUND_MAX, COST_MAX = 16_512, 16_000, 16_384, 65_535, 65_535
 NAME_MAX, ROWS_MAX, NODES_MAX, DEPTH_MAX, TYPE_MAX, VALUE_MAX, NESTING_MAX = 32, 32, 4_096, 64, 8, 8, 4
 WORD = re.compile(rb"[A-Za-z][A-Za-z0-9_]*")

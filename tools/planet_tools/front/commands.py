@@ -24,6 +24,11 @@ class Command:
     def shown(self) -> str:
         return " ".join([self.name, *self.takes])
 
+    @property
+    def brief(self) -> str:
+        """What it does, in its first sentence and without brackets."""
+        return re.sub(r" \([^)]*\)", "", self.about).partition(". ")[0].rstrip(".")
+
 
 def plain(text: str) -> str:
     """Returns a text of the page without its links."""

@@ -2,11 +2,10 @@
 from __future__ import annotations
 
 import difflib
-import re
 import sys
 import textwrap
 
-from planet_tools.front.commands import Command, commands, options, statuses
+from planet_tools.front.commands import Command, commands, options, plain, statuses
 
 WIDTH, INDENT = 100, 22
 
@@ -21,7 +20,7 @@ def told(words: str, about: str) -> str:
 def overview() -> str:
     """Returns the help on all commands."""
     lines = ["planet: a node and tool for PLAN active packets", "", "usage: planet COMMAND ..", ""]
-    lines += [told(it.shown, re.sub(r" \([^)]*\)", "", it.about).partition(". ")[0].rstrip(".")) for it in commands()]
+    lines += [told(it.shown, it.brief) for it in commands()]
     lines += ["", "Words of the launcher:", "", *(told(words, about) for words, about in options().items())]
     lines += ["", "Where FILE stands, - is standard input. Exit codes:", ""]
     lines += [told(str(code), about.partition(";")[0].partition(":")[0]) for code, about in statuses().items()]
@@ -31,7 +30,6 @@ def overview() -> str:
 def of_command(command: Command) -> str:
     """Returns the help on one command."""
     lines = [f"usage: planet {command.shown}", "", textwrap.fill(command.about.replace("`", ""), WIDTH), ""]
-    from planet_tools.front.commands import plain
     for kind, text in command.lines.items():
         if kind == "Ends with":
             known = statuses()

@@ -20,17 +20,22 @@ def git(*words: str) -> str:
     return done.stdout.strip() if done.returncode == 0 else ""
 
 
-def main(state: str) -> int:
-    """Writes the version of a program in this state: built, unproved or none."""
+def told(state: str) -> str:
+    """Returns the version of a program in this state: built, unproved or none."""
     packed = ROOT / "built-from"
     if packed.exists():
-        sys.stdout.write(packed.read_text("utf-8"))
-        return 0
+        return packed.read_text("utf-8")
     commit = git("rev-parse", "--short", "HEAD") or "none"
     changed = " and changes" if git("diff", "--name-only", "HEAD", "--", "crates", "crates.txt") else ""
     kit = KIT.get(state)
-    print(f"planet {(ROOT / 'VERSION').read_text('utf-8').strip()}")
-    print(f"commit: {commit}{changed}")
-    print(f"kit: {kit.read_text('utf-8').strip() if kit and kit.exists() else 'none was used yet'}")
-    print(f"program: {STATES[state]}")
+    return "".join(f"{line}\n" for line in (
+        f"planet {(ROOT / 'VERSION').read_text('utf-8').strip()}",
+        f"commit: {commit}{changed}",
+        f"kit: {kit.read_text('utf-8').strip() if kit and kit.exists() else 'none was used yet'}",
+        f"program: {STATES[state]}",
+    ))
+
+
+def main(state: str) -> int:
+    sys.stdout.write(told(state))
     return 0

@@ -23,6 +23,8 @@ from planet_tools.sweep.table import BadTable, Table, line_of
 ABOUT = """Runs a scenario once for each way to choose values for names that it sets, side by side by GNU parallel, and
 writes a table with a row a run. What was done is kept: the same words again run what is missing."""
 BATCH_MOST = 50
+# as a shell has it of SIGINT
+BROKEN_OFF = 130
 
 
 def main(words: Sequence[str]) -> int:
@@ -48,7 +50,13 @@ def main(words: Sequence[str]) -> int:
     if asked.take is not None:
         take(table, asked.take)
     else:
-        sweep(grid, table, asked, planet, output)
+        try:
+            sweep(grid, table, asked, planet, output)
+        except KeyboardInterrupt:
+            clear_progress()
+            print("sweep: broken off, the same words again run what is missing", file=sys.stderr)
+            told_end(grid, table, output)
+            return BROKEN_OFF
     return told_end(grid, table, output)
 
 
@@ -92,7 +100,8 @@ def command_of(asked: argparse.Namespace, planet: str) -> list[str]:
 
 def batches_of(runs: list[int], asked: argparse.Namespace) -> list[str]:
     """The runs in batches: long enough that starting costs little, short enough that all processors end together."""
-    size = asked.batch or max(1, min(BATCH_MOST, len(runs) // (8 * (os.cpu_count() or 1))))
+    processors = (os.cpu_count() or 1) * max(1, len(",".join(asked.sshlogin).split(",")))
+    size = asked.batch or max(1, min(BATCH_MOST, len(runs) // (8 * processors)))
     if size < 1:
         fail("sweep", "a batch has at least one run", "--batch")
     return [ranges_of(runs[first:first + size]) for first in range(0, len(runs), size)]
@@ -111,7 +120,8 @@ def sweep(grid: Grid, table: Table, asked: argparse.Namespace, planet: str, outp
         batches.write("".join(batch + "\n" for batch in batches_of(runs, asked)))
         batches.flush()
         words = [*command, "--arg-file", batches.name, shlex.join(command_of(asked, planet)) + " {}"]
-        child = subprocess.Popen(words, stdin=subprocess.DEVNULL, stdout=subprocess.PIPE, start_new_session=True)
+        child = subprocess.Popen(words, stdin=subprocess.DEVNULL, stdout=subprocess.PIPE, start_new_session=True,
+                                 preexec_fn=program.ended_with_parent(signal.SIGTERM))
         try:
             receive(table, child, len(runs))
         except BaseException:
@@ -134,9 +144,14 @@ def receive(table: Table, child: subprocess.Popen[bytes], wanted: int) -> None:
             far = f"{number:,} of {wanted:,} runs, {table.failed:,} failed, some {left:,.0f} seconds left"
             print(f"\r\033[Ksweep: {far}", end="", file=sys.stderr, flush=True)
             told = now
+    clear_progress()
+    child.wait()
+
+
+def clear_progress() -> None:
+    """Takes the line away that says how far it is."""
     if sys.stderr.isatty():
         print("\r\033[K", end="", file=sys.stderr, flush=True)
-    child.wait()
 
 
 def take(table: Table, folder: Path) -> None:

@@ -131,6 +131,16 @@ def test_what_is_no_trace_is_refused(text: str, told: str, tmp_path: Path, capsy
     assert list(tmp_path.iterdir()) == [file]
 
 
+def test_a_trace_of_more_bytes_than_the_page_reads_is_refused(
+    tmp_path: Path, capsys: pytest.CaptureFixture[str], monkeypatch: pytest.MonkeyPatch
+) -> None:
+    monkeypatch.setattr("planet_tools.explore.main.LONGEST", 1 << 20)
+    file = tmp_path / "it.trace"
+    file.write_text('planet trace 1\n1 print @1 "' + "é" * (1 << 19) + '"\nend\n', "utf-8")
+    assert main([str(file)]) == 2
+    assert capsys.readouterr().err == f"explore: more than 1 MB, {file}\n"
+
+
 def test_a_page_stands_beside_its_trace(tmp_path: Path) -> None:
     file = tmp_path / "run.trace"
     file.write_text("planet trace 1\n1 nothing\nledger\nend\n")

@@ -17,6 +17,10 @@ def test_a_package_that_is_there_is_no_reason_to_go_on() -> None:
     python.need("tool", "os", "none")
 
 
+def test_a_folder_of_that_name_is_no_package() -> None:
+    assert (TOOLS / "explorer").is_dir() and not python.is_there("explorer")
+
+
 def test_a_missing_package_is_named(capsys: pytest.CaptureFixture[str], monkeypatch: pytest.MonkeyPatch) -> None:
     monkeypatch.setenv(python.GONE_ON, str(os.getpid()))
     with pytest.raises(SystemExit) as end:

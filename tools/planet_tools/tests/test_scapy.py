@@ -1,34 +1,24 @@
 """The layer for scapy builds and reads the bytes of frames; values of bytes are worked out by hand from the formats."""
 from __future__ import annotations
 
-import importlib.util
-import logging
-from pathlib import Path
+import re
+import subprocess
+import sys
 from typing import Any
 
 import pytest
 
-logging.getLogger("scapy").setLevel(logging.ERROR)
+from planet_tools.frames.layer import layer
+from planet_tools.program import ROOT
+
 SCAPY = pytest.importorskip("scapy.packet", reason="scapy is missing, install it with: apt-get install python3-scapy")
-PLACE = Path(__file__).resolve().parents[2] / "scapy" / "planet.py"
+L = layer("tests")
 ROUTE = "0c64656661756c74526f757465"
 # the chunk of `fun f() : unit = ()`, called without arguments
 UNIT_CHUNK = "0000010166000020016600"
 PACKET = f"504c414e0101 00000001 0000000000000001 00000002 00000009 {ROUTE} {UNIT_CHUNK}"
 ADVERT = "504c414e0102 00000002 0003 00000001 00000001 00000002 00000000 00000003 00000001"
 SAID = "packet 1.1 dest @2 bound 9 route defaultRoute\n|f|()\nfun f() : unit = ()\n"
-
-
-def layer() -> Any:
-    """The module of the layer."""
-    spec = importlib.util.spec_from_file_location("planet", PLACE)
-    assert spec and spec.loader
-    module = importlib.util.module_from_spec(spec)
-    spec.loader.exec_module(module)
-    return module
-
-
-L = layer()
 
 
 def held(text: str) -> bytes:
@@ -138,3 +128,11 @@ def test_no_field_hides_a_name_of_scapys() -> None:
     for one in (L.PLAN, L.PlanPacket, L.PlanHandled, L.PlanAdvert, L.PlanAsk, L.PlanRow, L.PlanChunk):
         for it in one.fields_desc:
             assert not hasattr(SCAPY.Packet, it.name), it.name
+
+
+def test_the_example_of_the_page_prints_what_the_page_shows() -> None:
+    page = (ROOT / "docs/use/data.md").read_text("utf-8")
+    found = re.search(r"```python\n(.*?)```.*?```\n(.*?)```", page, re.S)
+    assert found
+    done = subprocess.run([sys.executable, "-c", found[1]], cwd=ROOT, capture_output=True, text=True, check=False)
+    assert (done.stdout, done.returncode) == (found[2], 0), done.stderr

@@ -173,6 +173,39 @@ def test_a_killed_sweep_goes_on(tmp_path: Path, planet: str) -> None:
     assert len({(row["loss"], row["seed"]) for row in rows}) == len(rows) == 300
 
 
+@needs_parallel
+@pytest.mark.parametrize("how, told", [
+    (signal.SIGINT, "sweep: broken off, the same words again run what is missing\nsweep: "), (signal.SIGTERM, "")])
+def test_a_sweep_that_is_ended_leaves_nothing_behind(
+        tmp_path: Path, planet: str, how: signal.Signals, told: str) -> None:
+    scenario = tmp_path / "a.scenario"
+    scenario.write_text("planet scenario 1\nset seed 1\nhost 1\nevents\ntick 1\n")
+    table = tmp_path / "a.csv"
+    child = subprocess.Popen([SWEEP, str(scenario), "--planet", planet, "-o", str(table), "--batch", "500",
+                              "--over", "seed=1..100000"], stderr=subprocess.PIPE, text=True)
+    while not table.exists() or table.read_bytes().count(b"\n") < 2:
+        time.sleep(0.05)
+    child.send_signal(how)
+    said = child.communicate()[1]
+    assert child.returncode == (130 if how == signal.SIGINT else -how)
+    assert said.startswith(told) and "Traceback" not in said
+    until = time.monotonic() + 60
+    while any(str(tmp_path).encode() in words for words in running()) and time.monotonic() < until:
+        time.sleep(0.1)
+    assert not [words for words in running() if str(tmp_path).encode() in words]
+
+
+def running() -> list[bytes]:
+    """The words of all processes."""
+    found = []
+    for entry in Path("/proc").glob("[0-9]*/cmdline"):
+        try:
+            found.append(entry.read_bytes())
+        except OSError:
+            continue
+    return found
+
+
 def test_an_array_job(tmp_path: Path, planet: str, capsys: pytest.CaptureFixture[str]) -> None:
     """A task makes its batch into a file of its own; the parts together are the table."""
     scenario = tmp_path / "a.scenario"

@@ -1,7 +1,7 @@
 use Rattle.std.proofs.Common.{◌≡◌, ◌-◌, ◌*◌, ◌^◌, take}
 use Rattle.bound_ledger.specs.Rows.{OneEach}
 use Rattle.grow_run.specs.Summaries.{SumsHaveRoom, row_sums}
-use Rattle.grow_run.proofs.sums.totals.Given as goal
+use Rattle.grow_run.proofs.sums.sum_rows.Given as goal
 
 abbrev pub invariant-loop-i : goal.invariant-loop-i
 invariant-loop-i l = record {

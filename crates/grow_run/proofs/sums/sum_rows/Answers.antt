@@ -1,6 +1,6 @@
 use Rattle.std.proofs.Common.{◌-◌, ◌+◌, ◌*◌, ◌^◌, arith}
 use Rattle.grow_run.proofs.Summing.{sums_none, sums_next, sums_all, sums_room_less, sums_room_next}
-use Rattle.grow_run.proofs.sums.totals.Goals as goal
+use Rattle.grow_run.proofs.sums.sum_rows.Goals as goal
 
 pub loop-i-init : goal.loop-i-init
 loop-i-init c = record {

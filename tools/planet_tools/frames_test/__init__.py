@@ -1,0 +1,1 @@
+"""What tries the readers of frames, traces and logs: the dissector, the layer for scapy, exports and captures."""

@@ -1,0 +1,1 @@
+"""What is installed, where, and how it is taken away again."""

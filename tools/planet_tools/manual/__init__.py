@@ -1,0 +1,1 @@
+"""Makes manual pages of the pages of docs."""
