@@ -93,6 +93,15 @@ def begun_fleet(room: Room, logs: List[str], *wrapper: str) -> "subprocess.Popen
     return supervised(room, logs, [*wrapper, room.program, "fleet", "fleet.txt"])
 
 
+def ended(fleet: "subprocess.Popen[bytes]") -> int:
+    """The status of a fleet, and -9 of one that doesn't end, which is then killed."""
+    try:
+        return fleet.wait(20)
+    except subprocess.TimeoutExpired:
+        fleet.kill()
+        return fleet.wait()
+
+
 def logs_replay(room: Room, logs: List[str], saying: str) -> None:
     """Wants each log to replay, and all to fit together but for what was under way."""
     for it in logs:
@@ -145,7 +154,7 @@ def killed_child(room: Room) -> None:
         # those in front of it are waited for first
         for it in children[:place]:
             os.kill(it, signal.SIGKILL)
-        status = fleet.wait(20)
+        status = ended(fleet)
         said = [(room.folder / it).read_bytes() for it in ("fleet.out", "fleet.notes")]
         seen = (status, said) == (6, [b"", b"planet: spawn fault\n"])
         room.wants("a child that was killed is a fault, and has no line", seen, (status, said))

@@ -197,7 +197,9 @@ class Judge:
         if self.at < len(self.words):
             word = self.words[self.at]
             odd = oddity(word.text, self.at == len(self.words) - 1)
-            yield Wrong("BadWord", word.at, word.at + max(len(word.text), 1),
+            # of a space at the end of the line the space itself is marked
+            begin = word.at if word.text else word.at - 1
+            yield Wrong("BadWord", begin, begin + max(len(word.text), 1),
                         odd or f"nothing may stand behind the words of `{self.form.shown}`")
 
     def option(self, option: Option) -> Iterator[Wrong]:

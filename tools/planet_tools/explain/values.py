@@ -138,6 +138,7 @@ def misfit(text: str, name: str, params: list[tuple[str, str]]) -> Misfit | None
     """Returns where arguments don't fit the parameters of a function, if that is seen."""
     reader = Reader(text)
     wanted = ", ".join(f"{name} : {kind}" for name, kind in params)
+    count = f"{len(params)} argument{'s' * (len(params) != 1)}"
     try:
         if reader.token != "(":
             raise reader.wrong("arguments stand in round brackets, `()` where there are none")
@@ -146,14 +147,14 @@ def misfit(text: str, name: str, params: list[tuple[str, str]]) -> Misfit | None
             if number and reader.token == ",":
                 reader.at += 1
             if reader.token in (")", ""):
-                raise reader.wrong(f"`{name}` takes {len(params)} arguments ({wanted}), not {number}")
+                raise reader.wrong(f"`{name}` takes {count} ({wanted}), not {number}")
             begin = reader.begin
             given = reader.value()
             if given != kind:
                 raise Misfit(begin, reader.tokens[reader.at - 1][0] + len(reader.tokens[reader.at - 1][1]),
                              f"`{param}` of `{name}` is of type {kind}, and this is of type {given}")
         if reader.token != ")":
-            raise reader.wrong(f"`{name}` takes {len(params)} arguments ({wanted}), and no more" if reader.token == ","
+            raise reader.wrong(f"`{name}` takes {count} ({wanted}), and no more" if reader.token == ","
                                else "`)` must stand here")
         reader.at += 1
         if reader.token:

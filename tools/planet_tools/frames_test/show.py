@@ -15,6 +15,8 @@ from planet_tools.trace.forms import Refused
 
 WORKERS = 4
 NOTE = "planet: frame "
+# of a file that is longer than that of the longest frame
+TOO_LONG = "planet: TooLong"
 
 
 def frames_to_try(count: int, generated: Sequence[bytes]) -> List[bytes]:
@@ -34,6 +36,8 @@ def shown(program: str, frame: bytes, path: Path) -> str:
     done = run(program, ["show", str(path)])
     if done.status == 0:
         return done.output.decode()
+    if done.status == 2 and done.note == TOO_LONG:
+        return "TooLong"
     if done.status != 2 or not done.note.startswith(NOTE):
         raise Refused(f"status {done.status}, {done.note}, show of {frame.hex():.60}")
     return done.note.removeprefix(NOTE)
