@@ -22,7 +22,7 @@ from planet_tools.sweep.table import BadTable, Table, line_of
 
 ABOUT = """Runs a scenario once for each way to choose values for names that it sets, side by side by GNU parallel, and
 writes a table with a row a run. What was done is kept: the same words again run what is missing."""
-BATCH_MOST = 50
+BATCH_MOST = 200
 # as a shell has it of SIGINT
 BROKEN_OFF = 130
 
