@@ -15,6 +15,7 @@ from planet_tools.python import fail
 ROOT = Path(__file__).resolve().parents[2]
 BUILT = ROOT / "crates" / "planet" / "out" / "planet"
 LAUNCHER = ROOT / "planet"
+MEMORY = Path("/dev/shm")
 # what prctl is asked: a signal for this process once its parent has ended
 PR_SET_PDEATHSIG = 1
 NOTE = re.compile(r"planet: line (\d+): (.*)")
@@ -48,6 +49,12 @@ def run(program: str, words: Sequence[str], folder: Optional[Path] = None) -> En
     """Runs planet with these words, in a folder."""
     done = subprocess.run([program, *words], cwd=folder, stdin=subprocess.DEVNULL, capture_output=True, check=False)
     return Ended(done.returncode, done.stdout, done.stderr.decode("utf-8", "replace").strip())
+
+
+def room_in_memory() -> Optional[str]:
+    """Where files that are read at once and taken away are best made: in memory, where a disk may take its time to let
+    each of them go. It is None, the usual place, on a system without such a folder."""
+    return str(MEMORY) if os.access(MEMORY, os.W_OK | os.X_OK) else None
 
 
 def ended_with_parent(what: signal.Signals) -> Callable[[], None]:

@@ -1,7 +1,9 @@
 -- A message that a file names keeps its rules, and each file has one answer.
-use Rattle.std.proofs.Common.{◌⊎◌, ℕ, ◌≤◌, List, Result, Err, arith}
-use Rattle.std.specs.Prelude.{IfOk}
+use Rattle.std.proofs.Common.{◌≡◌, ◌⊎◌, ℕ, ℤ, ◌≤◌, false, List, Result, Err, sym, ◌∙◌, arith}
+use Rattle.std.specs.Prelude.{IfOk, pos}
+use Rattle.std.proofs.lemmas.Bool.Decides.{nat_tests}
 use lib.Chars.{codes}
+use Rattle.plan_meaning.specs.Meaning.{is_paid}
 use Rattle.frag_chunks.specs.Parts.{IsMessage}
 use Rattle.line_reader.specs.declared.fault.LineReason.TheVariants.{BadHeader, BadWord}
 use Rattle.line_reader.specs.declared.fault.LineFault.{LineFault}
@@ -138,3 +140,9 @@ cut_places = record {
 
 pub cut_answered : (bytes : List ℕ) → Accepted cut_of bytes ⊎ Refused cut_of bytes
 cut_answered bytes = value_or_refusal cut_format nothing_read (refuses_read cut_format nothing_read Anywhere cut_places tt) bytes
+
+-- ---- the purse
+
+-- a purse that holds a bound pays it
+pub pays_all : (n p : ℕ) (z : ℤ) → z ≡ pos n → p ≡ n → 1 ≤ n → is_paid z p ≡ false → ⊥
+pays_all n p z a b l e = let f : is_paid (pos n) n ≡ false = (λ i. is_paid (sym a i) (sym b i)) ∙ e in grind (arith, nat_tests)

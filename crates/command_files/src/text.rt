@@ -6,7 +6,7 @@ ghost use Rattle.command_files.specs.Cuts.{KeepsCut};
 ghost use Rattle.command_files.specs.Texts as spec;
 
 use crate::cut::CutFile;
-use frag_chunks::{Part, cut};
+use frag_chunks::{CutFault, Part, cut};
 use hex::encode;
 use packet_frame::put_ask;
 use plan_base::{Bytes, NoMemory};
@@ -36,6 +36,16 @@ fn put_parts(alloc: Global, parts: &[Part], out: &mut Bytes) -> Result<(), NoMem
     Ok(())
 }
 
+/// The lines of parts as a text.
+fn parts_text(alloc: Global, parts: &[Part]) -> Result<Bytes, NoMemory>
+    requires { All HasBound parts.now }
+    ensures { IfOk result (λ text. text ≡ flat_map spec.part_line parts.now) }
+{
+    let mut text = Bytes::new(alloc);
+    put_parts(alloc, parts, &mut text)?;
+    Ok(text)
+}
+
 /// What `cut` writes of a message: a line for each part, with its ask in hex. Condition: the message keeps the rules.
 /// The parts are paid from a purse that holds the message's bound, so the purse never refuses it.
 #[tactic(auto, unfolding(crate::specs::Texts::cut_output))]
@@ -46,7 +56,7 @@ pub fn cut_text(alloc: Global, file: &CutFile) -> Result<Bytes, NoMemory>
     let bound = file.bound;
     let key = file.key as i64;
     let mut purse = Purse::of(bound);
-    let cut = cut(
+    match cut(
         alloc,
         &mut purse,
         i64::from(bound),
@@ -54,11 +64,9 @@ pub fn cut_text(alloc: Global, file: &CutFile) -> Result<Bytes, NoMemory>
         file.port,
         key,
         &file.bytes,
-    );
-    let Ok(parts) = cut else {
-        return Err(NoMemory);
-    };
-    let mut text = Bytes::new(alloc);
-    put_parts(alloc, parts.as_slice(), &mut text)?;
-    Ok(text)
+    ) {
+        Ok(parts) => parts_text(alloc, parts.as_slice()),
+        Err(CutFault::NoMemory) => Err(NoMemory),
+        Err(CutFault::NoBound) => unreachable!(),
+    }
 }

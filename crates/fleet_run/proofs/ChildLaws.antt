@@ -2,11 +2,11 @@
 use Rattle.std.proofs.Common.{◌≡◌, ◌≢◌, inl, inr, ℕ, zero, suc, ◌+◌, ◌<◌, ◌≤◌, List, [], ◌∷◌, ◌++◌, length, take, drop, get_or, refl, sym, ◌∙◌, ap, subst, arith, rules, append-nil, append_assoc, true, cond, not, tests}
 use Rattle.std.specs.List.{Contains, filter}
 use Rattle.std.proofs.lemmas.Bool.{eq-eqb}
-use Rattle.std.proofs.lemmas.List.{drop_more, drop_all, take_more}
+use Rattle.std.proofs.lemmas.List.{drop_more, drop_all, take_more, length-drop}
 use Rattle.std.proofs.lemmas.List.Elements.{Contains-append_left, Contains-append_right, Contains-append_cases, Contains-push_cases, filter-append}
 use Rattle.node_io.specs.declared.spawner.Child.{Child}
 use Rattle.node_io.specs.Spawners.{is_other, IsFresh, Words}
-use Rattle.fleet_run.specs.Children.{AreApart, AreOpen, AreNumbered, LeavesOpen}
+use Rattle.fleet_run.specs.Children.{AreApart, AreOpen, AreNumbered, LeavesOpen, LeavesAllBut}
 
 none_in : (c : Child) → Contains [] c → ⊥
 none_in c k = let none : k.0 < 0 = k.1 in absurd (omega arith)
@@ -83,6 +83,10 @@ all_waited base running cs i h o = o.is ∙ ap (λ l. base ++ l) (drop_all i cs 
 
 pub leaves : (base running cs : List Child) → AreOpen base running cs → LeavesOpen base running
 leaves base running cs o = record { still = cs; is = o.is }
+
+-- so many were waited for, and the others are left
+pub leaves_behind : (base running cs : List Child) (gone all : ℕ) → AreOpen base running (drop gone cs) → gone ≤ length cs → length cs ≡ all → LeavesAllBut gone all base running
+leaves_behind base running cs gone all o h e = record { still = drop gone cs; is = o.is; count = omega (arith, length-drop gone cs, h, e) }
 
 -- the number of a child by its place
 pub numbered_at : (n : ℕ) (cs : List Child) (i : ℕ) (d : Child) → i < length cs → AreNumbered n cs → (get_or cs i d).0 ≡ n + i

@@ -1,5 +1,5 @@
 -- The lines of the first statuses are a prefix of those of all.
-use Rattle.std.proofs.Common.{◌≡◌, ℕ, zero, suc, List, [], ◌∷◌, ◌++◌, length, take, drop, IsTrue, Result, Ok, Err, refl, sym, ◌∙◌, ap, subst, append_assoc}
+use Rattle.std.proofs.Common.{◌≡◌, inl, inr, ℕ, zero, suc, List, [], ◌∷◌, ◌++◌, length, take, drop, IsTrue, Result, Ok, Err, refl, sym, ◌∙◌, ap, subst, append_assoc}
 use Rattle.network_config.specs.declared.fleet.Kid.{Kid}
 use Rattle.node_io.specs.Sinks.{SinkState, WritesPrefix}
 use Rattle.node_io.specs.Spawners.{SpawnerState}
@@ -32,7 +32,8 @@ prefix_written kids ss old new a b (Ok end) d = prefix_all a b (fleet_text kids 
 prefix_written kids ss old new a b (Err StartFault) d = subst (λ s. WritesPrefix a s (fleet_text kids ss)) (sym d.3) (prefix_none a (fleet_text kids ss))
 prefix_written kids ss old new a b (Err WaitFault) d = prefix_all a b (fleet_text kids ss) d.3
 prefix_written kids ss old new a b (Err WriteFault) d = record { count = d.2.count; is = d.2.is }
-prefix_written kids ss old new a b (Err NoMemory) d = prefix_all a b (fleet_text kids ss) d.2
+prefix_written kids ss old new a b (Err NoMemory) (inl d) = subst (λ s. WritesPrefix a s (fleet_text kids ss)) (sym d.1) (prefix_none a (fleet_text kids ss))
+prefix_written kids ss old new a b (Err NoMemory) (inr d) = prefix_all a b (fleet_text kids ss) d.2
 
 pub fleet_prefix : (kids : List Kid) (old new : SpawnerState) (a b : SinkState) (result : Result FleetEnd FleetFault) → RunsFleet kids old new a b result → IsTrue old.observable
     → WritesPrefix a b (fleet_text kids (drop old.started old.statuses))

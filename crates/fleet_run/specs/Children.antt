@@ -24,6 +24,12 @@ pub record LeavesOpen (old new : List Child) : Type 0 where
   pub still : List Child
   pub is : new ≡ old ++ still
 
+-- of so many children that were started, all but these first ones are open besides those that were open before
+pub record LeavesAllBut (gone all : ℕ) (old new : List Child) : Type 0 where
+  pub still : List Child
+  pub is : new ≡ old ++ still
+  pub count : gone + length still ≡ all
+
 -- one child was started for each, and these are open, besides some others and each apart from all others
 pub record AreStarted (kids : List Kid) (running started : List Child) : Type 0 where
   pub each : length started ≡ length kids

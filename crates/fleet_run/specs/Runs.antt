@@ -1,11 +1,11 @@
 -- What stands after a fleet's run, and after each part of it.
-use Rattle.std.specs.Prelude.{ℕ, IsTrue, List, ◌≡◌, ◌++◌, ◌⊎◌, ◌≤◌, length, take, drop, Result, Ok, Err}
+use Rattle.std.specs.Prelude.{ℕ, IsTrue, List, ◌≡◌, ◌+◌, ◌++◌, ◌⊎◌, ◌≤◌, length, take, drop, Result, Ok, Err}
 use Rattle.network_config.specs.declared.fleet.Kid.{Kid}
 use Rattle.node_io.specs.Causes.{HasRisen, one_more}
 use Rattle.node_io.specs.Sinks.{SinkState, Writes, FailsIn}
 use Rattle.node_io.specs.Spawners.{Words, SpawnerState, KeepsStatuses}
 use Rattle.node_io.specs.declared.spawner.Child.{Child}
-use Rattle.fleet_run.specs.Children.{AreOpen, AreNumbered, LeavesOpen}
+use Rattle.fleet_run.specs.Children.{AreOpen, AreNumbered, LeavesOpen, LeavesAllBut}
 use Rattle.fleet_run.specs.Fleets.{fleet_starts, fleet_text, fleet_end}
 use Rattle.fleet_run.specs.declared.fault.FleetFault.{FleetFault}
 use Rattle.fleet_run.specs.declared.fault.FleetFault.TheVariants.{StartFault, WaitFault, WriteFault, NoMemory}
@@ -47,9 +47,13 @@ ReportResult kids statuses old new out_old out_new (Err WaitFault) = HasRisen ol
 ReportResult kids statuses old new out_old out_new (Err WriteFault) = FailsIn out_old out_new (fleet_text kids statuses)
 ReportResult kids statuses old new out_old out_new (Err NoMemory) = Writes out_old out_new (fleet_text kids statuses)
 
-abbrev pub Closes : {T E : Type 0} → List Child → List Child → Result T E → Type 0
-Closes base running (Ok x) = running ≡ base
-Closes base running (Err e) = LeavesOpen base running
+-- none is left open; where it failed, all are but those whose line stands, and the one whose wait or line failed
+abbrev pub Closes : {T : Type 0} → ℕ → ℕ → List Child → List Child → Result T FleetFault → Type 0
+Closes all lines base running (Ok x) = running ≡ base
+Closes all lines base running (Err StartFault) = ⊥
+Closes all lines base running (Err WaitFault) = LeavesAllBut (lines + 1) all base running
+Closes all lines base running (Err WriteFault) = LeavesAllBut lines all base running
+Closes all lines base running (Err NoMemory) = LeavesAllBut (lines + 1) all base running
 
 pub record ReportsEach {T : Type 0} (kids : List Kid) (started : List Child) (statuses : List ℕ) (old new : SpawnerState)
     (out_old out_new : SinkState) (result : Result T FleetFault) : Type 0 where
@@ -57,7 +61,7 @@ pub record ReportsEach {T : Type 0} (kids : List Kid) (started : List Child) (st
   pub starts : new.starts ≡ old.starts
   pub few : length statuses ≤ length kids
   pub given : IsTrue old.observable → (n : ℕ) → AreNumbered n started → statuses ≡ take (length statuses) (drop n old.statuses)
-  pub closed : (base : List Child) → AreOpen base old.children started → Closes base new.children result
+  pub closed : (base : List Child) → AreOpen base old.children started → Closes (length kids) (length statuses) base new.children result
   pub did : ReportResult kids statuses old new out_old out_new result
 
 -- ---- the whole
@@ -74,14 +78,21 @@ FleetResult kids statuses old new out_old out_new (Err StartFault) =
     × (out_new ≡ out_old)
 FleetResult kids statuses old new out_old out_new (Err WaitFault) =
     HasRisen old.faults new.faults
-    × Started (fleet_starts kids) old new × LeavesOpen old.children new.children × Writes out_old out_new (fleet_text kids statuses)
+    × Started (fleet_starts kids) old new
+    × LeavesAllBut (length statuses + 1) (length kids) old.children new.children
+    × Writes out_old out_new (fleet_text kids statuses)
 FleetResult kids statuses old new out_old out_new (Err WriteFault) =
-    Started (fleet_starts kids) old new × LeavesOpen old.children new.children × FailsIn out_old out_new (fleet_text kids statuses)
+    Started (fleet_starts kids) old new
+    × LeavesAllBut (length statuses) (length kids) old.children new.children
+    × FailsIn out_old out_new (fleet_text kids statuses)
 FleetResult kids statuses old new out_old out_new (Err NoMemory) =
-    ((new.starts ≡ old.starts) ⊎ Started (fleet_starts kids) old new)
-    × LeavesOpen old.children new.children × Writes out_old out_new (fleet_text kids statuses)
+    ((new ≡ old) × (out_new ≡ out_old))
+    ⊎ (Started (fleet_starts kids) old new
+    × LeavesAllBut (length statuses + 1) (length kids) old.children new.children
+    × Writes out_old out_new (fleet_text kids statuses))
 
--- a fleet ran: these statuses of its first children came, in order, and so much stands
+-- a fleet ran: these statuses of its first children came, in order, one for each that was waited for but the one that failed, and so
+-- much stands
 pub record RunsFleet (kids : List Kid) (old new : SpawnerState) (out_old out_new : SinkState) (result : Result FleetEnd FleetFault) : Type 0 where
   pub kept : KeepsStatuses old new
   pub statuses : List ℕ

@@ -1,8 +1,7 @@
 -- The node after an injection and after an arrival, and what a reading answers.
-use Rattle.std.proofs.Common.{◌≡◌, ◌≢◌, ◌+◌, ◌++◌, inl, inr, ℕ, List, [], ◌∷◌, Bool, true, false, cond, Option, Some, ap, refl, sym, ◌∙◌, subst, arith}
+use Rattle.std.proofs.Common.{◌≡◌, ◌≢◌, ◌+◌, ◌++◌, ℕ, List, [], ◌∷◌, Bool, true, false, cond, Option, Some, ap, refl, sym, ◌∙◌, subst, arith}
 use Rattle.std.proofs.lemmas.Bool.Decides.{nat_tests}
-use Rattle.std.specs.Prelude.{◌==◌, ◌⊎◌, Result, Ok, Err, IfOk, IsErr, OnOk, OnErr, None}
-use Rattle.std.proofs.lemmas.Result.{IfOk-from_err}
+use Rattle.std.specs.Prelude.{◌==◌, Result, Ok, Err, IfOk, OnOk, OnErr, None}
 use Rattle.plan_base.specs.declared.ids.Dev.{Dev}
 use Rattle.plan_base.specs.declared.ids.Host.{Host}
 use Rattle.plan_base.specs.declared.name.Name.{Name}
@@ -16,9 +15,6 @@ use Rattle.replay_window.specs.declared.window.Window.{Window}
 use Rattle.replay_window.specs.Seen.{Seen}
 use Rattle.replay_window.specs.declared.window.Took.{Took}
 use Rattle.replay_window.specs.declared.window.Took.TheVariants.{Fresh}
-use Rattle.packet_frame.specs.Decoding.{read_by}
-use Rattle.packet_frame.specs.declared.fault.FrameFault.{FrameFault}
-use Rattle.packet_frame.specs.declared.fault.FrameFault.TheVariants as faults
 use Rattle.packet_frame.specs.declared.frame.PlainFrame.{PlainFrame}
 use Rattle.packet_frame.specs.declared.frame.PlainStamped.{PlainStamped}
 use Rattle.packet_frame.specs.Stamped.{AcceptsBy}
@@ -31,12 +27,12 @@ use Rattle.dv_routing.specs.Stands.{Stands}
 use Rattle.plan_base.specs.declared.memory.NoMemory.{NoMemory}
 use Rattle.network_config.specs.Rules.{MayName}
 use Rattle.node_core_spec.specs.declared.acts.Act.{Act}
-use Rattle.node_core_spec.specs.declared.acts.Act.TheVariants.{Injected, Arrived, Asked, Bad, Stale, SerialsSpent}
+use Rattle.node_core_spec.specs.declared.acts.Act.TheVariants.{Injected, Arrived, Stale, SerialsSpent}
 use Rattle.node_core_spec.specs.declared.acts.Acts.{Acts}
 use Rattle.node_core_spec.specs.State.{NodeState, Queues, routing_of}
 use Rattle.node_core_spec.specs.Visits.{around, visit_of, services_after}
 use Rattle.node_core_spec.specs.Node.{NodeStep, next_serial, injected_packet, visit_acts, visit_sends, sends_queues, visit_step, inject_step, stepped_node, mark_of, mark, takes_as, seen_then}
-use Rattle.node_core_spec.specs.Node.{with_seen, frame_step, only_acts, stamped_as, stamped_step, arrived_read, arrive_step, asked_read, control_step}
+use Rattle.node_core_spec.specs.Node.{with_seen, frame_step, only_acts, stamped_as, stamped_step, arrived_read, arrive_step}
 use Rattle.node_core_spec.specs.Fits.{IsMarked}
 use Rattle.node_core_spec.proofs.Staying.{frame_stays}
 use Rattle.node_core_parts.proofs.ReadingLaws.{goes_on}
@@ -217,33 +213,6 @@ module _ {S : Type 0} (stands : S → ServiceState) where
       → IfOk r (λ acts. IsStep stands (stamped_step s d x) acts old)
   stale_result s d x t (Ok acts) old n q e l f = stamped_so s d x t acts old q (subst (λ step. IsStep stands step acts old) (sym e) (record { list = l; frame = f; node = n }))
   stale_result s d x t (Err k) old n q e l f = l
-
-  -- bytes that are no frame, or for which an allocation failed
-  bad_result : (e : FrameFault) (first : Act) (step : NodeStep) (r : Result Acts NoMemory) (old : Node S) (s : NodeState) → NodeStands stands old s
-      → (e ≡ faults.NoMemory) ⊎ (step ≡ only_acts first (Bad e) s) → (e ≡ faults.NoMemory → IsErr r)
-      → IfOk r (λ acts. acts.list ≡ first ∷ Bad e ∷ []) → IfOk r (λ acts. acts.frame ≡ None) → IfOk r (λ acts. IsStep stands step acts old)
-  bad_result e first step r old s n (inl t) m l f = IfOk-from_err r (λ acts. IsStep stands step acts old) (m t)
-  bad_result e first step (Ok acts) old s n (inr q) m l f = subst (λ x. IsStep stands x acts old) (sym q) (record { list = l; frame = f; node = n })
-  bad_result e first step (Err k) old s n (inr q) m l f = l
-
-  read_so : (v w : Version) (bytes : List ℕ) (e : FrameFault) (read : Result PlainStamped FrameFault → NodeStep) (step : NodeStep) → v ≡ w → read (Err e) ≡ step
-      → (e ≡ faults.NoMemory) ⊎ (read_by v bytes ≡ Err e) → (e ≡ faults.NoMemory) ⊎ (read (read_by w bytes) ≡ step)
-  read_so v w bytes e read step q k (inl t) = inl t
-  read_so v w bytes e read step q k (inr t) = inr (ap (λ x. read (read_by x bytes)) (sym q) ∙ ap read t ∙ k)
-
-  pub arrived_refused : (e : FrameFault) (d : Dev) (bytes : List ℕ) (r : Result Acts NoMemory) (old : Node S) (s : NodeState) → NodeStands stands old s
-      → (e ≡ faults.NoMemory) ⊎ (read_by old.version bytes ≡ Err e) → (e ≡ faults.NoMemory → IsErr r)
-      → IfOk r (λ acts. acts.list ≡ Arrived d ∷ Bad e ∷ []) → IfOk r (λ acts. acts.frame ≡ None) → IfOk r (λ acts. IsStep stands (arrive_step s d bytes) acts old)
-  unfolding arrive_step
-  arrived_refused e d bytes r old s n t m l f =
-      bad_result e (Arrived d) (arrived_read s d (read_by s.version bytes)) r old s n (read_so old.version s.version bytes e (arrived_read s d) (only_acts (Arrived d) (Bad e) s) n.version refl t) m l f
-
-  pub asked_refused : (e : FrameFault) (bytes : List ℕ) (r : Result Acts NoMemory) (old : Node S) (s : NodeState) → NodeStands stands old s
-      → (e ≡ faults.NoMemory) ⊎ (read_by old.version bytes ≡ Err e) → (e ≡ faults.NoMemory → IsErr r)
-      → IfOk r (λ acts. acts.list ≡ Asked ∷ Bad e ∷ []) → IfOk r (λ acts. acts.frame ≡ None) → IfOk r (λ acts. IsStep stands (control_step s bytes) acts old)
-  unfolding control_step
-  asked_refused e bytes r old s n t m l f =
-      bad_result e Asked (asked_read s (read_by s.version bytes)) r old s n (read_so old.version s.version bytes e (asked_read s) (only_acts Asked (Bad e) s) n.version refl t) m l f
 
 -- the version whose frames bear this
 marked_version : (v : Version) (o : Option Stamp) → IsMarked v o → version_of o ≡ v

@@ -26,8 +26,7 @@ use crate::links::leads_to;
 use crate::opening::open_parts;
 use crate::own::{own_family, own_packet};
 use crate::step_acts::{
-    acts_room, arrived_bad, asked_bad, none_taken, one_act, only_acts, taken, ticked, two_room,
-    with_act,
+    acts_room, none_taken, one_act, only_acts, refusal_of, taken, ticked, two_room, with_act,
 };
 use checked_chunks::{Checked, CheckedChunk, CheckedPacket};
 use containers::Items;
@@ -596,7 +595,11 @@ impl<S: Services> Node<S> {
     {
         match read_as(alloc, bytes, self.version, self.known.as_ref()) {
             Ok(stamped) => self.arrive_read(alloc, dev, &stamped),
-            Err(fault) => arrived_bad(alloc, dev, fault),
+            Err(fault) => {
+                let refusal = refusal_of(fault)?;
+                let room = two_room(alloc)?;
+                Ok(only_acts(room, Act::Arrived(dev), Act::Bad(refusal)))
+            }
         }
     }
 
@@ -670,7 +673,11 @@ impl<S: Services> Node<S> {
     {
         match read_as(alloc, bytes, self.version, self.known.as_ref()) {
             Ok(stamped) => self.ask_read(alloc, stamped),
-            Err(fault) => asked_bad(alloc, fault),
+            Err(fault) => {
+                let refusal = refusal_of(fault)?;
+                let room = two_room(alloc)?;
+                Ok(only_acts(room, Act::Asked, Act::Bad(refusal)))
+            }
         }
     }
 

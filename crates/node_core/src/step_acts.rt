@@ -1,5 +1,5 @@
 //! The lists of what a step does.
-ghost use Rattle.std.specs.Prelude.{◌≡◌, ◌++◌, ◌+◌, ◌≤◌, IfOk, IsErr, [], ◌∷◌, None, Some, vec_len, vec_capacity};
+ghost use Rattle.std.specs.Prelude.{◌≡◌, ◌≢◌, ◌++◌, ◌+◌, ◌≤◌, IfOk, OnErr, [], ◌∷◌, None, Some, vec_len, vec_capacity};
 ghost use Rattle.node_core_spec.specs.declared.acts.Act.TheVariants as act;
 ghost use Rattle.packet_frame.specs.declared.fault.FrameFault.TheVariants as faults;
 ghost use Rattle.packet_frame.specs.Spelled as spelled;
@@ -65,33 +65,14 @@ pub(crate) fn only_acts(room: Vec<Act>, first: Act, second: Act) -> Acts
     }
 }
 
-/// What a step gives where the bytes that arrived are no frame, unless an allocation failed.
-pub(crate) fn arrived_bad(alloc: Global, dev: Dev, fault: FrameFault) -> Result<Acts, NoMemory>
-    ensures list { IfOk result (λ acts. acts.list ≡ act.Arrived dev ∷ act.Bad fault ∷ []) }
-    ensures frame { IfOk result (λ acts. acts.frame ≡ None) }
-    ensures memory { fault ≡ faults.NoMemory → IsErr result }
+/// The refusal of bytes that are no frame, which a step reports; only where an allocation failed the step is refused.
+pub(crate) fn refusal_of(fault: FrameFault) -> Result<FrameFault, NoMemory>
+    ensures ok { IfOk result (λ refusal. (refusal ≡ fault) × (fault ≢ faults.NoMemory)) }
+    ensures err { OnErr result (fault ≡ faults.NoMemory) }
 {
     match fault {
         FrameFault::NoMemory => Err(NoMemory),
-        refusal => {
-            let room = two_room(alloc)?;
-            Ok(only_acts(room, Act::Arrived(dev), Act::Bad(refusal)))
-        }
-    }
-}
-
-/// What a step gives where the bytes of the owner are no frame, unless an allocation failed.
-pub(crate) fn asked_bad(alloc: Global, fault: FrameFault) -> Result<Acts, NoMemory>
-    ensures list { IfOk result (λ acts. acts.list ≡ act.Asked ∷ act.Bad fault ∷ []) }
-    ensures frame { IfOk result (λ acts. acts.frame ≡ None) }
-    ensures memory { fault ≡ faults.NoMemory → IsErr result }
-{
-    match fault {
-        FrameFault::NoMemory => Err(NoMemory),
-        refusal => {
-            let room = two_room(alloc)?;
-            Ok(only_acts(room, Act::Asked, Act::Bad(refusal)))
-        }
+        refusal => Ok(refusal),
     }
 }
 

@@ -21,7 +21,7 @@ use Rattle.node_serve.specs.Desks.{Desk, Serving, desk_of, with_clock, seen_at, 
 use Rattle.node_serve.specs.Served.{run_in, IsBound, MayBind, Begins, EndsEarly, Served, Begun}
 use Rattle.node_log.proofs.Going.{ext_refl, turns_grows}
 use Rattle.node_serve.proofs.FrameLaws.{frames_of_run}
-use Rattle.node_serve.proofs.Agreeing.{agrees_more, agrees_all}
+use Rattle.node_serve.proofs.Agreeing.{agrees_all}
 use Rattle.node_serve.proofs.Showing.{text_more}
 
 -- ---- texts of a run that goes on
@@ -75,10 +75,10 @@ module _ (cfg : ServeConfig) (old new : Desk) where
   early_trace log out sent binds script =
       let head = head_text cfg.node cfg.missing in
       record {
-        log = begun (length (head_text cfg.node cfg.missing)) (subst (ChangesOnly old.files.held new.files.held cfg.log) (sym (take-length (head_text cfg.node cfg.missing))) log);
         out = out;
         agrees = record {
           sent = sent;
+          log = begun (length head) (subst (ChangesOnly old.files.held new.files.held cfg.log) (sym (take-length head)) log);
           out = inr (record { more = []; there = log.here ∙ ap Some (sym (append-nil head) ∙ sym (append-nil (head ++ []))) }, out);
         };
         binds = inr binds;
@@ -89,9 +89,8 @@ module _ (cfg : ServeConfig) (old new : Desk) where
   pub early_log : SavesFront old.files.held new.files.held cfg.log (head_text cfg.node cfg.missing) → new.out.taken ≡ old.out.taken → new.link.sent ≡ old.link.sent → MayBind cfg old.link new.link
       → new.link.script ≡ old.link.script → EndsEarly cfg old new
   early_log log out sent binds script = record {
-    log = log;
     out = record { count = 0; is = out ∙ sym (append-nil old.out.taken) };
-    agrees = record { sent = sent; out = inl out };
+    agrees = record { sent = sent; log = log; out = inl out };
     binds = binds;
     script = script;
   }
@@ -114,7 +113,7 @@ module _ (cfg : ServeConfig) (old new : Desk) where
         refused = [];
         steps = 0;
         places = refl;
-        log = saves_more (run_log cfg whole) (flat_map entry_text whole.events) refl h.log;
+        log = saves_more (run_log cfg whole) (flat_map entry_text whole.events) refl h.agrees.log;
         out = record { count = more.0; is = h.out.is ∙ ap (λ l. old.out.taken ++ l) (more.1 ∙ ap (take more.0) (sym (append_assoc (codes "planet trace 1\n") lines (codes "end\n")))) };
         sent = record { count = 0; is = h.agrees.sent ∙ sym (append-nil old.link.sent) };
         readable = All-nil (IsReadable cfg.node.version);
@@ -181,7 +180,7 @@ module _ (cfg : ServeConfig) (node : NodeState) (n : ℕ) (first : Desk) (mid la
         };
         sent = record { count = length a.done.sent; is = a.shows.sent ∙ ap (λ l. first.link.sent ++ l) (sym (ap (take (length a.done.sent)) x.frames ∙ take-append_seam a.done.sent x.sent)) };
         readable = subst (All (IsReadable cfg.node.version)) (sym front) a.shows.readable;
-        agrees = inr (subst (Agrees cfg (start_at first node) (seen_at (desk_of last))) (sym x.log) (agrees_more cfg (start_at first node) (seen_at (desk_of last)) a.done.events x.events a.shows.agrees));
+        agrees = inr (subst (Agrees cfg (start_at first node) (seen_at (desk_of last))) (sym front) a.shows.agrees);
         binds = inr (binds ∙ b.binds);
         script = used_as_before b.script script;
         answers = answers;
@@ -211,7 +210,7 @@ module _ (cfg : ServeConfig) (node : NodeState) (n : ℕ) (first : Desk) (mid la
         };
         sent = record { count = length a.done.sent; is = a.shows.sees.sent ∙ ap (λ l. first.link.sent ++ l) (sym (take-length a.done.sent) ∙ ap (λ r. take (length a.done.sent) r.sent) same) };
         readable = subst (All (IsReadable cfg.node.version)) (sym front) a.shows.sees.readable;
-        agrees = inr (subst (λ r. Agrees cfg (start_at first node) (seen_at (desk_of (record last { out = out }))) r.events) same
+        agrees = inr (subst (Agrees cfg (start_at first node) (seen_at (desk_of (record last { out = out })))) (sym front)
             (agrees_all cfg (start_at first node) (seen_at (desk_of (record last { out = out }))) a.done [] taken.count a.shows.sees.grows a.shows.frames
             (a.shows.sees.log.here ∙ ap Some (sym (append-nil (run_log cfg a.done))))
             (taken.is ∙ ap (λ l. l ++ take taken.count (codes "end\n")) a.shows.sees.out ∙ append_assoc first.out.taken trace (take taken.count (codes "end\n")))

@@ -1,5 +1,5 @@
 -- A node of version 2 begins at the clock's next answer, one of version 1 at none.
-use Rattle.std.proofs.Common.{◌≡◌, ℕ, ◌<◌, ◌^◌, List, Result, refl, sym, subst}
+use Rattle.std.proofs.Common.{◌≡◌, ℕ, ◌<◌, ◌^◌, List, Result, refl, sym, subst, arith}
 use Rattle.plan_base.specs.declared.ids.Dev.{Dev}
 use Rattle.service_api.specs.declared.package.PackageName.{PackageName}
 use Rattle.network_config.specs.declared.serve.Inject.{Inject as Injection}
@@ -59,15 +59,17 @@ module _ {T : Type 0} (cfg : ServeConfig) (services : ServiceState) (n : ℕ) (o
         boot = 0;
         clock = old.clock;
         asked = subst (λ v. Asks v old.clock old.clock 0) (sym one) (refl, refl);
+        fits = omega arith;
         serves = subst (λ (c : ServeConfig). Serves c (new_node c.node services) n old new result) same h;
       }
 
   -- under version 2
-  pub two_served : (boot : ℕ) (clock : ClockState) (c : ServeConfig) → cfg.node.version ≡ Two → Tells old.clock clock boot → c ≡ booted_config boot cfg
+  pub two_served : (boot : ℕ) (clock : ClockState) (c : ServeConfig) → cfg.node.version ≡ Two → Tells old.clock clock boot → boot < 2 ^ 64 → c ≡ booted_config boot cfg
       → Serves c (new_node c.node services) n (record old { clock = clock }) new result → ServesFrom cfg services n old new result
-  two_served boot clock c two told is h = record {
+  two_served boot clock c two told small is h = record {
     boot = boot;
     clock = clock;
     asked = subst (λ v. Asks v old.clock clock boot) (sym two) told;
+    fits = small;
     serves = subst (λ (d : ServeConfig). Serves d (new_node d.node services) n (record old { clock = clock }) new result) is h;
   }

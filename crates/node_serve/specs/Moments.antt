@@ -1,5 +1,5 @@
 -- The moment at which a serving node begins, and what its version takes.
-use Rattle.std.specs.Prelude.{◌≡◌, ℕ, Bool, true, false, Option, Some, None, Result}
+use Rattle.std.specs.Prelude.{◌≡◌, ◌<◌, ◌^◌, ℕ, Bool, true, false, Option, Some, None, Result}
 use Rattle.plan_base.specs.declared.name.Name.{Name}
 use Rattle.plan_base.specs.declared.stamp.Version.{Version}
 use Rattle.plan_base.specs.declared.stamp.Version.TheVariants.{One, Two}
@@ -26,11 +26,12 @@ abbrev pub Asks : Version → ClockState → ClockState → ℕ → Type 0
 Asks One old new boot = (new ≡ old) × (boot ≡ 0)
 Asks Two old new boot = Tells old new boot
 
--- the moment was asked for, and then the node that begins with it served so many turns, or a prefix of them
+-- the moment was asked for, a number of 64 bits, and then the node that begins with it served so many turns, or a prefix of them
 pub record ServesFrom {T : Type 0} (cfg : ServeConfig) (services : ServiceState) (turns : ℕ) (old new : Serving) (result : Result T ServeFault) : Type 0 where
   pub boot : ℕ
   pub clock : ClockState
   pub asked : Asks cfg.node.version old.clock clock boot
+  pub fits : boot < 2 ^ 64
   pub serves : Serves (booted_config boot cfg) (new_node (booted_config boot cfg).node services) turns (record old { clock = clock }) new result
 
 -- a node of version 1 takes no handler

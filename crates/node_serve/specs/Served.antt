@@ -35,15 +35,16 @@ pub record Begins (cfg : ServeConfig) (old new : Desk) : Type 0 where
   pub binds : IsBound cfg old.link new.link
   pub script : new.link.script ≡ old.link.script
 
--- nothing was sent, and nothing written; or the log has its first lines, and the output a prefix of the trace's first line
+-- nothing was sent, and the log has no entry: only a prefix of its first lines was written. Nothing else was; or the log has all of
+-- these, and the output a prefix of the trace's first line
 pub record AgreesEarly (cfg : ServeConfig) (old new : Desk) : Type 0 where
   pub sent : new.link.sent ≡ old.link.sent
+  pub log : SavesFront old.files.held new.files.held cfg.log (head_text cfg.node cfg.missing)
   pub out : (new.out.taken ≡ old.out.taken)
       ⊎ (HasLogged cfg new.files.held [] × AppendsFront old.out.taken new.out.taken (codes "planet trace 1\n"))
 
 -- only prefixes of the log's first lines and of the trace's first line were written
 pub record EndsEarly (cfg : ServeConfig) (old new : Desk) : Type 0 where
-  pub log : SavesFront old.files.held new.files.held cfg.log (head_text cfg.node cfg.missing)
   pub out : AppendsFront old.out.taken new.out.taken (codes "planet trace 1\n")
   pub agrees : AgreesEarly cfg old new
   pub binds : MayBind cfg old.link new.link
@@ -66,7 +67,8 @@ pub record SendsFront (old new frames : List Heard) : Type 0 where
   pub count : ℕ
   pub is : new ≡ old ++ take count frames
 
--- a prefix of the run was made, with the steps refused that its log says; what stands outside are prefixes of what the run makes, which agree
+-- a prefix of the run was made, so many steps, with those refused that its log says; what stands outside are prefixes of what the run
+-- makes, which agree, and of no step more
 pub record Begun (cfg : ServeConfig) (node : NodeState) (turns : ℕ) (old new : Serving) : Type 0 where
   pub refused : List ℕ
   pub steps : ℕ
@@ -76,7 +78,7 @@ pub record Begun (cfg : ServeConfig) (node : NodeState) (turns : ℕ) (old new :
   pub sent : SendsFront old.link.sent new.link.sent (run_in cfg node turns old refused).sent
   pub readable : All (IsReadable cfg.node.version) (take steps (run_in cfg node turns old refused).events)
   pub agrees : AgreesEarly cfg (desk_of old) (desk_of new)
-      ⊎ Agrees cfg (start_at (desk_of old) node) (seen_at (desk_of new)) (run_in cfg node turns old refused).events
+      ⊎ Agrees cfg (start_at (desk_of old) node) (seen_at (desk_of new)) (take steps (run_in cfg node turns old refused).events)
   pub binds : MayBind cfg old.link new.link
   pub script : UsedUpTo turns old.link.script new.link.script
   pub answers : UsedUpTo turns old.clock.answers new.clock.answers

@@ -1,5 +1,5 @@
 //! The public call: serves by a configuration for so many turns.
-ghost use Rattle.std.specs.Prelude.{◌≡◌, IfOk, length};
+ghost use Rattle.std.specs.Prelude.{◌≡◌, ◌<◌, ◌^◌, IfOk, length};
 ghost use Rattle.network_config.specs.NodeRules.{KeepsServe};
 ghost use Rattle.node_core.specs.Turns.{IsResting};
 ghost use Rattle.node_core_spec.specs.State.{NodeState, new_node};
@@ -167,6 +167,7 @@ fn outside_again(alloc: Global, cfg: &ServeConfig) -> Result<(Packages, Text, De
 /// This configuration with another moment at which the node begins. Conditions: it keeps the rules, and is of version 2.
 fn with_boot(alloc: Global, cfg: &ServeConfig, boot: u64) -> Result<ServeConfig, NoMemory>
     requires { KeepsTwo cfg.now }
+    ensures fits { boot < 2 ^ 64 }
     ensures is { IfOk result (λ c. c ≡ moments.booted_config boot cfg.now) }
     ensures keeps { IfOk result KeepsServe }
 {

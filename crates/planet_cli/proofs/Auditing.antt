@@ -13,10 +13,10 @@ use Rattle.command_files.specs.declared.audit.AuditFile.{AuditFile}
 use Rattle.command_files.specs.AuditFiles.{audit_of}
 use Rattle.exit_status.specs.declared.status.Cause.{Cause}
 use Rattle.exit_status.specs.declared.status.Cause.TheVariants.{Done}
-use Rattle.planet_commands.specs.Said.{says, lines_said}
+use Rattle.planet_commands.specs.Said.{says, lines_said, said_then}
 use Rattle.planet_commands.specs.Takes.{Untaken, TakeResult}
 use Rattle.planet_commands.specs.Renders.{Prints}
-use Rattle.planet_commands_fleet.specs.Audits.{said_then, logs_said, fit_text, text_said, audit_said, FramesRead, AsksAlong, AuditsFile}
+use Rattle.planet_commands_fleet.specs.Audits.{logs_said, fit_text, text_said, audit_said, FramesRead, AsksAlong, AuditsFile}
 use Rattle.planet_cli.specs.Requests.{request_of, audit}
 use Rattle.planet_cli.specs.Calls.{Calls}
 use Rattle.planet_cli.specs.Outcomes.{whole, outcome_by, WritesOut}

@@ -17,24 +17,18 @@ use Rattle.exit_status.specs.declared.status.Cause.{Cause}
 use Rattle.exit_status.specs.declared.status.Cause.TheVariants.{Done, Usage, Refused, ReadFault, WriteFault, LinkFault, SpawnFault, NoMemory, NodesFailed}
 use Rattle.planet_commands.specs.Said.{Said}
 use Rattle.planet_commands.specs.Takes.{Untaken}
-use Rattle.planet_commands.specs.Renders.{Prints, PrintsBy}
-use Rattle.planet_commands.specs.Checks.{check_said}
-use Rattle.planet_commands.specs.Shows.{show_said}
-use Rattle.planet_commands_run.specs.Schedules.{replay_said}
+use Rattle.planet_commands.specs.Renders.{Prints}
 use Rattle.planet_commands_run.specs.Grown.{GrowsAs}
-use Rattle.command_files.specs.Texts.{cut_output}
-use Rattle.planet_commands_fleet.specs.Messages.{cut_said, gather_said, messages_text}
-use Rattle.reliable_ports_world.specs.Texts.{port_output}
-use Rattle.planet_commands_port.specs.Ports.{port_said}
 use Rattle.planet_commands_fleet.specs.Audits.{audit_said}
 use Rattle.planet_commands_fleet.specs.Asks.{AsksAs, ask_said, ask_cause}
 use Rattle.planet_commands_fleet.specs.Fleets.{RunsAs, fleet_said, fleet_cause}
 use Rattle.planet_commands_fleet.specs.Nodes.{ServesAs, config_said, serve_cause}
-use Rattle.planet_cli.specs.Requests.{Request, replay, check, show, inject, fleet, node, grow, cut, gather, ports, audit}
+use Rattle.planet_cli.specs.Kinds.{file_said}
+use Rattle.planet_cli.specs.Requests.{Request, on_file, inject, fleet, audit, node, grow}
 use Rattle.planet_cli.specs.Does.{Does, wire_in, shop_in, serving_in}
 use Rattle.planet_cli.specs.Calls.{Calls}
 use Rattle.planet_cli.specs.Laws.{UnlessLinked, UnlessFleet, IfNodesFailed}
-use Rattle.planet_cli.proofs.Views.{Took, took, left, view, audit_view}
+use Rattle.planet_cli.proofs.Views.{Took, took, left, view, text_view, audit_view}
 use Rattle.planet_cli.proofs.Giving.{call_gives_cause, fact_carries_over}
 
 -- no fault of the link; and none of children
@@ -102,12 +96,9 @@ serving_is_unstarted (Err serves.LinkFault) = tt
 serving_is_unstarted (Err serves.WriteFault) = tt
 serving_is_unstarted (Err serves.NoMemory) = tt
 
-texts_so : {A : Type 0} (text : A → List ℕ) (said : FileMap → Said A) (files read : FilesState) (c : Cause) (a b : SinkState) → Took said (PrintsBy text) files read c a b → Unlinked c × Unstarted c
-texts_so text said files read c a b (took v own p) = printing_has_neither (text v) c a b p
-texts_so text said files read c a b (left u same) = untaken said files read c u
-
 prints_so : (said : FileMap → Said (List ℕ)) (files read : FilesState) (c : Cause) (a b : SinkState) → Took said Prints files read c a b → Unlinked c × Unstarted c
-prints_so said files read c a b t = texts_so (λ text. text) said files read c a b t
+prints_so said files read c a b (took text own p) = printing_has_neither text c a b p
+prints_so said files read c a b (left u same) = untaken said files read c u
 
 module _ (c : Cause) (old new : Outside) where
   asks_so : (file : List ℕ) → Took (ask_said file) AsksAs old.files new.files c (wire_in old) (wire_in new) → Unstarted c
@@ -124,46 +115,31 @@ module _ (c : Cause) (old new : Outside) where
 
   kinds : (q : Option Request) → Does q c old new → UnlessLinked q (Unlinked c) × UnlessFleet q (Unstarted c)
   kinds None d = (subst Unlinked (sym d.0) tt, subst Unstarted (sym d.0) tt)
-  kinds (Some (replay file)) d = prints_so (replay_said file) old.files new.files c old.out new.out (view (replay_said file) Prints file old.files new.files c old.out new.out d.1)
-  kinds (Some (check file)) d = prints_so (check_said file) old.files new.files c old.out new.out (view (check_said file) Prints file old.files new.files c old.out new.out d.1)
-  kinds (Some (show file)) d = prints_so (show_said file) old.files new.files c old.out new.out (view (show_said file) Prints file old.files new.files c old.out new.out d.1)
+  kinds (Some (on_file kind file)) d = prints_so (file_said kind file) old.files new.files c old.out new.out (text_view kind file old.files new.files c old.out new.out d.1)
   kinds (Some (inject file)) d = (tt, asks_so file (view (ask_said file) AsksAs file old.files new.files c (wire_in old) (wire_in new) d.1))
   kinds (Some (fleet file)) d = (runs_so file (view (fleet_said file) RunsAs file old.files new.files c (shop_in old) (shop_in new) d.1), tt)
   kinds (Some (node file turns)) d = (tt, serves_so file turns d.1.read (view (config_said file) (ServesAs turns) file old.files d.1.read c (record (serving_in old) { files = d.1.read }) (serving_in new) d.1.did))
   kinds (Some (grow seed k)) d = growing_has_neither seed k c old.out new.out d.1
-  kinds (Some (cut file)) d = texts_so cut_output (cut_said file) old.files new.files c old.out new.out (view (cut_said file) (PrintsBy cut_output) file old.files new.files c old.out new.out d.1)
-  kinds (Some (ports file)) d = texts_so port_output (port_said file) old.files new.files c old.out new.out (view (port_said file) (PrintsBy port_output) file old.files new.files c old.out new.out d.1)
-  kinds (Some (gather port file)) d = texts_so (messages_text port) (gather_said file) old.files new.files c old.out new.out (view (gather_said file) (PrintsBy (messages_text port)) file old.files new.files c old.out new.out d.1)
   kinds (Some (audit file)) d = prints_so (audit_said file) old.files new.files c old.out new.out (audit_view file old.files new.files c old.out new.out d.1)
 
 -- ---- calls
 
 unless_linked : (q : Option Request) (P Q : Type 0) → (P → Q) → UnlessLinked q P → UnlessLinked q Q
 unless_linked None P Q f h = f h
-unless_linked (Some (replay file)) P Q f h = f h
-unless_linked (Some (check file)) P Q f h = f h
-unless_linked (Some (show file)) P Q f h = f h
+unless_linked (Some (on_file kind file)) P Q f h = f h
 unless_linked (Some (inject file)) P Q f h = tt
 unless_linked (Some (fleet file)) P Q f h = f h
 unless_linked (Some (node file turns)) P Q f h = tt
 unless_linked (Some (grow seed n)) P Q f h = f h
-unless_linked (Some (cut file)) P Q f h = f h
-unless_linked (Some (gather port file)) P Q f h = f h
-unless_linked (Some (ports file)) P Q f h = f h
 unless_linked (Some (audit file)) P Q f h = f h
 
 unless_fleet : (q : Option Request) (P Q : Type 0) → (P → Q) → UnlessFleet q P → UnlessFleet q Q
 unless_fleet None P Q f h = f h
-unless_fleet (Some (replay file)) P Q f h = f h
-unless_fleet (Some (check file)) P Q f h = f h
-unless_fleet (Some (show file)) P Q f h = f h
+unless_fleet (Some (on_file kind file)) P Q f h = f h
 unless_fleet (Some (inject file)) P Q f h = f h
 unless_fleet (Some (fleet file)) P Q f h = tt
 unless_fleet (Some (node file turns)) P Q f h = f h
 unless_fleet (Some (grow seed n)) P Q f h = f h
-unless_fleet (Some (cut file)) P Q f h = f h
-unless_fleet (Some (gather port file)) P Q f h = f h
-unless_fleet (Some (ports file)) P Q f h = f h
 unless_fleet (Some (audit file)) P Q f h = f h
 
 none_failed : (c : Cause) → Unstarted c → IfNodesFailed c (λ h s. ⊥)

@@ -13,24 +13,18 @@ use Rattle.exit_status.specs.declared.status.Cause.TheVariants.{Done, Usage, Ref
 use Rattle.exit_status.specs.declared.status.Refusal.{Refusal}
 use Rattle.planet_commands.specs.Said.{Said, nothing, outside, says}
 use Rattle.planet_commands.specs.Takes.{Untaken}
-use Rattle.planet_commands.specs.Renders.{Prints, PrintsBy}
-use Rattle.planet_commands.specs.Checks.{check_said}
-use Rattle.planet_commands.specs.Shows.{show_said}
-use Rattle.planet_commands_run.specs.Schedules.{replay_said}
+use Rattle.planet_commands.specs.Renders.{Prints}
 use Rattle.fleet_run.specs.Asks.{ask_line}
-use Rattle.command_files.specs.Texts.{cut_output}
-use Rattle.planet_commands_fleet.specs.Messages.{cut_said, gather_said, messages_text}
-use Rattle.reliable_ports_world.specs.Texts.{port_output}
-use Rattle.planet_commands_port.specs.Ports.{port_said}
 use Rattle.planet_commands_fleet.specs.Audits.{audit_said}
 use Rattle.planet_commands_fleet.specs.Asks.{AsksAs, ask_said}
 use Rattle.planet_commands_fleet.specs.Fleets.{RunsAs, fleet_said}
 use Rattle.planet_commands_fleet.specs.Nodes.{ServesAs, config_said}
-use Rattle.planet_cli.specs.Requests.{Request, replay, check, show, inject, fleet, node, grow, cut, gather, ports, audit}
+use Rattle.planet_cli.specs.Kinds.{file_said}
+use Rattle.planet_cli.specs.Requests.{Request, on_file, inject, fleet, audit, node, grow}
 use Rattle.planet_cli.specs.Does.{Does, wire_in, shop_in, serving_in}
 use Rattle.planet_cli.specs.Outcomes.{Outcome, unasked, missing, refused, whole, runs, outcome_by, outcome_of, IsWhole, IsAccepted, WritesOut, BeginsOut}
 use Rattle.planet_cli.specs.Laws.{WhereInjected}
-use Rattle.planet_cli.proofs.Views.{Took, took, left, view, audit_view}
+use Rattle.planet_cli.proofs.Views.{Took, took, left, view, text_view, audit_view}
 use Rattle.planet_cli.proofs.Acting.{Acting, printing, asking, running, serving, growing}
 
 -- a refusal is the file's own and what the file says, and leaves the output; what the file refuses is refused; it is done only where
@@ -134,14 +128,10 @@ no_whole text r e = cc
 no_runs : (r : Refusal) → runs ≢ refused r
 no_runs r e = cc
 
-texts_end : {A : Type 0} (text : A → List ℕ) (said : FileMap → Said A) (files read : FilesState) (a b : SinkState) (c : Cause) → Took said (PrintsBy text) files read c a b
-    → Ending (outcome_by (λ v. whole (text v)) (said files.held)) (IsTrue files.observable) (HasRisen files.read_faults read.read_faults) (Unit {0}) a b c
-texts_end text said files read a b c (took v own p) = acting_gives_ending (λ x. whole (text x)) (λ x r. no_whole (text x) r) said files read (Unit {0}) a b v c own (printing (text v) c (Unit {0}) a b p)
-texts_end text said files read a b c (left u same) = untaken (λ x. whole (text x)) (λ x r. no_whole (text x) r) said files read (Unit {0}) a b c u same
-
 prints_end : (said : FileMap → Said (List ℕ)) (files read : FilesState) (a b : SinkState) (c : Cause) → Took said Prints files read c a b
     → Ending (outcome_by whole (said files.held)) (IsTrue files.observable) (HasRisen files.read_faults read.read_faults) (Unit {0}) a b c
-prints_end said files read a b c t = texts_end (λ text. text) said files read a b c t
+prints_end said files read a b c (took text own p) = acting_gives_ending whole no_whole said files read (Unit {0}) a b text c own (printing text c (Unit {0}) a b p)
+prints_end said files read a b c (left u same) = untaken whole no_whole said files read (Unit {0}) a b c u same
 
 ask_ends : (file : List ℕ) (c : Cause) (old new : Outside) → Took (ask_said file) AsksAs old.files new.files c (wire_in old) (wire_in new) → EndsBy (Some (inject file)) old new c
 ask_ends file c old new (took a own p) =
@@ -198,15 +188,9 @@ usage_ends c old new u same = subst (EndsBy None old new) (sym u) (record {
 -- how a call ends
 pub ends : (q : Option Request) (c : Cause) (old new : Outside) → Does q c old new → EndsBy q old new c
 ends None c old new d = usage_ends c old new d.0 d.1
-ends (Some (replay file)) c old new d = prints_end (replay_said file) old.files new.files old.out new.out c (view (replay_said file) Prints file old.files new.files c old.out new.out d.1)
-ends (Some (check file)) c old new d = prints_end (check_said file) old.files new.files old.out new.out c (view (check_said file) Prints file old.files new.files c old.out new.out d.1)
-ends (Some (show file)) c old new d = prints_end (show_said file) old.files new.files old.out new.out c (view (show_said file) Prints file old.files new.files c old.out new.out d.1)
+ends (Some (on_file kind file)) c old new d = prints_end (file_said kind file) old.files new.files old.out new.out c (text_view kind file old.files new.files c old.out new.out d.1)
 ends (Some (inject file)) c old new d = ask_ends file c old new (view (ask_said file) AsksAs file old.files new.files c (wire_in old) (wire_in new) d.1)
 ends (Some (fleet file)) c old new d = fleet_ends file c old new (view (fleet_said file) RunsAs file old.files new.files c (shop_in old) (shop_in new) d.1)
 ends (Some (node file turns)) c old new d = node_ends file turns c old new d.1.read (view (config_said file) (ServesAs turns) file old.files d.1.read c (record (serving_in old) { files = d.1.read }) (serving_in new) d.1.did)
 ends (Some (grow seed n)) c old new d = apart_ends (IsTrue old.files.observable) (HasRisen old.files.read_faults new.files.read_faults) (Unit {0}) old.out new.out c (growing (Unit {0}) seed n c old.out new.out d.1)
-ends (Some (cut file)) c old new d = texts_end cut_output (cut_said file) old.files new.files old.out new.out c (view (cut_said file) (PrintsBy cut_output) file old.files new.files c old.out new.out d.1)
-ends (Some (ports file)) c old new d = texts_end port_output (port_said file) old.files new.files old.out new.out c (view (port_said file) (PrintsBy port_output) file old.files new.files c old.out new.out d.1)
-ends (Some (gather port file)) c old new d =
-    texts_end (messages_text port) (gather_said file) old.files new.files old.out new.out c (view (gather_said file) (PrintsBy (messages_text port)) file old.files new.files c old.out new.out d.1)
 ends (Some (audit file)) c old new d = prints_end (audit_said file) old.files new.files old.out new.out c (audit_view file old.files new.files c old.out new.out d.1)

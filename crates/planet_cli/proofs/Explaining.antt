@@ -24,24 +24,18 @@ use Rattle.exit_status.specs.declared.status.Cause.{Cause}
 use Rattle.exit_status.specs.declared.status.Cause.TheVariants.{Done, Usage, Refused, ReadFault, WriteFault, LinkFault, SpawnFault, NoMemory, NodesFailed}
 use Rattle.planet_commands.specs.Said.{Said}
 use Rattle.planet_commands.specs.Takes.{Untaken}
-use Rattle.planet_commands.specs.Renders.{Prints, PrintsBy}
-use Rattle.planet_commands.specs.Checks.{check_said}
-use Rattle.planet_commands.specs.Shows.{show_said}
-use Rattle.planet_commands_run.specs.Schedules.{replay_said}
+use Rattle.planet_commands.specs.Renders.{Prints}
 use Rattle.planet_commands_run.specs.Grown.{GrowsAs}
-use Rattle.command_files.specs.Texts.{cut_output}
-use Rattle.planet_commands_fleet.specs.Messages.{cut_said, gather_said, messages_text}
-use Rattle.reliable_ports_world.specs.Texts.{port_output}
-use Rattle.planet_commands_port.specs.Ports.{port_said}
 use Rattle.planet_commands_fleet.specs.Audits.{audit_said}
 use Rattle.planet_commands_fleet.specs.Asks.{AsksAs, ask_said, ask_cause}
 use Rattle.planet_commands_fleet.specs.Fleets.{RunsAs, fleet_said, fleet_cause}
 use Rattle.planet_commands_fleet.specs.Nodes.{ServesAs, config_said, own_services, serve_cause}
-use Rattle.planet_cli.specs.Requests.{Request, replay, check, show, inject, fleet, node, grow, cut, gather, ports, audit}
+use Rattle.planet_cli.specs.Kinds.{file_said}
+use Rattle.planet_cli.specs.Requests.{Request, on_file, inject, fleet, audit, node, grow}
 use Rattle.planet_cli.specs.Does.{Does, wire_in, shop_in, serving_in}
 use Rattle.planet_cli.specs.Calls.{Calls}
 use Rattle.exit_status.specs.Notes.{Notes, told, no_memory, failed}
-use Rattle.planet_cli.proofs.Views.{Took, took, left, view, audit_view}
+use Rattle.planet_cli.proofs.Views.{Took, took, left, view, text_view, audit_view}
 
 module _ (old new : Outside) (n m : SinkState) where
   printing_explains : (text : List ℕ) (c : Cause) → Prints text c old.out new.out → Explains c old new n m
@@ -99,12 +93,9 @@ module _ (old new : Outside) (n m : SinkState) where
   untaken said SpawnFault u = elim u [ ]
   untaken said (NodesFailed h s) u = tt
 
-  texts_so : {A : Type 0} (text : A → List ℕ) (said : FileMap → Said A) (c : Cause) → Took said (PrintsBy text) old.files new.files c old.out new.out → Explains c old new n m
-  texts_so text said c (took v own p) = printing_explains (text v) c p
-  texts_so text said c (left u same) = untaken said c u
-
   prints_so : (said : FileMap → Said (List ℕ)) (c : Cause) → Took said Prints old.files new.files c old.out new.out → Explains c old new n m
-  prints_so said c t = texts_so (λ text. text) said c t
+  prints_so said c (took text own p) = printing_explains text c p
+  prints_so said c (left u same) = untaken said c u
 
   asks_so : (file : List ℕ) (c : Cause) → Took (ask_said file) AsksAs old.files new.files c (wire_in old) (wire_in new) → Explains c old new n m
   asks_so file c (took a own p) = subst (λ k. Explains k old new n m) (sym p.is) (asking_explains a p.result p.asks)
@@ -122,18 +113,13 @@ module _ (old new : Outside) (n m : SinkState) where
   -- of what was done
   pub explains : (q : Option Request) (c : Cause) → Does q c old new → Explains c old new n m
   explains None c d = subst (λ k. Explains k old new n m) (sym d.0) tt
-  explains (Some (replay file)) c d = prints_so (replay_said file) c (view (replay_said file) Prints file old.files new.files c old.out new.out d.1)
-  explains (Some (check file)) c d = prints_so (check_said file) c (view (check_said file) Prints file old.files new.files c old.out new.out d.1)
-  explains (Some (show file)) c d = prints_so (show_said file) c (view (show_said file) Prints file old.files new.files c old.out new.out d.1)
+  explains (Some (on_file kind file)) c d = prints_so (file_said kind file) c (text_view kind file old.files new.files c old.out new.out d.1)
   explains (Some (inject file)) c d = asks_so file c (view (ask_said file) AsksAs file old.files new.files c (wire_in old) (wire_in new) d.1)
   explains (Some (fleet file)) c d = runs_so file c (view (fleet_said file) RunsAs file old.files new.files c (shop_in old) (shop_in new) d.1)
   explains (Some (node file turns)) c d =
       serves_so file turns c d.1.read d.1.did.takes.only.write_faults
       (view (config_said file) (ServesAs turns) file old.files d.1.read c (record (serving_in old) { files = d.1.read }) (serving_in new) d.1.did)
   explains (Some (grow seed k)) c d = growing_explains seed k c d.1
-  explains (Some (cut file)) c d = texts_so cut_output (cut_said file) c (view (cut_said file) (PrintsBy cut_output) file old.files new.files c old.out new.out d.1)
-  explains (Some (ports file)) c d = texts_so port_output (port_said file) c (view (port_said file) (PrintsBy port_output) file old.files new.files c old.out new.out d.1)
-  explains (Some (gather port file)) c d = texts_so (messages_text port) (gather_said file) c (view (gather_said file) (PrintsBy (messages_text port)) file old.files new.files c old.out new.out d.1)
   explains (Some (audit file)) c d = prints_so (audit_said file) c (audit_view file old.files new.files c old.out new.out d.1)
 
   by_notes : (found cause : Cause) → Notes found n m cause → Explains found old new n m → Explains cause old new n m

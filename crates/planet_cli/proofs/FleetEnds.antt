@@ -27,7 +27,7 @@ stopped_by : (f : Fleet) (result : Result FleetEnd FleetFault) (old new : Outsid
 stopped_by f (Ok Well) old new p e = absurd (cc)
 stopped_by f (Ok (Failed host s)) old new p e = absurd (cc)
 stopped_by f (Err fleets.StartFault) old new p e = inl (record { starts = p.did.1; waited = p.did.2; out = p.did.3 })
-stopped_by f (Err fleets.WaitFault) old new p e = inr (record { starts = p.did.1; left = p.did.2; statuses = p.statuses; lines = p.did.3 })
+stopped_by f (Err fleets.WaitFault) old new p e = inr (record { starts = p.did.1; statuses = p.statuses; given = p.given; left = p.did.2; lines = p.did.3 })
 stopped_by f (Err fleets.WriteFault) old new p e = absurd (cc)
 stopped_by f (Err fleets.NoMemory) old new p e = absurd (cc)
 

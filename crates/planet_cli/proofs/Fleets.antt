@@ -82,9 +82,9 @@ starts_front f (Ok end) old new p = starts_all (fleet_starts f.children) old.chi
 starts_front f (Err fleets.StartFault) old new p = p.did.1
 starts_front f (Err fleets.WaitFault) old new p = starts_all (fleet_starts f.children) old.children new.children p.did.1
 starts_front f (Err fleets.WriteFault) old new p = starts_all (fleet_starts f.children) old.children new.children p.did.0
-starts_front f (Err fleets.NoMemory) old new p = elim p.did.0 [
-  | inl none ↦ starts_none (fleet_starts f.children) old.children new.children none
-  | inr all ↦ starts_all (fleet_starts f.children) old.children new.children all
+starts_front f (Err fleets.NoMemory) old new p = elim p.did [
+  | inl none ↦ starts_none (fleet_starts f.children) old.children new.children (ap (λ s. s.starts) none.0)
+  | inr all ↦ starts_all (fleet_starts f.children) old.children new.children all.0
 ]
 
 none_ran : (s : Said Fleet) (old new : Outside) → shop_in new ≡ shop_in old → RunsAtMost s old new

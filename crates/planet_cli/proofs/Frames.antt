@@ -10,7 +10,7 @@ use Rattle.network_config.specs.declared.serve.ServeConfig.{ServeConfig}
 use Rattle.planet_commands_fleet.specs.Asks.{AsksAs, ask_said}
 use Rattle.planet_commands_fleet.specs.Fleets.{RunsAs, fleet_said}
 use Rattle.planet_commands_fleet.specs.Nodes.{ServesAs, config_said}
-use Rattle.planet_cli.specs.Requests.{Request, replay, check, show, inject, fleet, node, grow, cut, gather, ports, audit}
+use Rattle.planet_cli.specs.Requests.{Request, on_file, inject, fleet, audit, node, grow}
 use Rattle.planet_cli.specs.Does.{Does, wire_in, shop_in, serving_in}
 use Rattle.planet_cli.specs.Calls.{Calls}
 use Rattle.planet_cli.specs.Laws.{UnlessLinked, UnlessFleet, UnlessNode, AsksFor, LogsAtMost, MakesAtMost}
@@ -19,44 +19,29 @@ use Rattle.planet_cli.proofs.Views.{Took, took, left, view}
 module _ (c : Cause) (old new : Outside) where
   pub link_stays : (q : Option Request) → Does q c old new → UnlessLinked q (new.link ≡ old.link)
   link_stays None d = ap (λ o. o.link) d.1
-  link_stays (Some (replay file)) d = ap (λ o. o.link) d.0
-  link_stays (Some (check file)) d = ap (λ o. o.link) d.0
-  link_stays (Some (show file)) d = ap (λ o. o.link) d.0
+  link_stays (Some (on_file kind file)) d = ap (λ o. o.link) d.0
   link_stays (Some (inject file)) d = tt
   link_stays (Some (fleet file)) d = ap (λ o. o.link) d.0
   link_stays (Some (node file turns)) d = tt
   link_stays (Some (grow seed n)) d = ap (λ o. o.link) d.0
-  link_stays (Some (cut file)) d = ap (λ o. o.link) d.0
-  link_stays (Some (gather port file)) d = ap (λ o. o.link) d.0
-  link_stays (Some (ports file)) d = ap (λ o. o.link) d.0
   link_stays (Some (audit file)) d = ap (λ o. o.link) d.0
 
   pub clock_stays : (q : Option Request) → Does q c old new → UnlessNode q (new.clock ≡ old.clock)
   clock_stays None d = ap (λ o. o.clock) d.1
-  clock_stays (Some (replay file)) d = ap (λ o. o.clock) d.0
-  clock_stays (Some (check file)) d = ap (λ o. o.clock) d.0
-  clock_stays (Some (show file)) d = ap (λ o. o.clock) d.0
+  clock_stays (Some (on_file kind file)) d = ap (λ o. o.clock) d.0
   clock_stays (Some (inject file)) d = ap (λ o. o.clock) d.0
   clock_stays (Some (fleet file)) d = ap (λ o. o.clock) d.0
   clock_stays (Some (node file turns)) d = tt
   clock_stays (Some (grow seed n)) d = ap (λ o. o.clock) d.0
-  clock_stays (Some (cut file)) d = ap (λ o. o.clock) d.0
-  clock_stays (Some (gather port file)) d = ap (λ o. o.clock) d.0
-  clock_stays (Some (ports file)) d = ap (λ o. o.clock) d.0
   clock_stays (Some (audit file)) d = ap (λ o. o.clock) d.0
 
   pub children_stay : (q : Option Request) → Does q c old new → UnlessFleet q (new.children ≡ old.children)
   children_stay None d = ap (λ o. o.children) d.1
-  children_stay (Some (replay file)) d = ap (λ o. o.children) d.0
-  children_stay (Some (check file)) d = ap (λ o. o.children) d.0
-  children_stay (Some (show file)) d = ap (λ o. o.children) d.0
+  children_stay (Some (on_file kind file)) d = ap (λ o. o.children) d.0
   children_stay (Some (inject file)) d = ap (λ o. o.children) d.0
   children_stay (Some (fleet file)) d = tt
   children_stay (Some (node file turns)) d = d.0
   children_stay (Some (grow seed n)) d = ap (λ o. o.children) d.0
-  children_stay (Some (cut file)) d = ap (λ o. o.children) d.0
-  children_stay (Some (gather port file)) d = ap (λ o. o.children) d.0
-  children_stay (Some (ports file)) d = ap (λ o. o.children) d.0
   children_stay (Some (audit file)) d = ap (λ o. o.children) d.0
 
   script_asked : (file : List ℕ) → Took (ask_said file) AsksAs old.files new.files c (wire_in old) (wire_in new) → new.link.script ≡ old.link.script
@@ -65,16 +50,11 @@ module _ (c : Cause) (old new : Outside) where
 
   pub script_stays : (q : Option Request) → Does q c old new → UnlessNode q (new.link.script ≡ old.link.script)
   script_stays None d = ap (λ o. o.link.script) d.1
-  script_stays (Some (replay file)) d = ap (λ o. o.link.script) d.0
-  script_stays (Some (check file)) d = ap (λ o. o.link.script) d.0
-  script_stays (Some (show file)) d = ap (λ o. o.link.script) d.0
+  script_stays (Some (on_file kind file)) d = ap (λ o. o.link.script) d.0
   script_stays (Some (inject file)) d = script_asked file (view (ask_said file) AsksAs file old.files new.files c (wire_in old) (wire_in new) d.1)
   script_stays (Some (fleet file)) d = ap (λ o. o.link.script) d.0
   script_stays (Some (node file turns)) d = tt
   script_stays (Some (grow seed n)) d = ap (λ o. o.link.script) d.0
-  script_stays (Some (cut file)) d = ap (λ o. o.link.script) d.0
-  script_stays (Some (gather port file)) d = ap (λ o. o.link.script) d.0
-  script_stays (Some (ports file)) d = ap (λ o. o.link.script) d.0
   script_stays (Some (audit file)) d = ap (λ o. o.link.script) d.0
 
   statuses_run : (file : List ℕ) → Took (fleet_said file) RunsAs old.files new.files c (shop_in old) (shop_in new) → new.children.statuses ≡ old.children.statuses
@@ -83,32 +63,22 @@ module _ (c : Cause) (old new : Outside) where
 
   pub statuses_stay : (q : Option Request) → Does q c old new → new.children.statuses ≡ old.children.statuses
   statuses_stay None d = ap (λ o. o.children.statuses) d.1
-  statuses_stay (Some (replay file)) d = ap (λ o. o.children.statuses) d.0
-  statuses_stay (Some (check file)) d = ap (λ o. o.children.statuses) d.0
-  statuses_stay (Some (show file)) d = ap (λ o. o.children.statuses) d.0
+  statuses_stay (Some (on_file kind file)) d = ap (λ o. o.children.statuses) d.0
   statuses_stay (Some (inject file)) d = ap (λ o. o.children.statuses) d.0
   statuses_stay (Some (fleet file)) d = statuses_run file (view (fleet_said file) RunsAs file old.files new.files c (shop_in old) (shop_in new) d.1)
   statuses_stay (Some (node file turns)) d = ap (λ k. k.statuses) d.0
   statuses_stay (Some (grow seed n)) d = ap (λ o. o.children.statuses) d.0
-  statuses_stay (Some (cut file)) d = ap (λ o. o.children.statuses) d.0
-  statuses_stay (Some (gather port file)) d = ap (λ o. o.children.statuses) d.0
-  statuses_stay (Some (ports file)) d = ap (λ o. o.children.statuses) d.0
   statuses_stay (Some (audit file)) d = ap (λ o. o.children.statuses) d.0
 
   -- ---- files
 
   pub files_stay : (q : Option Request) → Does q c old new → UnlessNode q (new.files.held ≡ old.files.held)
   files_stay None d = ap (λ o. o.files.held) d.1
-  files_stay (Some (replay file)) d = d.1.takes.only.held
-  files_stay (Some (check file)) d = d.1.takes.only.held
-  files_stay (Some (show file)) d = d.1.takes.only.held
+  files_stay (Some (on_file kind file)) d = d.1.takes.only.held
   files_stay (Some (inject file)) d = d.1.takes.only.held
   files_stay (Some (fleet file)) d = d.1.takes.only.held
   files_stay (Some (node file turns)) d = tt
   files_stay (Some (grow seed n)) d = ap (λ o. o.files.held) d.0
-  files_stay (Some (cut file)) d = d.1.takes.only.held
-  files_stay (Some (gather port file)) d = d.1.takes.only.held
-  files_stay (Some (ports file)) d = d.1.takes.only.held
   files_stay (Some (audit file)) d = d.1.only.held
 
   node_asked : (file : List ℕ) (turns : ℕ) (read : FilesState) → MayName old.files.asked read.asked file
@@ -118,16 +88,11 @@ module _ (c : Cause) (old new : Outside) where
 
   pub files_asked : (q : Option Request) → Does q c old new → AsksFor q old.files.asked new.files.asked
   files_asked None d = ap (λ o. o.files.asked) d.1
-  files_asked (Some (replay file)) d = d.1.takes.asked
-  files_asked (Some (check file)) d = d.1.takes.asked
-  files_asked (Some (show file)) d = d.1.takes.asked
+  files_asked (Some (on_file kind file)) d = d.1.takes.asked
   files_asked (Some (inject file)) d = d.1.takes.asked
   files_asked (Some (fleet file)) d = d.1.takes.asked
   files_asked (Some (node file turns)) d = node_asked file turns d.1.read d.1.did.takes.asked (view (config_said file) (ServesAs turns) file old.files d.1.read c (record (serving_in old) { files = d.1.read }) (serving_in new) d.1.did)
   files_asked (Some (grow seed n)) d = ap (λ o. o.files.asked) d.0
-  files_asked (Some (cut file)) d = d.1.takes.asked
-  files_asked (Some (gather port file)) d = d.1.takes.asked
-  files_asked (Some (ports file)) d = d.1.takes.asked
   files_asked (Some (audit file)) d = (d.1.asked.names, d.1.asked.asked)
 
   none_made : (s : Said ServeConfig) → new.files.made ≡ old.files.made → LogsAtMost s old.files.made new.files.made
@@ -144,16 +109,11 @@ module _ (c : Cause) (old new : Outside) where
 
   pub files_made : (q : Option Request) → Does q c old new → MakesAtMost q old new
   files_made None d = ap (λ o. o.files.made) d.1
-  files_made (Some (replay file)) d = d.1.takes.only.made
-  files_made (Some (check file)) d = d.1.takes.only.made
-  files_made (Some (show file)) d = d.1.takes.only.made
+  files_made (Some (on_file kind file)) d = d.1.takes.only.made
   files_made (Some (inject file)) d = d.1.takes.only.made
   files_made (Some (fleet file)) d = d.1.takes.only.made
   files_made (Some (node file turns)) d = node_made file turns d.1.read d.1.did.takes.only.made (view (config_said file) (ServesAs turns) file old.files d.1.read c (record (serving_in old) { files = d.1.read }) (serving_in new) d.1.did)
   files_made (Some (grow seed n)) d = ap (λ o. o.files.made) d.0
-  files_made (Some (cut file)) d = d.1.takes.only.made
-  files_made (Some (gather port file)) d = d.1.takes.only.made
-  files_made (Some (ports file)) d = d.1.takes.only.made
   files_made (Some (audit file)) d = d.1.only.made
 
 -- ---- calls

@@ -11,16 +11,10 @@ use Rattle.exit_status.specs.declared.status.Cause.{Cause}
 use Rattle.exit_status.specs.declared.status.Cause.TheVariants.{Done, Usage, Refused, ReadFault, WriteFault, LinkFault, SpawnFault, NoMemory, NodesFailed}
 use Rattle.exit_status.specs.declared.status.Refusal.{Refusal}
 use Rattle.exit_status.proofs.Telling.{notes_give}
-use Rattle.planet_cli.specs.Requests.{Request, replay, check, show, inject, fleet, node, grow, cut, gather, ports, audit}
+use Rattle.planet_cli.specs.Kinds.{file_said}
+use Rattle.planet_cli.specs.Requests.{Request, on_file, inject, fleet, audit, node, grow}
 use Rattle.fleet_run.specs.Asks.{ask_line}
 use Rattle.planet_commands.specs.Said.{Said, nothing, outside, says}
-use Rattle.planet_commands.specs.Checks.{check_said}
-use Rattle.planet_commands.specs.Shows.{show_said}
-use Rattle.planet_commands_run.specs.Schedules.{replay_said}
-use Rattle.command_files.specs.Texts.{cut_output}
-use Rattle.planet_commands_fleet.specs.Messages.{cut_said, gather_said, messages_text}
-use Rattle.reliable_ports_world.specs.Texts.{port_output}
-use Rattle.planet_commands_port.specs.Ports.{port_said}
 use Rattle.planet_commands_fleet.specs.Audits.{audit_said}
 use Rattle.planet_commands_fleet.specs.Asks.{ask_said}
 use Rattle.planet_commands_fleet.specs.Fleets.{fleet_said}
@@ -79,16 +73,11 @@ made_asked made (says v) h e = h v e
 
 asked_none : (q : Option Request) (files : FileMap) → outcome_of q files ≡ unasked → q ≡ None
 asked_none None files e = refl
-asked_none (Some (replay file)) files e = absurd (made_asked whole (replay_said file files) (λ v h. cc) e)
-asked_none (Some (check file)) files e = absurd (made_asked whole (check_said file files) (λ v h. cc) e)
-asked_none (Some (show file)) files e = absurd (made_asked whole (show_said file files) (λ v h. cc) e)
+asked_none (Some (on_file kind file)) files e = absurd (made_asked whole (file_said kind file files) (λ v h. cc) e)
 asked_none (Some (inject file)) files e = absurd (made_asked (λ a. whole (ask_line a)) (ask_said file files) (λ v h. cc) e)
 asked_none (Some (fleet file)) files e = absurd (made_asked (λ f. runs) (fleet_said file files) (λ v h. cc) e)
 asked_none (Some (node file turns)) files e = absurd (made_asked (λ c. runs) (config_said file files) (λ v h. cc) e)
 asked_none (Some (grow seed k)) files e = absurd (cc)
-asked_none (Some (cut file)) files e = absurd (made_asked (λ m. whole (cut_output m)) (cut_said file files) (λ v h. cc) e)
-asked_none (Some (gather port file)) files e = absurd (made_asked (λ l. whole (messages_text port l)) (gather_said file files) (λ v h. cc) e)
-asked_none (Some (ports file)) files e = absurd (made_asked (λ p. whole (port_output p)) (port_said file files) (λ v h. cc) e)
 asked_none (Some (audit file)) files e = absurd (made_asked whole (audit_said file files) (λ v h. cc) e)
 
 module _ (q : Option Request) (cause : Cause) (old new : Outside) (n m : SinkState) (call : Calls q cause old new n m) where

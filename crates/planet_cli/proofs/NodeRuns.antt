@@ -1,11 +1,13 @@
 -- What the run of a node keeps, and that a log replays to its run's lines.
 use Rattle.std.proofs.Common.{◌≡◌, ◌⊎◌, inl, inr, ℕ, ◌<◌, ◌≤◌, ◌^◌, IsTrue, Bool, true, false, cond, nat_lt, List, [], ◌++◌, length, take, Option, Some, None, Result, Ok, Err, refl, sym, ap, ◌∙◌, subst}
 use Rattle.std.proofs.lemmas.Bool.{le-ltb}
+use Rattle.std.proofs.Math.Seq.{take-length}
 use Rattle.plan_base.specs.declared.stamp.Version.{Version}
 use Rattle.plan_base.specs.declared.stamp.Version.TheVariants.{One, Two}
 use Rattle.service_api.specs.Services.{ServiceState}
 use Rattle.service_api.specs.declared.package.PackageName.{PackageName}
 use Rattle.service_registry_spec.specs.Beginning.{opening_standing, present_without}
+use Rattle.network_config.specs.declared.event.LogEvent.{LogEvent}
 use Rattle.network_config.specs.declared.node.Log.{Log}
 use Rattle.network_config.specs.declared.node.NodeConfig.{NodeConfig}
 use Rattle.network_config.specs.declared.serve.ServeConfig.{ServeConfig}
@@ -16,16 +18,18 @@ use Rattle.node_files.specs.Configs.{config_of}
 use Rattle.node_files.proofs.ConfigLaws.{config_rules}
 use Rattle.node_io.specs.Causes.{HasRisen}
 use Rattle.node_io.specs.Clocks.{ClockState}
-use Rattle.node_io.specs.FileMaps.{FileMap, file_at}
+use Rattle.node_io.specs.FileMaps.{FileMap, file_at, untouched}
 use Rattle.node_io.specs.FileStates.{FilesState}
 use Rattle.node_io.specs.Outsides.{Outside}
 use Rattle.node_io.specs.Sinks.{SinkState, Writes}
-use Rattle.node_core_spec.specs.State.{new_node}
+use Rattle.node_core_spec.specs.State.{NodeState, new_node}
 use Rattle.node_core_spec.specs.Fits.{NodeFits}
 use Rattle.node_core_spec.proofs.Contexts.{node_ordered}
 use Rattle.node_log.specs.Runs.{played_entries}
 use Rattle.node_log.specs.Texts.{whole_trace}
-use Rattle.node_serve.specs.Desks.{Serving, IsSeen, desk_of}
+use Rattle.node_log.specs.Follow.{lost_after, lost_places}
+use Rattle.node_serve.specs.Desks.{Serving, IsSeen, desk_of, seen_at, start_at}
+use Rattle.node_serve.specs.Shown.{Agrees}
 use Rattle.node_serve.specs.Served.{Served, Begun}
 use Rattle.node_serve.specs.Again.{ReadsAgain}
 use Rattle.node_serve.proofs.Again.{again}
@@ -36,10 +40,11 @@ use Rattle.exit_status.specs.declared.status.Refusal.TheVariants.{TooLong}
 use Rattle.planet_commands.specs.Said.{Said, outside, says, said_by, said_within, said_at, line_limit}
 use Rattle.planet_commands_run.specs.Keeping.{KeepsNodeRun, node_at}
 use Rattle.node_log.specs.Nodes.{log_node}
-use Rattle.planet_commands_run.specs.Schedules.{schedule_limit, schedule_said, log_trace}
+use Rattle.planet_commands_run.specs.Schedules.{schedule_said, log_trace}
 use Rattle.planet_commands_run.proofs.Logs.{log_said}
 use Rattle.planet_commands_fleet.specs.Nodes.{config_said, own_services, moment, begun_config, begun_with}
-use Rattle.planet_cli.specs.Requests.{node, replay}
+use Rattle.planet_cli.specs.declared.kinds.Kind.TheVariants.{Replay}
+use Rattle.planet_cli.specs.Requests.{on_file, node}
 use Rattle.planet_cli.specs.Does.{serving_in}
 use Rattle.planet_cli.specs.Calls.{Calls}
 use Rattle.planet_cli.specs.Replays.{ReplaysLog}
@@ -47,7 +52,7 @@ use Rattle.planet_cli.specs.Outcomes.{whole, outcome_by, outcome_of, IsWhole, Wr
 use Rattle.planet_cli.proofs.Giving.{is_written, is_complete}
 use Rattle.planet_cli.proofs.NodeKeeping.{begins, entries_keep, log_run_keeps}
 use Rattle.planet_cli.specs.Laws.{ServesAtMost}
-use Rattle.planet_cli.proofs.Serving.{node_serves, node_fronts}
+use Rattle.planet_cli.proofs.Serving.{node_serves, node_fronts, node_moment}
 use Rattle.planet_cli.specs.Runs.{first_node, made_run, KeepsOrder, KeepsServing, KeepsUpTo, AgreesServing, ReplaysSo}
 
 -- ---- what a file says keeps its rules
@@ -92,11 +97,7 @@ run_keeps cfg turns old new k s =
     (λ i d h. (s.readable i d h).keeps)
 
 serving_keeps : (cfg : ServeConfig) (turns : ℕ) (old new : Serving) → KeepsServe cfg → Served (begun_config cfg old) (first_node cfg old) turns (begun_with cfg old) new → KeepsServing cfg turns old new
-serving_keeps cfg turns old new k s = record {
-  served = s;
-  keeps = run_keeps cfg turns old new k s;
-  ordered = λ n p. node_ordered (node_at (first_node cfg old) (made_run cfg turns old s.refused).events n) p ((run_keeps cfg turns old new k s).fits n);
-}
+serving_keeps cfg turns old new k s = record { served = s; keeps = run_keeps cfg turns old new k s }
 
 pub node_keeps : (file : List ℕ) (turns : ℕ) (cause : Cause) (old new : Outside) (n m : SinkState) → Calls (Some (node file turns)) cause old new n m → IsSeen (desk_of (serving_in old)) → IsTrue old.clock.observable
     → (cfg : ServeConfig) → config_said file old.files.held ≡ says cfg → cause ≡ Done → KeepsServing cfg turns (serving_in old) (serving_in new)
@@ -114,17 +115,28 @@ begun_keep cfg turns old new k b =
 
 up_to : (cfg : ServeConfig) (turns : ℕ) (old new : Serving) → KeepsServe cfg → ServesAtMost (says cfg) turns old new → KeepsUpTo cfg turns old new
 up_to cfg turns old new k (inl s) = inl (serving_keeps cfg turns old new k s)
-up_to cfg turns old new k (inr (inl b)) = inr (inl (record {
-  begun = b;
-  keeps = begun_keep cfg turns old new k b;
-  ordered = λ n p. node_ordered (node_at (first_node cfg old) (take b.steps (made_run cfg turns old b.refused).events) n) p ((begun_keep cfg turns old new k b).fits n);
-}))
+up_to cfg turns old new k (inr (inl b)) = inr (inl (record { begun = b; keeps = begun_keep cfg turns old new k b }))
 up_to cfg turns old new k (inr (inr u)) = inr (inr u)
 
 agree_so : (cfg : ServeConfig) (turns : ℕ) (old new : Serving) → ServesAtMost (says cfg) turns old new → AgreesServing cfg turns old new
-agree_so cfg turns old new (inl s) = record { refused = s.refused; agrees = inr (whole_agrees (begun_config cfg old) (first_node cfg old) turns (begun_with cfg old) new s) }
-agree_so cfg turns old new (inr (inl b)) = record { refused = b.refused; agrees = b.agrees }
-agree_so cfg turns old new (inr (inr u)) = record { refused = []; agrees = inl (record { sent = ap (λ (s : Serving). s.link.sent) u.0; out = inl (ap (λ (s : Serving). s.out.taken) u.0) }) }
+unfolding lost_after
+agree_so cfg turns old new (inl s) =
+    let events = (made_run cfg turns old s.refused).events in
+    let all : take (length events) events ≡ events = take-length events in
+    record {
+      refused = s.refused;
+      steps = length events;
+      places = s.places ∙ ap lost_places (sym all);
+      agrees = inr (subst (Agrees (begun_config cfg old) (start_at (desk_of old) (first_node cfg old)) (seen_at (desk_of new))) (sym all)
+          (whole_agrees (begun_config cfg old) (first_node cfg old) turns (begun_with cfg old) new s));
+    }
+agree_so cfg turns old new (inr (inl b)) = record { refused = b.refused; steps = b.steps; places = b.places; agrees = b.agrees }
+agree_so cfg turns old new (inr (inr u)) = record {
+  refused = [];
+  steps = 0;
+  places = refl;
+  agrees = inl (record { sent = ap (λ (s : Serving). s.link.sent) u.0; log = untouched u.1; out = inl (ap (λ (s : Serving). s.out.taken) u.0) });
+}
 
 module _ (file : List ℕ) (turns : ℕ) (cause : Cause) (old new : Outside) (n m : SinkState) (call : Calls (Some (node file turns)) cause old new n m) (seen : IsSeen (desk_of (serving_in old))) (clock : IsTrue old.clock.observable)
     (cfg : ServeConfig) (e : config_said file old.files.held ≡ says cfg) where
@@ -137,8 +149,11 @@ module _ (file : List ℕ) (turns : ℕ) (cause : Cause) (old new : Outside) (n 
   pub node_agrees : AgreesServing cfg turns (serving_in old) (serving_in new)
   node_agrees = agree_so cfg turns (serving_in old) (serving_in new) fronts
 
+pub run_ordered : (first : NodeState) (es : List LogEvent) → KeepsNodeRun first es → KeepsOrder first es
+run_ordered first es k n p = node_ordered (node_at first es n) p (k.fits n)
+
 pub log_ordered : (words : List (List ℕ)) (files : FilesState) (l : Log) → ReplaysLog words files l → KeepsOrder (log_node l) l.events
-log_ordered words files l r n p = node_ordered (node_at (log_node l) l.events n) p ((log_run_keeps r.bytes l r.says).fits n)
+log_ordered words files l r = run_ordered (log_node l) l.events (log_run_keeps r.bytes l r.says)
 
 -- ---- its log, replayed
 
@@ -188,8 +203,8 @@ left_by cfg old new r = record {
   trace = log_trace r.log;
   wrote = r.trace ∙ ap (λ t. old.out.taken ++ t) (trace_of_entries (begun_config cfg (serving_in old)).node cfg.missing r.log r.begins r.missing);
   again = λ short.
-      ap (λ o. outcome_by whole (said_at schedule_limit schedule_said o)) r.there
-      ∙ ap (outcome_by whole) (short_said schedule_limit schedule_said r.bytes (log_trace r.log) (le-ltb 4194304 (length r.bytes) short) (log_said r.bytes r.log r.reads));
+      ap (λ o. outcome_by whole (said_at line_limit schedule_said o)) r.there
+      ∙ ap (outcome_by whole) (short_said line_limit schedule_said r.bytes (log_trace r.log) (le-ltb 4194304 (length r.bytes) short) (log_said r.bytes r.log r.reads));
 }
 
 pub node_replays : (file : List ℕ) (turns : ℕ) (cause : Cause) (old new : Outside) (n m : SinkState) → Calls (Some (node file turns)) cause old new n m → IsTrue old.files.observable
@@ -201,15 +216,22 @@ node_replays file turns cause old new n m call seen cfg e small s few =
     (again (begun_config cfg (serving_in old)) (first_node cfg (serving_in old)) turns (begun_with cfg (serving_in old)) (serving_in new) s
     (begun_keeps cfg (serving_in old) (config_keeps file old.files.held cfg e) small) few)
 
+pub node_replays_told : (file : List ℕ) (turns : ℕ) (cause : Cause) (old new : Outside) (n m : SinkState) → Calls (Some (node file turns)) cause old new n m → IsTrue old.files.observable
+    → IsTrue old.clock.observable → (cfg : ServeConfig) → config_said file old.files.held ≡ says cfg
+    → (s : Served (begun_config cfg (serving_in old)) (first_node cfg (serving_in old)) turns (begun_with cfg (serving_in old)) (serving_in new))
+    → length (made_run cfg turns (serving_in old) s.refused).events ≤ 50000 → ReplaysSo cfg.log old new
+node_replays_told file turns cause old new n m call seen clock cfg e s few =
+    node_replays file turns cause old new n m call seen cfg e (node_moment file turns cause old new n m call seen clock cfg e s) s few
+
 -- ---- such a replay
 
 module _ (log : List ℕ) (old new : Outside) (s : ReplaysSo log old new) (short : length s.bytes ≤ 4194304) (cause : Cause) (before after : Outside) (n m : SinkState)
-    (call : Calls (Some (replay log)) cause before after n m) (seen : IsTrue before.files.observable) (same : before.files.held ≡ new.files.held) where
-  is_trace : outcome_of (Some (replay log)) before.files.held ≡ whole s.trace
-  is_trace = ap (λ h. outcome_of (Some (replay log)) h) same ∙ s.again short
+    (call : Calls (Some (on_file Replay log)) cause before after n m) (seen : IsTrue before.files.observable) (same : before.files.held ≡ new.files.held) where
+  is_trace : outcome_of (Some (on_file Replay log)) before.files.held ≡ whole s.trace
+  is_trace = ap (λ h. outcome_of (Some (on_file Replay log)) h) same ∙ s.again short
 
   pub trace_written : cause ≡ Done → Writes before.out after.out s.trace
-  trace_written done = subst (λ o. WritesOut o before.out after.out) is_trace (is_written (Some (replay log)) cause before after n m call seen done)
+  trace_written done = subst (λ o. WritesOut o before.out after.out) is_trace (is_written (Some (on_file Replay log)) cause before after n m call seen done)
 
   pub trace_whole : ¬ (HasRisen before.files.read_faults after.files.read_faults) → ¬ (HasRisen before.out.faults after.out.faults) → ¬ (HasRisen n.faults m.faults) → (cause ≡ Done) ⊎ (cause ≡ NoMemory)
-  trace_whole r o f = is_complete (Some (replay log)) cause before after n m call seen (subst IsWhole (sym is_trace) tt) r o f tt
+  trace_whole r o f = is_complete (Some (on_file Replay log)) cause before after n m call seen (subst IsWhole (sym is_trace) tt) r o f tt

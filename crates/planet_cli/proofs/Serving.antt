@@ -1,7 +1,9 @@
 -- The laws of `node`, and of files that aren't taken.
-use Rattle.std.proofs.Common.{◌≡◌, ◌⊎◌, inl, inr, ℕ, IsTrue, List, Option, Some, None, Result, Ok, Err, refl, sym, ap, ◌∙◌, subst}
+use Rattle.std.proofs.Common.{◌≡◌, ◌⊎◌, inl, inr, ℕ, ◌<◌, ◌^◌, IsTrue, List, ◌++◌, length, take, codes, Option, Some, None, Result, Ok, Err, refl, sym, ap, ◌∙◌, subst, arith}
+use Rattle.std.proofs.lemmas.List.{length-append}
 use Rattle.network_config.specs.declared.event.LogEvent.{LogEvent}
 use Rattle.network_config.specs.declared.serve.ServeConfig.{ServeConfig}
+use Rattle.node_files.specs.LogTexts.{head_text}
 use Rattle.node_io.specs.Causes.{HasRisen}
 use Rattle.node_io.specs.FileMaps.{ChangesOnly, SavesFront}
 use Rattle.node_io.specs.FileStates.{FilesState}
@@ -12,6 +14,7 @@ use Rattle.fleet_run.specs.Asks.{ask_line}
 use Rattle.plan_base.specs.declared.stamp.Version.{Version}
 use Rattle.plan_base.specs.declared.stamp.Version.TheVariants.{One, Two}
 use Rattle.node_io.specs.Clocks.{ClockState}
+use Rattle.node_log.specs.Texts.{begun_trace, whole_trace}
 use Rattle.node_serve.specs.Desks.{Serving, IsSeen, desk_of, seen_at, start_at}
 use Rattle.node_serve.specs.Shown.{run_log, Agrees}
 use Rattle.node_serve.specs.Served.{Served, AgreesEarly, Begun, Ends, run_in}
@@ -24,7 +27,7 @@ use Rattle.planet_commands.specs.Said.{Said, nothing, outside, says}
 use Rattle.planet_commands.specs.Takes.{Untaken}
 use Rattle.planet_commands_fleet.specs.Asks.{AsksAs, ask_said}
 use Rattle.planet_commands_fleet.specs.Nodes.{ServesAs, config_said, own_services, own_node, moment, behind_moment, begun_config, begun_with, serve_cause}
-use Rattle.planet_cli.specs.Requests.{Request, replay, check, show, inject, fleet, node, grow, cut, gather, ports, audit}
+use Rattle.planet_cli.specs.Requests.{Request, on_file, inject, fleet, audit, node, grow}
 use Rattle.planet_cli.specs.Does.{Does, wire_in, serving_in}
 use Rattle.planet_cli.specs.Calls.{Calls}
 use Rattle.planet_cli.specs.Outcomes.{Outcome, whole, runs, outcome_by, outcome_of, IsAccepted}
@@ -51,7 +54,7 @@ module _ (cfg : ServeConfig) (n : NodeState) (turns : ℕ) (old new : Serving) (
 
   agrees_before : (events : List LogEvent) → AgreesEarly cfg (desk_of (record old { files = read })) (desk_of new) ⊎ Agrees cfg (start_at (desk_of (record old { files = read })) n) (seen_at (desk_of new)) events
       → AgreesEarly cfg (desk_of old) (desk_of new) ⊎ Agrees cfg (start_at (desk_of old) n) (seen_at (desk_of new)) events
-  agrees_before events (inl x) = inl (record { sent = x.sent; out = x.out })
+  agrees_before events (inl x) = inl (record { sent = x.sent; log = subst (λ f. SavesFront f new.files.held cfg.log (head_text cfg.node cfg.missing)) held x.log; out = x.out })
   agrees_before events (inr x) = inr (subst (λ f. Agrees cfg (record (start_at (desk_of old) n) { files = f }) (seen_at (desk_of new)) events) held x)
 
   begun_before : Begun cfg n turns (record old { files = read }) new → Begun cfg n turns old new
@@ -63,7 +66,7 @@ module _ (cfg : ServeConfig) (n : NodeState) (turns : ℕ) (old new : Serving) (
     out = x.out;
     sent = x.sent;
     readable = x.readable;
-    agrees = agrees_before (run_in cfg n turns old x.refused).events x.agrees;
+    agrees = agrees_before (take x.steps (run_in cfg n turns old x.refused).events) x.agrees;
     binds = x.binds;
     script = x.script;
     answers = x.answers;
@@ -161,6 +164,25 @@ module _ (file : List ℕ) (turns : ℕ) (cause : Cause) (old new : Outside) (n 
     pub node_fronts : ServesAtMost (config_said file old.files.held) turns (serving_in old) (serving_in new)
     node_fronts = at_most call.found node_view
 
+  -- the moment of a node that served is a number of 64 bits
+  moment_so : (c : Cause) (cfg : ServeConfig) → Took (config_said file) (ServesAs turns) old.files call.does.1.read c (record (serving_in old) { files = call.does.1.read }) (serving_in new)
+      → IsTrue old.files.observable → IsTrue old.clock.observable → config_said file old.files.held ≡ says cfg
+      → (trace : List ℕ) → new.out.taken ≡ old.out.taken ++ trace → 0 < length trace → moment cfg.node.version old.clock < 2 ^ 64
+  moment_so c cfg (took own_cfg own p) seen clock e trace is some =
+      let s = p.serves in
+      subst (λ (k : ServeConfig). moment k.node.version old.clock < 2 ^ 64) (says_one own_cfg cfg (sym (own seen) ∙ e))
+      (subst (λ b. b < 2 ^ 64) (asked_is own_cfg.node.version old.clock s.clock s.boot clock s.asked).0 s.fits)
+  moment_so c cfg (left u same) seen clock e trace is some =
+      absurd (omega (arith, ap (λ (x : Serving). length x.out.taken) same, ap length is, length-append old.out.taken trace, some))
+
+  pub node_moment : IsTrue old.files.observable → IsTrue old.clock.observable → (cfg : ServeConfig) → config_said file old.files.held ≡ says cfg
+      → Served (begun_config cfg (serving_in old)) (own_node (begun_config cfg (serving_in old))) turns (begun_with cfg (serving_in old)) (serving_in new) → moment cfg.node.version old.clock < 2 ^ 64
+  unfolding whole_trace
+  node_moment seen clock cfg e s =
+      let run = run_in (begun_config cfg (serving_in old)) (own_node (begun_config cfg (serving_in old))) turns (begun_with cfg (serving_in old)) s.refused in
+      moment_so call.found cfg node_view seen clock e (whole_trace cfg.node.here run.entries) s.out
+      (omega (arith, length-append (begun_trace cfg.node.here run.entries) (codes "end\n")))
+
   complete_so : (c : Cause) (cfg : ServeConfig) → Took (config_said file) (ServesAs turns) old.files call.does.1.read c (record (serving_in old) { files = call.does.1.read }) (serving_in new)
       → IsTrue old.files.observable → config_said file old.files.held ≡ says cfg → ¬ (HasRisen old.files.read_faults new.files.read_faults) → ¬ (HasRisen old.files.write_faults new.files.write_faults)
       → ¬ (HasRisen old.link.faults new.link.faults) → ¬ (HasRisen old.out.faults new.out.faults) → (c ≡ Done) ⊎ (c ≡ NoMemory)
@@ -197,18 +219,13 @@ module _ (c : Cause) (old new : Outside) (seen : IsTrue old.files.observable) wh
 
   unaccepted_keeps_all : (q : Option Request) → Does q c old new → ¬ (IsAccepted (outcome_of q old.files.held)) → Kept old new
   unaccepted_keeps_all None d h = (ap (λ o. o.link) d.1, ap (λ o. o.clock) d.1, ap (λ o. o.files.held) d.1)
-  unaccepted_keeps_all (Some (replay file)) d h = (ap (λ o. o.link) d.0, ap (λ o. o.clock) d.0, d.1.takes.only.held)
-  unaccepted_keeps_all (Some (check file)) d h = (ap (λ o. o.link) d.0, ap (λ o. o.clock) d.0, d.1.takes.only.held)
-  unaccepted_keeps_all (Some (show file)) d h = (ap (λ o. o.link) d.0, ap (λ o. o.clock) d.0, d.1.takes.only.held)
+  unaccepted_keeps_all (Some (on_file kind file)) d h = (ap (λ o. o.link) d.0, ap (λ o. o.clock) d.0, d.1.takes.only.held)
   unaccepted_keeps_all (Some (inject file)) d h = ask_kept file (ap (λ o. o.clock) d.0) d.1.takes.only.held h (view (ask_said file) AsksAs file old.files new.files c (wire_in old) (wire_in new) d.1)
   unaccepted_keeps_all (Some (fleet file)) d h = (ap (λ o. o.link) d.0, ap (λ o. o.clock) d.0, d.1.takes.only.held)
   unaccepted_keeps_all (Some (node file turns)) d h =
       node_kept file turns d.1.read d.1.did.takes.only.held h
       (view (config_said file) (ServesAs turns) file old.files d.1.read c (record (serving_in old) { files = d.1.read }) (serving_in new) d.1.did)
   unaccepted_keeps_all (Some (grow seed k)) d h = (ap (λ o. o.link) d.0, ap (λ o. o.clock) d.0, ap (λ o. o.files.held) d.0)
-  unaccepted_keeps_all (Some (cut file)) d h = (ap (λ o. o.link) d.0, ap (λ o. o.clock) d.0, d.1.takes.only.held)
-  unaccepted_keeps_all (Some (gather port file)) d h = (ap (λ o. o.link) d.0, ap (λ o. o.clock) d.0, d.1.takes.only.held)
-  unaccepted_keeps_all (Some (ports file)) d h = (ap (λ o. o.link) d.0, ap (λ o. o.clock) d.0, d.1.takes.only.held)
   unaccepted_keeps_all (Some (audit file)) d h = (ap (λ o. o.link) d.0, ap (λ o. o.clock) d.0, d.1.only.held)
 
 pub none_kept : (q : Option Request) (cause : Cause) (old new : Outside) (n m : SinkState) → Calls q cause old new n m → IsTrue old.files.observable → ¬ (IsAccepted (outcome_of q old.files.held))

@@ -4,10 +4,13 @@ use Rattle.node_io.specs.FileMaps.{FileMap}
 use Rattle.node_io.specs.FileStates.{FilesState}
 use Rattle.node_io.specs.Sinks.{SinkState}
 use Rattle.exit_status.specs.declared.status.Cause.{Cause}
-use Rattle.planet_commands.specs.Said.{Said, says}
+use Rattle.planet_commands.specs.Said.{Said, says, said_in, all_of}
 use Rattle.planet_commands.specs.Takes.{Untaken, TakeResult, Takes, TakesAndActs}
-use Rattle.planet_commands.specs.Renders.{Prints}
+use Rattle.planet_commands.specs.Renders.{Prints, RendersBy}
+use Rattle.planet_commands.proofs.Rendering.{text_is_rendered}
 use Rattle.planet_commands_fleet.specs.Audits.{audit_said, AuditsFile}
+use Rattle.planet_cli.specs.declared.kinds.Kind.{Kind}
+use Rattle.planet_cli.specs.Kinds.{limit_of, text_said, file_said}
 
 -- a file says one value
 pub says_one : {A : Type 0} (a b : A) → says a ≡ says b → a ≡ b
@@ -25,6 +28,12 @@ module _ {A S : Type 0} (said : FileMap → Said A) (Acts : A → Cause → S �
 
   pub view : TakesAndActs said Acts name files read cause old new → Took said Acts files read cause old new
   view t = by_taken t.taken t.takes t.acts
+
+-- the same of a command that writes what the bytes of its file say
+pub text_view : (kind : Kind) (file : List ℕ) (files read : FilesState) (cause : Cause) (old new : SinkState)
+    → TakesAndActs (said_in (limit_of kind) all_of file) (RendersBy (text_said kind)) file files read cause old new → Took (file_said kind file) Prints files read cause old new
+text_view kind file files read cause old new t =
+    view (file_said kind file) Prints file files read cause old new (text_is_rendered (limit_of kind) (text_said kind) file files read cause old new t)
 
 -- the same of an audit, which takes the logs that its file names too
 pub audit_view : (name : List ℕ) (files read : FilesState) (cause : Cause) (old new : SinkState) → AuditsFile name files read cause old new → Took (audit_said name) Prints files read cause old new

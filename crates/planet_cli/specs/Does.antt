@@ -4,21 +4,16 @@ use Rattle.node_io.specs.Outsides.{Outside}
 use Rattle.node_serve.specs.Desks.{Serving}
 use Rattle.exit_status.specs.declared.status.Cause.{Cause}
 use Rattle.exit_status.specs.declared.status.Cause.TheVariants.{Usage}
+use Rattle.planet_commands.specs.Said.{all_of, said_in}
 use Rattle.planet_commands.specs.Takes.{TakesAndActs}
-use Rattle.planet_commands.specs.Renders.{Prints, PrintsBy}
-use Rattle.planet_commands.specs.Checks.{check_said}
-use Rattle.planet_commands.specs.Shows.{show_said}
-use Rattle.planet_commands_run.specs.Schedules.{replay_said}
+use Rattle.planet_commands.specs.Renders.{RendersBy}
 use Rattle.planet_commands_run.specs.Grown.{GrowsAs}
-use Rattle.command_files.specs.Texts.{cut_output}
-use Rattle.planet_commands_fleet.specs.Messages.{cut_said, gather_said, messages_text}
-use Rattle.reliable_ports_world.specs.Texts.{port_output}
-use Rattle.planet_commands_port.specs.Ports.{port_said}
 use Rattle.planet_commands_fleet.specs.Audits.{AuditsFile}
 use Rattle.planet_commands_fleet.specs.Asks.{AsksAs, ask_said, Wire}
 use Rattle.planet_commands_fleet.specs.Fleets.{RunsAs, fleet_said, Shop}
 use Rattle.planet_commands_fleet.specs.Nodes.{ServesFile}
-use Rattle.planet_cli.specs.Requests.{Request, replay, check, show, inject, fleet, node, grow, cut, gather, ports, audit}
+use Rattle.planet_cli.specs.Kinds.{limit_of, text_said}
+use Rattle.planet_cli.specs.Requests.{Request, on_file, inject, fleet, audit, node, grow}
 
 -- nothing but the files and the output changed; or the link too, or the children
 abbrev pub OnlyOut : Outside → Outside → Type 0
@@ -43,19 +38,10 @@ serving_in o = record { files = o.files; out = o.out; link = o.link; clock = o.c
 -- what a call does to the environment and how it ends, by what its words ask for; what it doesn't touch is the same whole state
 abbrev pub Does : Option Request → Cause → Outside → Outside → Type 0
 Does None cause old new = (cause ≡ Usage) × (new ≡ old)
-Does (Some (replay file)) cause old new =
-    OnlyOut old new × TakesAndActs (replay_said file) Prints file old.files new.files cause old.out new.out
-Does (Some (check file)) cause old new =
-    OnlyOut old new × TakesAndActs (check_said file) Prints file old.files new.files cause old.out new.out
-Does (Some (show file)) cause old new =
-    OnlyOut old new × TakesAndActs (show_said file) Prints file old.files new.files cause old.out new.out
+Does (Some (on_file kind file)) cause old new =
+    OnlyOut old new
+    × TakesAndActs (said_in (limit_of kind) all_of file) (RendersBy (text_said kind)) file old.files new.files cause old.out new.out
 Does (Some (grow seed n)) cause old new = (new ≡ record old { out = new.out }) × GrowsAs seed n cause old.out new.out
-Does (Some (cut file)) cause old new =
-    OnlyOut old new × TakesAndActs (cut_said file) (PrintsBy cut_output) file old.files new.files cause old.out new.out
-Does (Some (gather port file)) cause old new =
-    OnlyOut old new × TakesAndActs (gather_said file) (PrintsBy (messages_text port)) file old.files new.files cause old.out new.out
-Does (Some (ports file)) cause old new =
-    OnlyOut old new × TakesAndActs (port_said file) (PrintsBy port_output) file old.files new.files cause old.out new.out
 Does (Some (audit file)) cause old new = OnlyOut old new × AuditsFile file old.files new.files cause old.out new.out
 Does (Some (inject file)) cause old new =
     OnlyLink old new × TakesAndActs (ask_said file) AsksAs file old.files new.files cause (wire_in old) (wire_in new)

@@ -6,13 +6,14 @@ use Rattle.node_io.specs.FileStates.{FilesState}
 use Rattle.node_files.specs.Logs.{log_of}
 use Rattle.command_files.specs.declared.cut.CutFile.{CutFile}
 use Rattle.command_files.specs.Cuts.{cut_of}
-use Rattle.planet_cli.specs.Requests.{cut, gather, request_of}
+use Rattle.planet_cli.specs.declared.kinds.Kind.TheVariants.{Cut, Gather}
+use Rattle.planet_cli.specs.Requests.{on_file, request_of}
 
 -- the words are a cut of a file that is seen to name this message
 pub record Cuts (words : List (List ℕ)) (files : FilesState) (m : CutFile) : Type 0 where
   pub file : List ℕ
   pub bytes : List ℕ
-  pub asked : request_of words ≡ Some (cut file)
+  pub asked : request_of words ≡ Some (on_file Cut file)
   pub seen : IsTrue files.observable
   pub there : file_at files.held file ≡ Some bytes
   pub says : cut_of bytes ≡ Ok m
@@ -21,7 +22,7 @@ pub record Cuts (words : List (List ℕ)) (files : FilesState) (m : CutFile) : T
 pub record Gathers (words : List (List ℕ)) (files : FilesState) (port : ℕ) (l : Log) : Type 0 where
   pub file : List ℕ
   pub bytes : List ℕ
-  pub asked : request_of words ≡ Some (gather port file)
+  pub asked : request_of words ≡ Some (on_file (Gather port) file)
   pub seen : IsTrue files.observable
   pub there : file_at files.held file ≡ Some bytes
   pub says : log_of bytes ≡ Ok l

@@ -20,7 +20,7 @@ use Rattle.exit_status.specs.declared.status.Cause.TheVariants.{Done, NodesFaile
 use Rattle.planet_commands.specs.Said.{Said, nothing, outside, says}
 use Rattle.planet_commands_fleet.specs.Audits.{MayNames}
 use Rattle.planet_commands_fleet.specs.Nodes.{config_said, own_node, begun_config, begun_with}
-use Rattle.planet_cli.specs.Requests.{Request, replay, check, show, inject, fleet, node, grow, cut, gather, ports, audit}
+use Rattle.planet_cli.specs.Requests.{Request, on_file, inject, fleet, audit, node, grow}
 
 -- ---- by the request
 
@@ -48,16 +48,11 @@ WhereInjected request P = Unit {0}
 -- the names asked grew at most by the file of the request, once, and by none where it has none; those of an audit also by the logs
 -- that its file names, in order, each once
 abbrev pub AsksFor : Option Request → List (List ℕ) → List (List ℕ) → Type 0
-AsksFor (Some (replay file)) old new = MayName old new file
-AsksFor (Some (check file)) old new = MayName old new file
-AsksFor (Some (show file)) old new = MayName old new file
+AsksFor (Some (on_file kind file)) old new = MayName old new file
 AsksFor (Some (inject file)) old new = MayName old new file
 AsksFor (Some (fleet file)) old new = MayName old new file
 AsksFor (Some (node file turns)) old new = MayName old new file
 AsksFor (Some (grow seed n)) old new = new ≡ old
-AsksFor (Some (cut file)) old new = MayName old new file
-AsksFor (Some (gather port file)) old new = MayName old new file
-AsksFor (Some (ports file)) old new = MayName old new file
 AsksFor (Some (audit file)) old new = (names : List (List ℕ)) × MayNames (file ∷ names) old new
 AsksFor None old new = new ≡ old
 

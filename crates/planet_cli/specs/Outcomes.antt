@@ -5,18 +5,12 @@ use Rattle.node_io.specs.Sinks.{SinkState, Writes, WritesPrefix}
 use Rattle.fleet_run.specs.Asks.{ask_line}
 use Rattle.exit_status.specs.declared.status.Refusal.{Refusal}
 use Rattle.planet_commands.specs.Said.{Said, nothing, outside, says}
-use Rattle.planet_commands.specs.Checks.{check_said}
-use Rattle.planet_commands.specs.Shows.{show_said}
-use Rattle.planet_commands_run.specs.Schedules.{replay_said}
-use Rattle.command_files.specs.Texts.{cut_output}
-use Rattle.planet_commands_fleet.specs.Messages.{cut_said, gather_said, messages_text}
-use Rattle.reliable_ports_world.specs.Texts.{port_output}
-use Rattle.planet_commands_port.specs.Ports.{port_said}
 use Rattle.planet_commands_fleet.specs.Audits.{audit_said}
 use Rattle.planet_commands_fleet.specs.Asks.{ask_said}
 use Rattle.planet_commands_fleet.specs.Fleets.{fleet_said}
 use Rattle.planet_commands_fleet.specs.Nodes.{config_said}
-use Rattle.planet_cli.specs.Requests.{Request, replay, check, show, inject, fleet, node, grow, cut, gather, ports, audit}
+use Rattle.planet_cli.specs.Kinds.{file_said}
+use Rattle.planet_cli.specs.Requests.{Request, on_file, inject, fleet, audit, node, grow}
 
 -- no command, a file that is missing, a file that is refused, the whole output, or a command that runs, whose output is defined apart
 pub data Outcome : Type 0 where
@@ -34,12 +28,7 @@ outcome_by made (says v) = made v
 
 -- what a request makes of the files
 abbrev pub outcome_of : Option Request → FileMap → Outcome
-outcome_of (Some (replay file)) files = outcome_by whole (replay_said file files)
-outcome_of (Some (check file)) files = outcome_by whole (check_said file files)
-outcome_of (Some (show file)) files = outcome_by whole (show_said file files)
-outcome_of (Some (cut file)) files = outcome_by (λ m. whole (cut_output m)) (cut_said file files)
-outcome_of (Some (gather port file)) files = outcome_by (λ l. whole (messages_text port l)) (gather_said file files)
-outcome_of (Some (ports file)) files = outcome_by (λ p. whole (port_output p)) (port_said file files)
+outcome_of (Some (on_file kind file)) files = outcome_by whole (file_said kind file files)
 outcome_of (Some (audit file)) files = outcome_by whole (audit_said file files)
 outcome_of (Some (inject file)) files = outcome_by (λ a. whole (ask_line a)) (ask_said file files)
 outcome_of (Some (fleet file)) files = outcome_by (λ f. runs) (fleet_said file files)

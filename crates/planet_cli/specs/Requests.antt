@@ -4,32 +4,33 @@ use Rattle.std.specs.Str.{bytes_eq}
 use lib.Chars.{codes}
 use Rattle.network_config.specs.FileNames.{is_file_name}
 use Rattle.line_reader.specs.Numbers.{number_in}
+use Rattle.planet_cli.specs.declared.kinds.Kind.{Kind}
+use Rattle.planet_cli.specs.declared.kinds.Kind.TheVariants.{Gather}
+use Rattle.planet_cli.specs.Kinds.{kind_named}
 
 -- what words ask for: a command with its file or its numbers
 pub data Request : Type 0 where
-  replay : List ℕ → Request
-  check : List ℕ → Request
-  show : List ℕ → Request
+  on_file : Kind → List ℕ → Request
   inject : List ℕ → Request
   fleet : List ℕ → Request
+  audit : List ℕ → Request
   node : List ℕ → ℕ → Request
   grow : ℕ → ℕ → Request
-  cut : List ℕ → Request
-  gather : ℕ → List ℕ → Request
-  ports : List ℕ → Request
-  audit : List ℕ → Request
+
+-- a command of one file that does more than to write a text of it
+abbrev pub with_own : List ℕ → List ℕ → Option Request
+with_own command file = if bytes_eq command (codes "inject") then Some (inject file)
+    else (if bytes_eq command (codes "fleet") then Some (fleet file)
+    else (if bytes_eq command (codes "audit") then Some (audit file)
+    else None))
+
+abbrev pub kind_for : Option Kind → List ℕ → List ℕ → Option Request
+kind_for (Some kind) command file = Some (on_file kind file)
+kind_for None command file = with_own command file
 
 -- a command of one file
 abbrev pub with_file : List ℕ → List ℕ → Option Request
-with_file command file = if bytes_eq command (codes "replay") then Some (replay file)
-    else (if bytes_eq command (codes "check") then Some (check file)
-    else (if bytes_eq command (codes "show") then Some (show file)
-    else (if bytes_eq command (codes "inject") then Some (inject file)
-    else (if bytes_eq command (codes "fleet") then Some (fleet file)
-    else (if bytes_eq command (codes "cut") then Some (cut file)
-    else (if bytes_eq command (codes "port") then Some (ports file)
-    else (if bytes_eq command (codes "audit") then Some (audit file)
-    else None)))))))
+with_file command file = kind_for (kind_named command) command file
 
 abbrev pub node_for : List ℕ → Option ℕ → Option Request
 node_for file None = None
@@ -42,7 +43,7 @@ grow_for (Some seed) (Some n) = Some (grow seed n)
 
 abbrev pub gather_for : Option ℕ → List ℕ → Option Request
 gather_for None file = None
-gather_for (Some port) file = if is_file_name file then Some (gather port file) else None
+gather_for (Some port) file = if is_file_name file then Some (on_file (Gather port) file) else None
 
 -- `node FILE TURNS`, `grow SEED N` and `gather PORT FILE`
 abbrev pub with_two : List ℕ → List ℕ → List ℕ → Option Request

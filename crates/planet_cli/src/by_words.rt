@@ -3,14 +3,13 @@ ghost use Rattle.node_io.specs.Outsides.{outside};
 ghost use Rattle.planet_cli.specs.Requests.{request_of};
 ghost use Rattle.planet_cli.specs.Does.{Does};
 
+use crate::kinds::on_kind;
 use crate::words::{Command, read_words};
 use exit_status::Cause;
 use node_io::{Clock, Files, Link, Sink, Spawner};
 use plan_base::Texts;
-use planet_commands::{Check, Show, on_file};
-use planet_commands_fleet::{on_ask, on_audit, on_cut, on_fleet, on_gather, on_node};
-use planet_commands_port::on_port;
-use planet_commands_run::{Replay, on_seed};
+use planet_commands_fleet::{on_ask, on_audit, on_fleet, on_node};
+use planet_commands_run::on_seed;
 use std::alloc::Global;
 
 /// Does what the words ask for, and writes no note.
@@ -31,16 +30,11 @@ pub fn run<F: Files, K: Sink, L: Link, C: Clock, P: Spawner>(
 {
     match read_words(words) {
         None => Cause::Usage,
-        Some(Command::Replay(file)) => on_file::<Replay, F, K>(alloc, files, file, out),
-        Some(Command::Check(file)) => on_file::<Check, F, K>(alloc, files, file, out),
-        Some(Command::Show(file)) => on_file::<Show, F, K>(alloc, files, file, out),
+        Some(Command::OnFile(kind, file)) => on_kind(alloc, files, kind, file, out),
         Some(Command::Inject(file)) => on_ask(alloc, files, file, link, out),
         Some(Command::Fleet(file)) => on_fleet(alloc, files, file, spawn, out),
+        Some(Command::Audit(file)) => on_audit(alloc, files, file, out),
         Some(Command::Node(file, turns)) => on_node(alloc, files, file, turns, link, clock, out),
         Some(Command::Grow(seed, events)) => on_seed(alloc, seed, events, out),
-        Some(Command::Cut(file)) => on_cut(alloc, files, file, out),
-        Some(Command::Gather(port, file)) => on_gather(alloc, files, port, file, out),
-        Some(Command::Port(file)) => on_port(alloc, files, file, out),
-        Some(Command::Audit(file)) => on_audit(alloc, files, file, out),
     }
 }

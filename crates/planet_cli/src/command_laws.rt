@@ -2,6 +2,7 @@
 ghost use Rattle.std.specs.Prelude.{◌≡◌, ◌⊎◌, IsTrue, List, ℕ, Some, Ok, ◌<◌, ℤ, length, false, drop, ◌≢◌, [], ◌∷◌, ◌++◌, ◌≤◌, ◌^◌};
 ghost use Rattle.plan_base.specs.declared.tree.Program.{Program};
 ghost use Rattle.network_config.specs.declared.schedule.Schedule.{Schedule};
+ghost use Rattle.network_config.specs.declared.event.LogEvent.{LogEvent};
 ghost use Rattle.network_config.specs.declared.node.Log.{Log};
 ghost use Rattle.packet_frame.specs.declared.frame.PlainStamped.{PlainStamped};
 ghost use Rattle.packet_frame_text.specs.Frames.{frame_text};
@@ -11,6 +12,7 @@ ghost use Rattle.node_io.specs.FileMaps.{FileMap, file_at};
 ghost use Rattle.node_io.specs.FileStates.{FilesState};
 ghost use Rattle.node_io.specs.Outsides.{Outside};
 ghost use Rattle.node_io.specs.Sinks.{SinkState, Writes};
+ghost use Rattle.node_core_spec.specs.State.{NodeState};
 ghost use Rattle.net_world_spec.specs.World.{opening};
 ghost use Rattle.net_world_spec.specs.Texts.{run_text};
 ghost use Rattle.grow_run.specs.Pings.{OfGrown};
@@ -20,7 +22,7 @@ ghost use Rattle.planet_commands.specs.Checks.{sizes_text};
 ghost use Rattle.planet_commands.specs.Shows.{show_said, HoldsFrame};
 ghost use Rattle.planet_commands_run.specs.Keeping.{KeepsNodeRun};
 ghost use Rattle.planet_commands_run.specs.Schedules.{log_trace};
-ghost use Rattle.planet_cli.specs.Requests.{request_of, check, show, grow, audit, inject, fleet, node, replay};
+ghost use Rattle.planet_cli.specs.Requests.{request_of, on_file, inject, fleet, audit, node, grow};
 ghost use Rattle.planet_cli.specs.Calls.{Calls};
 ghost use Rattle.planet_cli.specs.Replays.{Replays, ReplaysLog};
 ghost use Rattle.frag_chunks.specs.Parts.{parts_in};
@@ -57,6 +59,7 @@ ghost use Rattle.node_files.specs.Logs.{log_of};
 ghost use Rattle.node_log.specs.Nodes.{log_node};
 ghost use Rattle.planet_cli.specs.Runs.{first_node, made_run, KeepsOrder, KeepsServing, AgreesServing, KeepsUpTo, ReplaysSo};
 
+use crate::kinds::Kind;
 use exit_status::Cause;
 use frag_chunks::messages_are_gathered;
 
@@ -90,7 +93,7 @@ pub fn logged()
 pub fn checked()
     ensures { (file bytes : List ℕ) (p : Program) (cause : Why) (old new : Outside)
         (n m : SinkState)
-        → Calls (Some (check file)) cause old new n m
+        → Calls (Some (on_file Kind.Check file)) cause old new n m
         → IsTrue old.files.observable
         → file_at old.files.held file ≡ Some bytes
         → program_of bytes ≡ Ok p
@@ -108,7 +111,7 @@ pub fn shown_whole()
 /// Nothing else is shown.
 pub fn shown_only()
     ensures { (file : List ℕ) (cause : Why) (old new : Outside) (n m : SinkState)
-        → Calls (Some (show file)) cause old new n m
+        → Calls (Some (on_file Kind.Show file)) cause old new n m
         → IsTrue old.files.observable
         → cause ≡ Cause.Done
         → (x : PlainStamped) × HoldsFrame old.files.held file x }
@@ -117,7 +120,7 @@ pub fn shown_only()
 /// And a show that is done wrote it.
 pub fn shown()
     ensures { (file : List ℕ) (cause : Why) (old new : Outside) (n m : SinkState)
-        → Calls (Some (show file)) cause old new n m
+        → Calls (Some (on_file Kind.Show file)) cause old new n m
         → IsTrue old.files.observable
         → (x : PlainStamped)
         → HoldsFrame old.files.held file x
@@ -404,7 +407,7 @@ pub fn unbound()
         × (new.out ≡ old.out) }
 {}
 
-/// A node that is done made the run of its configuration, which keeps its limits and its order after every step.
+/// A node that is done made the run of its configuration, which keeps its limits after every step.
 pub fn served_keeps()
     ensures { (file : List ℕ) (turns : ℕ) (cause : Why) (old new : Outside) (n m : SinkState)
         → Calls (Some (node file turns)) cause old new n m
@@ -416,7 +419,7 @@ pub fn served_keeps()
         → KeepsServing cfg turns (serving_in old) (serving_in new) }
 {}
 
-/// After every answer the steps made up to it keep their limits and their order: those of the whole run, or those of a prefix
+/// After every answer the steps made up to it keep their limits: those of the whole run, or those of a prefix
 /// of it where it failed, among them one that could not be written whole.
 pub fn failed_keeps()
     ensures { (file : List ℕ) (turns : ℕ) (cause : Why) (old new : Outside) (n m : SinkState)
@@ -440,6 +443,13 @@ pub fn served_agrees()
         → AgreesServing cfg turns (serving_in old) (serving_in new) }
 {}
 
+/// After every number of the entries of a run that keeps its limits, the context of each visit is in order.
+pub fn runs_are_ordered()
+    ensures { (first : NodeState) (events : List LogEvent)
+        → KeepsNodeRun first events
+        → KeepsOrder first events }
+{}
+
 /// In the replay of a log, the context of each visit is in order.
 pub fn logs_are_ordered()
     ensures { (words : List (List ℕ)) (files : FilesState) (l : Log)
@@ -447,10 +457,20 @@ pub fn logs_are_ordered()
         → KeepsOrder (log_node l) l.events }
 {}
 
-/// The log that a node leaves replays to the lines of its run: where its run has at most 50,000 entries and its clock told a
-/// moment below 2^64, the log reads, and what it says to a replay is the trace that the node wrote.
+/// The log that a node leaves replays to the lines of its run: where its run has at most 50,000 entries and its clock is
+/// observable, or told a moment below 2^64, the log reads, and what it says to a replay is the trace that the node wrote.
 pub fn logs_replay()
-    ensures { (file : List ℕ) (turns : ℕ) (cause : Why) (old new : Outside) (n m : SinkState)
+    ensures told { (file : List ℕ) (turns : ℕ) (cause : Why) (old new : Outside) (n m : SinkState)
+        → Calls (Some (node file turns)) cause old new n m
+        → IsTrue old.files.observable
+        → IsTrue old.clock.observable
+        → (cfg : Config)
+        → config_said file old.files.held ≡ says cfg
+        → (s : Served (begun_config cfg (serving_in old)) (first_node cfg (serving_in old)) turns
+        (begun_with cfg (serving_in old)) (serving_in new))
+        → length (made_run cfg turns (serving_in old) s.refused).events ≤ 50000
+        → ReplaysSo cfg.log old new }
+    ensures small { (file : List ℕ) (turns : ℕ) (cause : Why) (old new : Outside) (n m : SinkState)
         → Calls (Some (node file turns)) cause old new n m
         → IsTrue old.files.observable
         → (cfg : Config)
@@ -468,7 +488,7 @@ pub fn replays_are_whole()
     ensures written { (log : List ℕ) (old new : Outside) (s : ReplaysSo log old new)
         → length s.bytes ≤ 4194304
         → (cause : Why) (before after : Outside) (n m : SinkState)
-        → Calls (Some (replay log)) cause before after n m
+        → Calls (Some (on_file Kind.Replay log)) cause before after n m
         → IsTrue before.files.observable
         → before.files.held ≡ new.files.held
         → cause ≡ Cause.Done
@@ -476,7 +496,7 @@ pub fn replays_are_whole()
     ensures done { (log : List ℕ) (old new : Outside) (s : ReplaysSo log old new)
         → length s.bytes ≤ 4194304
         → (cause : Why) (before after : Outside) (n m : SinkState)
-        → Calls (Some (replay log)) cause before after n m
+        → Calls (Some (on_file Kind.Replay log)) cause before after n m
         → IsTrue before.files.observable
         → before.files.held ≡ new.files.held
         → ¬ (HasRisen before.files.read_faults after.files.read_faults)

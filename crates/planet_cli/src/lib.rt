@@ -4,6 +4,7 @@
 mod by_words;
 mod call_laws;
 mod command_laws;
+mod kinds;
 mod top;
 mod words;
 
@@ -19,9 +20,10 @@ pub use command_laws::{
     fleet_complete, fleet_front, fleet_only, fleet_starts, gathered, grown, grown_whole, in_order,
     injected, injected_line, injects, log_keeps, logged, logs_are_ordered, logs_replay, messages,
     node_complete, node_keeps_files, node_makes_its_log, paid, parted, ported, replayed,
-    replays_are_whole, served, served_agrees, served_keeps, serves, shown, shown_only, shown_whole,
-    unbound, waited,
+    replays_are_whole, runs_are_ordered, served, served_agrees, served_keeps, serves, shown,
+    shown_only, shown_whole, unbound, waited,
 };
 pub use exit_status::{Cause, Refusal, Status};
+pub use kinds::Kind;
 pub use top::planet;
 pub use words::{Command, read_words};

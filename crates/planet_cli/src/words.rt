@@ -1,43 +1,43 @@
 //! What the words of a call ask for.
 ghost use Rattle.std.specs.Prelude.{◌≡◌, IfSome, MatchOption};
-ghost use Rattle.std.specs.Str.{bytes_eq};
-ghost use Rattle.planet_cli.specs.Requests.{with_file, with_two, request_of};
+ghost use Rattle.planet_cli.specs.Requests.{with_own, with_file, with_two, request_of};
 ghost use Rattle.planet_cli.specs.Commands.{request_for, command_fits};
 
-use line_reader::{as_file_name, decimal, number_of};
+use crate::kinds::{Kind, kind_named};
+use line_reader::{as_file_name, decimal, is, number_of};
 use plan_base::Texts;
 
 /// What words ask for.
 #[derive(Clone, Copy)]
 pub enum Command<'a> {
-    /// `replay FILE`
-    Replay(&'a str),
-    /// `check FILE`
-    Check(&'a str),
-    /// `show FILE`
-    Show(&'a str),
+    /// One that reads one file and writes one text
+    OnFile(Kind, &'a str),
     /// `inject FILE`
     Inject(&'a str),
     /// `fleet FILE`
     Fleet(&'a str),
+    /// `audit FILE`
+    Audit(&'a str),
     /// `node FILE TURNS`, with TURNS from 1 to 1,000,000
     Node(&'a str, u32),
     /// `grow SEED N`, with N from 1 to 50,000
     Grow(u64, u32),
-    /// `cut FILE`
-    Cut(&'a str),
-    /// `gather PORT FILE`
-    Gather(u16, &'a str),
-    /// `port FILE`
-    Port(&'a str),
-    /// `audit FILE`
-    Audit(&'a str),
 }
 
-fn is(word: &[u8], name: &[u8]) -> bool
-    ensures { result ≡ bytes_eq word.now name.now }
+// The command of that name on a file that does more than to write a text of it, or `None` where there is none.
+fn own_command<'a>(name: &[u8], file: &'a str) -> Option<Command<'a>>
+    ensures { MatchOption result (with_own name.now file.now ≡ None)
+        (λ c. with_own name.now file.now ≡ Some (request_for c)) }
 {
-    word == name
+    if is(name, b"inject") {
+        Some(Command::Inject(file))
+    } else if is(name, b"fleet") {
+        Some(Command::Fleet(file))
+    } else if is(name, b"audit") {
+        Some(Command::Audit(file))
+    } else {
+        None
+    }
 }
 
 // The command of that name on a file, or `None` where there is none.
@@ -45,31 +45,10 @@ fn command_on<'a>(name: &[u8], file: &'a str) -> Option<Command<'a>>
     ensures { MatchOption result (with_file name.now file.now ≡ None)
         (λ c. with_file name.now file.now ≡ Some (request_for c)) }
 {
-    if is(name, b"replay") {
-        return Some(Command::Replay(file));
+    match kind_named(name) {
+        Some(kind) => Some(Command::OnFile(kind, file)),
+        None => own_command(name, file),
     }
-    if is(name, b"check") {
-        return Some(Command::Check(file));
-    }
-    if is(name, b"show") {
-        return Some(Command::Show(file));
-    }
-    if is(name, b"inject") {
-        return Some(Command::Inject(file));
-    }
-    if is(name, b"fleet") {
-        return Some(Command::Fleet(file));
-    }
-    if is(name, b"cut") {
-        return Some(Command::Cut(file));
-    }
-    if is(name, b"port") {
-        return Some(Command::Port(file));
-    }
-    if is(name, b"audit") {
-        return Some(Command::Audit(file));
-    }
-    None
 }
 
 // The command of that name with two words, or `None` where there is none that takes them.
@@ -85,7 +64,8 @@ fn command_with<'a>(name: &[u8], first: &'a [u8], second: &'a [u8]) -> Option<Co
         return Some(Command::Node(as_file_name(first)?, number_of(second, 1, 1_000_000)?));
     }
     if is(name, b"gather") {
-        return Some(Command::Gather(number_of(first, 0, 65_535)? as u16, as_file_name(second)?));
+        let kind = Kind::Gather(number_of(first, 0, 65_535)? as u16);
+        return Some(Command::OnFile(kind, as_file_name(second)?));
     }
     None
 }

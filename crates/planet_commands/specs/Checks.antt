@@ -4,12 +4,11 @@ use Rattle.std.specs.Fmt.{decimal}
 use lib.Chars.{codes}
 use Rattle.plan_base.specs.declared.tree.Program.{Program}
 use Rattle.plan_base.specs.Sizes.{program_nodes, code_size}
-use Rattle.node_io.specs.FileMaps.{FileMap}
 use Rattle.program_text.specs.declared.fault.TextFault.{TextFault}
 use Rattle.program_text.specs.Texts.{program_of}
 use Rattle.program_text.specs.Reasons.{fault_byte}
 use Rattle.exit_status.specs.declared.status.Refusal.TheVariants.{At}
-use Rattle.planet_commands.specs.Said.{Said, outside, says, said_in}
+use Rattle.planet_commands.specs.Said.{Said, outside, says}
 
 -- the most bytes of a program's text
 abbrev pub program_limit : ℕ
@@ -30,7 +29,3 @@ sizes_of (Err fault) = outside (At (fault_byte fault) fault)
 -- the line of a program's text, or its first refusal
 unfoldable pub program_said : List ℕ → Said (List ℕ)
 program_said text = sizes_of (program_of text)
-
--- what the file of this name says to `check`
-abbrev pub check_said : List ℕ → FileMap → Said (List ℕ)
-check_said name files = said_in program_limit program_said name files

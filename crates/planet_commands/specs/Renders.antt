@@ -18,10 +18,6 @@ Prints text LinkFault old new = ⊥
 Prints text SpawnFault old new = ⊥
 Prints text (NodesFailed h s) old new = ⊥
 
--- a command that has a value to write writes this text of it
-abbrev pub PrintsBy : {A : Type 0} → (A → List ℕ) → A → Cause → SinkState → SinkState → Type 0
-PrintsBy text v cause old new = Prints (text v) cause old new
-
 -- the text that bytes say was written, or a prefix of it; or they are refused, or memory was, and nothing was written
 abbrev pub Renders : Said (List ℕ) → Cause → SinkState → SinkState → Type 0
 Renders said Done old new = SaysOf said (λ text. Writes old new text)
@@ -33,3 +29,7 @@ Renders said ReadFault old new = ⊥
 Renders said LinkFault old new = ⊥
 Renders said SpawnFault old new = ⊥
 Renders said (NodesFailed h s) old new = ⊥
+
+-- the text that these bytes say was written so
+abbrev pub RendersBy : (List ℕ → Said (List ℕ)) → List ℕ → Cause → SinkState → SinkState → Type 0
+RendersBy said bytes cause old new = Renders (said bytes) cause old new

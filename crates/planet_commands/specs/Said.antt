@@ -42,6 +42,12 @@ line_limit = 4194304
 abbrev pub lines_said : {A : Type 0} → (List ℕ → Result A LineFault) → List ℕ → FileMap → Said A
 lines_said read name files = said_in line_limit (λ bytes. said_by (read bytes)) name files
 
+-- what is said where a value is said and this is said of it
+abbrev pub said_then : {A B : Type 0} → Said A → (A → Said B) → Said B
+said_then nothing more = nothing
+said_then (outside r) more = outside r
+said_then (says v) more = more v
+
 -- it says a value
 abbrev pub IsSaid : {A : Type 0} → Said A → Type 0
 IsSaid nothing = ⊥

@@ -12,7 +12,7 @@ use Rattle.packet_frame_text.specs.Frames.{frame_text}
 use Rattle.packet_frame.specs.Decoding.{read_by}
 use Rattle.node_io.specs.FileMaps.{FileMap, file_at}
 use Rattle.exit_status.specs.declared.status.Refusal.TheVariants.{Frame, BadHex}
-use Rattle.planet_commands.specs.Said.{Said, nothing, outside, says, said_in}
+use Rattle.planet_commands.specs.Said.{Said, outside, says, said_in, said_then}
 
 -- the most bytes of a frame in hex
 abbrev pub frame_limit : ℕ
@@ -38,9 +38,7 @@ framed_said (Err e) = outside (Frame e)
 
 -- what bytes say that hex digits may stand for
 abbrev pub decoded_said : Said (List ℕ) → Said (List ℕ)
-decoded_said nothing = nothing
-decoded_said (outside r) = outside r
-decoded_said (says bytes) = framed_said (read_by (version_shown bytes) bytes)
+decoded_said said = said_then said (λ bytes. framed_said (read_by (version_shown bytes) bytes))
 
 -- what a frame in hex says, or its first refusal
 unfoldable pub frame_said : List ℕ → Said (List ℕ)

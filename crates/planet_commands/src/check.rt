@@ -55,14 +55,14 @@ fn line_of(alloc: Global, text: &[u8]) -> Result<String, Cause>
 impl FileCommand for Check {
     ghost limit = { program_limit };
 
-    ghost said = { program_said };
+    ghost said = { λ command. program_said };
 
     fn limit() -> usize {
         MOST_PROGRAM_BYTES
     }
 
     #[tactic(auto, using(crate::proofs::Rendering::renders_none, crate::proofs::Rendering::renders_text))]
-    fn write<K: Sink>(alloc: Global, bytes: &[u8], out: &mut K) -> Cause {
+    fn write<K: Sink>(&self, alloc: Global, bytes: &[u8], out: &mut K) -> Cause {
         match line_of(alloc, bytes) {
             Ok(line) => print(line.as_bytes(), out),
             Err(cause) => cause,

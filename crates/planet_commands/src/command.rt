@@ -12,7 +12,7 @@ pub trait FileCommand {
     // the most bytes of the file, and what its bytes say: a text to write, or the first refusal
     ghost limit: { ℕ };
 
-    ghost said: { List ℕ → Said (List ℕ) };
+    ghost said: { Self → List ℕ → Said (List ℕ) };
 
     /// The most bytes of the file.
     fn limit() -> usize
@@ -20,9 +20,9 @@ pub trait FileCommand {
         ensures fits { result < 2 ^ 62 };
 
     /// Writes the text that the file's bytes say, or refuses them before anything is written.
-    fn write<K: Sink>(alloc: Global, bytes: &[u8], out: &mut K) -> Cause
+    fn write<K: Sink>(&self, alloc: Global, bytes: &[u8], out: &mut K) -> Cause
         requires { length bytes.now ≤ limit }
-        ensures { Renders (said bytes.now) result (K.state out.old) (K.state out.new) };
+        ensures { Renders (said self.now bytes.now) result (K.state out.old) (K.state out.new) };
 }
 
 /// Writes a text that is whole.

@@ -5,10 +5,12 @@ mod by_file;
 mod check;
 mod command;
 mod lines;
+mod services;
 mod show;
 
 pub use by_file::on_file;
 pub use check::Check;
 pub use command::{FileCommand, print};
-pub use lines::{LineValue, MOST_FILE_BYTES, value_of};
+pub use lines::{LineValue, MOST_FILE_BYTES, value_in, value_of};
+pub use services::services_of;
 pub use show::Show;

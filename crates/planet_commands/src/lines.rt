@@ -166,9 +166,9 @@ impl LineValue for PortFile {
     }
 }
 
-// The value that bytes say. Condition: at most 4,194,304 bytes.
+/// The value that bytes say. Condition: at most 4,194,304 bytes.
 #[tactic(auto, using(crate::proofs::Refusing::lines_refuse))]
-fn value_in<V: LineValue>(alloc: Global, bytes: &[u8]) -> Result<V, Cause>
+pub fn value_in<V: LineValue>(alloc: Global, bytes: &[u8]) -> Result<V, Cause>
     requires { length bytes.now ≤ 4194304 }
     ensures reads { Reads (said_by (V.said bytes.now)) result }
     ensures rules { IfOk result V.keeps }

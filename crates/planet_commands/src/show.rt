@@ -140,14 +140,14 @@ fn hex_text(alloc: Global, text: &[u8]) -> Result<Bytes, Cause>
 impl FileCommand for Show {
     ghost limit = { frame_limit };
 
-    ghost said = { frame_said };
+    ghost said = { λ command. frame_said };
 
     fn limit() -> usize {
         MOST_HEX_BYTES
     }
 
     #[tactic(auto, using(crate::proofs::Rendering::renders_none, crate::proofs::Rendering::renders_text))]
-    fn write<K: Sink>(alloc: Global, bytes: &[u8], out: &mut K) -> Cause {
+    fn write<K: Sink>(&self, alloc: Global, bytes: &[u8], out: &mut K) -> Cause {
         match hex_text(alloc, bytes) {
             Ok(text) => print(text.as_slice(), out),
             Err(cause) => cause,

@@ -20,10 +20,10 @@ use Rattle.ledger_audit.specs.Texts.{audit_text}
 use Rattle.ledger_audit.proofs.VerdictLaws.{hosts_are}
 use Rattle.exit_status.specs.declared.status.Cause.{Cause}
 use Rattle.exit_status.specs.declared.status.Cause.TheVariants.{Done, Usage, Refused, ReadFault, WriteFault, LinkFault, SpawnFault, NoMemory, NodesFailed}
-use Rattle.planet_commands.specs.Said.{Said, nothing, outside, says, lines_said}
+use Rattle.planet_commands.specs.Said.{Said, nothing, outside, says, lines_said, said_then}
 use Rattle.planet_commands.specs.Takes.{Untaken, TakeResult, Takes}
 use Rattle.planet_commands.specs.Renders.{Prints}
-use Rattle.planet_commands_fleet.specs.Audits.{said_then, log_said, hosts_in, logs_said, fit_text, text_said, audit_said, FramesRead, MayNames, names_in, AsksLogs, TakesLogs, AuditsRead, AuditsFile}
+use Rattle.planet_commands_fleet.specs.Audits.{log_said, hosts_in, logs_said, fit_text, text_said, audit_said, FramesRead, MayNames, names_in, AsksLogs, TakesLogs, AuditsRead, AuditsFile}
 use Rattle.planet_commands_fleet.proofs.LogTaking.{untaken_then}
 
 -- ---- readings, one after the other

@@ -11,9 +11,9 @@ use Rattle.exit_status.specs.declared.status.Cause.{Cause}
 use Rattle.exit_status.specs.declared.status.Cause.TheVariants.{Done, Usage, Refused, ReadFault, WriteFault, LinkFault, SpawnFault, NoMemory, NodesFailed}
 use Rattle.exit_status.specs.declared.status.Refusal.{Refusal}
 use Rattle.exit_status.specs.declared.status.Refusal.TheVariants.{Line, At, Frame, BadHex, TooLong, Log as OfLog, LogTooLong}
-use Rattle.planet_commands.specs.Said.{Said, outside, says}
+use Rattle.planet_commands.specs.Said.{Said, outside, says, said_then}
 use Rattle.planet_commands.specs.Takes.{Untaken, Takes}
-use Rattle.planet_commands_fleet.specs.Audits.{refusal_of, cause_of, said_of, said_then, of_new_host}
+use Rattle.planet_commands_fleet.specs.Audits.{refusal_of, cause_of, said_of, of_new_host}
 
 own : (k : ℕ) (r : Refusal) → IsOwn r → IsOwn (refusal_of k r)
 own k (Line n reason) h = h

@@ -21,7 +21,7 @@ use Rattle.exit_status.specs.declared.status.Cause.{Cause}
 use Rattle.exit_status.specs.declared.status.Cause.TheVariants.{Refused}
 use Rattle.exit_status.specs.declared.status.Refusal.{Refusal}
 use Rattle.exit_status.specs.declared.status.Refusal.TheVariants.{Line, TooLong, Log as OfLog, LogTooLong}
-use Rattle.planet_commands.specs.Said.{Said, nothing, outside, says, lines_said}
+use Rattle.planet_commands.specs.Said.{Said, nothing, outside, says, lines_said, said_then}
 use Rattle.planet_commands.specs.Takes.{Untaken, TakeResult}
 use Rattle.planet_commands.specs.Renders.{Prints}
 
@@ -41,12 +41,6 @@ abbrev pub said_of : {A : Type 0} → ℕ → Said A → Said A
 said_of k nothing = nothing
 said_of k (outside r) = outside (refusal_of k r)
 said_of k (says v) = says v
-
--- what is said where a value is said and this is said of it
-abbrev pub said_then : {A B : Type 0} → Said A → (A → Said B) → Said B
-said_then nothing more = nothing
-said_then (outside r) more = outside r
-said_then (says v) more = more v
 
 -- a log of a host that no log before it has
 abbrev pub of_new_host : ℕ → List Host → Log → Said Log

@@ -11,7 +11,7 @@ mod parts;
 
 pub use fitting::on_audit;
 pub use fleet::on_fleet;
-pub use gather::on_gather;
+pub use gather::Gather;
 pub use inject::on_ask;
 pub use node::on_node;
-pub use parts::on_cut;
+pub use parts::Cut;

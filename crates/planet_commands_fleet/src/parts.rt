@@ -1,15 +1,18 @@
 //! The command `cut`.
 ghost use Rattle.command_files.specs.Cuts.{KeepsCut};
 ghost use Rattle.command_files.specs.Texts.{cut_output};
-ghost use Rattle.planet_commands.specs.Takes.{TakesAndActs};
-ghost use Rattle.planet_commands.specs.Renders.{Prints, PrintsBy};
-ghost use Rattle.planet_commands_fleet.specs.Messages.{cut_said};
+ghost use Rattle.planet_commands.specs.Said.{line_limit};
+ghost use Rattle.planet_commands.specs.Renders.{Prints};
+ghost use Rattle.planet_commands_fleet.specs.Messages.{parts_said};
 
 use command_files::{CutFile, cut_text};
 use exit_status::Cause;
-use node_io::{Files, Sink};
-use planet_commands::{print, value_of};
+use node_io::Sink;
+use planet_commands::{FileCommand, MOST_FILE_BYTES, print, value_in};
 use std::alloc::Global;
+
+/// `cut FILE`: the asks of the parts of the message that the file names.
+pub struct Cut;
 
 // Writes the asks of the parts of a message that was read.
 #[tactic(auto, using(node_io::proofs::SinkLaws::prefix_none))]
@@ -23,13 +26,20 @@ fn print_parts<K: Sink>(alloc: Global, message: &CutFile, out: &mut K) -> Cause
     }
 }
 
-/// `cut FILE`: the asks of the parts of the message that the file names.
-pub fn on_cut<F: Files, K: Sink>(alloc: Global, files: &mut F, name: &str, out: &mut K) -> Cause
-    ensures { TakesAndActs (cut_said name.now) (PrintsBy cut_output) name.now
-        (F.state files.old) (F.state files.new) result (K.state out.old) (K.state out.new) }
-{
-    match value_of::<CutFile, F>(alloc, files, name) {
-        Ok(message) => print_parts(alloc, &message, out),
-        Err(cause) => cause,
+impl FileCommand for Cut {
+    ghost limit = { line_limit };
+
+    ghost said = { λ command. parts_said };
+
+    fn limit() -> usize {
+        MOST_FILE_BYTES
+    }
+
+    #[tactic(auto, using(planet_commands::proofs::Rendering::renders_value, planet_commands::proofs::Rendering::renders_no_value))]
+    fn write<K: Sink>(&self, alloc: Global, bytes: &[u8], out: &mut K) -> Cause {
+        match value_in::<CutFile>(alloc, bytes) {
+            Ok(message) => print_parts(alloc, &message, out),
+            Err(cause) => cause,
+        }
     }
 }

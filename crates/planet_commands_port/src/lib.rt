@@ -3,4 +3,4 @@
 
 mod port;
 
-pub use port::on_port;
+pub use port::Port;

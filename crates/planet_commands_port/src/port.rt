@@ -5,32 +5,24 @@ ghost use Rattle.service_registry_spec.specs.Beginning.{opening_standing, presen
 ghost use Rattle.command_files.specs.PortRules.{KeepsPort};
 ghost use Rattle.reliable_ports_world.specs.Networks.{two_hosts};
 ghost use Rattle.reliable_ports_world.specs.Texts.{port_output};
-ghost use Rattle.planet_commands.specs.Takes.{TakesAndActs};
-ghost use Rattle.planet_commands.specs.Renders.{Prints, PrintsBy};
-ghost use Rattle.planet_commands_port.specs.Ports.{port_said};
+ghost use Rattle.planet_commands.specs.Said.{line_limit};
+ghost use Rattle.planet_commands.specs.Renders.{Prints};
+ghost use Rattle.planet_commands_port.specs.Ports.{ends_said};
 
 use command_files::PortFile;
 use containers::Items;
 use exit_status::Cause;
-use network_config::HostSpec;
-use node_io::{Files, Sink};
+use node_io::Sink;
 use plan_base::NoMemory;
-use planet_commands::{print, value_of};
+use planet_commands::{FileCommand, MOST_FILE_BYTES, print, services_of, value_in};
 use reliable_ports_world::{port_text, two_hosts};
 use service_registry::Registry;
 use std::alloc::Global;
 
-// The services of each host: the packages but for those that it lacks, and no rows.
-fn services_of(alloc: Global, hosts: &[HostSpec]) -> Result<Items<Registry>, NoMemory>
-    ensures { IfOk result (λ services. map standing services
-        ≡ map (λ spec. opening_standing (present_without spec.missing)) hosts.now) }
-{
-    let mut services = Items::new(alloc);
-    for spec in hosts {
-        services.add(Registry::new(alloc, spec.missing.as_slice()))?;
-    }
-    Ok(services)
-}
+/// `port FILE`: what is met at each event of the two ends that the file says, and how they stand in the end; see
+/// `docs/use/ports.md`. After every number of events, the hops and evals of any families together are at most what both
+/// purses paid.
+pub struct Port;
 
 // The services of both ends' hosts.
 fn both_services(alloc: Global) -> Result<Items<Registry>, NoMemory>
@@ -57,15 +49,20 @@ fn run_port<K: Sink>(alloc: Global, file: &PortFile, out: &mut K) -> Cause
     }
 }
 
-/// `port FILE`: what is met at each event of the two ends that the file says, and how they stand in the end; see
-/// `docs/use/ports.md`. After every number of events, the hops and evals of any families together are at most what both
-/// purses paid.
-pub fn on_port<F: Files, K: Sink>(alloc: Global, files: &mut F, name: &str, out: &mut K) -> Cause
-    ensures { TakesAndActs (port_said name.now) (PrintsBy port_output) name.now
-        (F.state files.old) (F.state files.new) result (K.state out.old) (K.state out.new) }
-{
-    match value_of::<PortFile, F>(alloc, files, name) {
-        Ok(file) => run_port(alloc, &file, out),
-        Err(cause) => cause,
+impl FileCommand for Port {
+    ghost limit = { line_limit };
+
+    ghost said = { λ command. ends_said };
+
+    fn limit() -> usize {
+        MOST_FILE_BYTES
+    }
+
+    #[tactic(auto, using(planet_commands::proofs::Rendering::renders_value, planet_commands::proofs::Rendering::renders_no_value))]
+    fn write<K: Sink>(&self, alloc: Global, bytes: &[u8], out: &mut K) -> Cause {
+        match value_in::<PortFile>(alloc, bytes) {
+            Ok(file) => run_port(alloc, &file, out),
+            Err(cause) => cause,
+        }
     }
 }

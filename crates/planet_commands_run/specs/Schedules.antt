@@ -12,13 +12,8 @@ use Rattle.node_log.specs.Texts.{whole_trace}
 use Rattle.node_log.specs.Nodes.{log_node}
 use Rattle.net_world_spec.specs.World.{opening}
 use Rattle.net_world_spec.specs.Texts.{run_text}
-use Rattle.node_io.specs.FileMaps.{FileMap}
 use Rattle.exit_status.specs.declared.status.Refusal.TheVariants.{Line}
-use Rattle.planet_commands.specs.Said.{Said, nothing, outside, says, said_in}
-
--- the most bytes of a file that is replayed
-abbrev pub schedule_limit : ℕ
-schedule_limit = 4194304
+use Rattle.planet_commands.specs.Said.{Said, nothing, outside, says}
 
 -- the schedule of a network, or the log of a node
 pub data Replayed : Type 0 where
@@ -64,7 +59,3 @@ run_said (Err faults.NoMemory) = nothing
 -- the output of a file that is replayed, or its first refusal
 unfoldable pub schedule_said : List ℕ → Said (List ℕ)
 schedule_said bytes = run_said (replayed_of bytes)
-
--- what the file of this name says to `replay`
-abbrev pub replay_said : List ℕ → FileMap → Said (List ℕ)
-replay_said name files = said_in schedule_limit schedule_said name files

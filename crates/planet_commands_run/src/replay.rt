@@ -1,41 +1,27 @@
 //! The command `replay`.
-ghost use Rattle.std.specs.Prelude.{◌≡◌, ◌≤◌, ◌⊎◌, Err, length, IfOk, map};
+ghost use Rattle.std.specs.Prelude.{◌≡◌, ◌≤◌, ◌⊎◌, Err, length};
 ghost use Rattle.network_config.specs.Rules.{KeepsRules};
 ghost use Rattle.network_config.specs.NodeRules.{KeepsLog};
 ghost use Rattle.schedule_text.specs.Schedules.{schedule_of};
 ghost use Rattle.node_files.specs.Logs.{log_of};
-ghost use Rattle.service_registry.specs.RegistryState.{standing};
-ghost use Rattle.net_world_spec.specs.World.{opening_services};
+ghost use Rattle.planet_commands.specs.Said.{line_limit};
 ghost use Rattle.planet_commands.specs.Renders.{Prints, Renders};
-ghost use Rattle.planet_commands_run.specs.Schedules.{schedule_limit, schedule_said, is_header_fault, replayed_of, as_log, replay_text, log_trace};
+ghost use Rattle.planet_commands_run.specs.Schedules.{schedule_said, is_header_fault, replayed_of, as_log, replay_text, log_trace};
 
-use containers::Items;
 use exit_status::Cause;
 use line_reader::{LineFault, LineReason};
 use net_world::{RunFault, run};
-use network_config::{HostSpec, Log, Schedule};
+use network_config::{Log, Schedule};
 use node_files::read_log;
 use node_io::Sink;
 use node_log::{ReplayFault, run_log};
-use plan_base::NoMemory;
-use planet_commands::{FileCommand, MOST_FILE_BYTES};
+use planet_commands::{FileCommand, MOST_FILE_BYTES, services_of};
 use schedule_text::read_schedule;
 use service_registry::Registry;
 use std::alloc::Global;
 
 /// `replay FILE`: the trace and the ledger of a schedule, or the trace of a node's log.
 pub struct Replay;
-
-/// The services of each host: the packages but for those that it lacks, and no rows.
-pub fn services_of(alloc: Global, hosts: &[HostSpec]) -> Result<Items<Registry>, NoMemory>
-    ensures { IfOk result (λ services. map standing services ≡ map opening_services hosts.now) }
-{
-    let mut services = Items::new(alloc);
-    for spec in hosts {
-        services.add(Registry::new(alloc, spec.missing.as_slice()))?;
-    }
-    Ok(services)
-}
 
 // Writes the trace and the ledger of a schedule that was read.
 #[tactic(auto, using(node_io::proofs::SinkLaws::prefix_none))]
@@ -107,16 +93,16 @@ fn replay_other<K: Sink>(alloc: Global, bytes: &[u8], fault: LineFault, out: &mu
 }
 
 impl FileCommand for Replay {
-    ghost limit = { schedule_limit };
+    ghost limit = { line_limit };
 
-    ghost said = { schedule_said };
+    ghost said = { λ command. schedule_said };
 
     fn limit() -> usize {
         MOST_FILE_BYTES
     }
 
     #[tactic(auto, using(crate::proofs::Replaying::schedule_printed))]
-    fn write<K: Sink>(alloc: Global, bytes: &[u8], out: &mut K) -> Cause {
+    fn write<K: Sink>(&self, alloc: Global, bytes: &[u8], out: &mut K) -> Cause {
         match read_schedule(alloc, bytes) {
             Ok(schedule) => run_read(alloc, schedule, out),
             Err(fault) => replay_other(alloc, bytes, fault, out),

@@ -1,13 +1,17 @@
 /* Stands before the C library, by LD_PRELOAD, and has calls of the system fail as PLANET_FAIL and PLANET_CLOCK say.
    PLANET_FAIL is NAME:FIRST:LAST:ERROR, where NAME is write, read, recvfrom or sendto and the calls of that name are counted
    from 1; ERROR is a number of errno, or 0 for a call that moves one byte. PLANET_CLOCK are seconds, one for each call of the
-   clock, with commas between; the last is said again. */
+   clock, with commas between; the last is said again. PLANET_WAIT is a file to which the wait that is set for receiving is
+   written, in microseconds, a line each time. */
 #define _GNU_SOURCE
 #include <errno.h>
+#include <fcntl.h>
+#include <stdio.h>
 #include <stdlib.h>
 #include <string.h>
 #include <sys/socket.h>
 #include <sys/syscall.h>
+#include <sys/time.h>
 #include <time.h>
 #include <unistd.h>
 
@@ -70,6 +74,22 @@ ssize_t sendto(int fd, const void *from, size_t size, int flags, const struct so
         return -1;
     }
     return syscall(SYS_sendto, fd, from, size, flags, to, length);
+}
+
+int setsockopt(int fd, int level, int name, const void *value, socklen_t length)
+{
+    const char *said = getenv("PLANET_WAIT");
+    const struct timeval *wait = value;
+    char line[32];
+    int file, size;
+
+    if (said && level == SOL_SOCKET && name == SO_RCVTIMEO && length == sizeof *wait) {
+        size = snprintf(line, sizeof line, "%lld\n", wait->tv_sec * 1000000LL + wait->tv_usec);
+        file = open(said, O_WRONLY | O_CREAT | O_APPEND, 0600);
+        syscall(SYS_write, file, line, size);
+        close(file);
+    }
+    return (int)syscall(SYS_setsockopt, fd, level, name, value, length);
 }
 
 int clock_gettime(clockid_t clock, struct timespec *now)

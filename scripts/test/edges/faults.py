@@ -1,4 +1,4 @@
-"""Calls of the system that fail at a moment of their own, and a clock that goes back."""
+"""Calls of the system that fail at a moment of their own, a clock that goes back, and the wait that is asked for."""
 from __future__ import annotations
 
 import errno
@@ -106,4 +106,18 @@ def clock_back(room: Room) -> None:
     node.kill()
 
 
-TESTS = [failed_writes, failed_reads, failed_links, clock_back]
+def the_wait(room: Room) -> None:
+    """A receiving waits ten milliseconds, as the system is asked once."""
+    more = environ(room, "PLANET_WAIT", str(room.folder / "waits"))
+    if more is None:
+        return
+    node = Node(room, 3, environ=more)
+    room.wants("a node ends with 0", node.ends() == 0)
+    path = room.folder / "waits"
+    waits = path.read_text("ascii").splitlines() if path.exists() else []
+    room.wants("a receiving waits 10,000 microseconds", waits == ["10000"], waits)
+    node.replays("a node whose wait was read")
+    node.kill()
+
+
+TESTS = [failed_writes, failed_reads, failed_links, clock_back, the_wait]

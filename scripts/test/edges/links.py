@@ -11,19 +11,21 @@ from edges.room import LOOPBACK, Node, Room, ask, bound_addresses, chunk_of, own
 from planet_tools.frames.read import HEAD
 
 FRAME_MAX, DATAGRAM_MAX = 16_512, 65_507
-# milliseconds by which the clock of a node and this one's may differ; those that a quiet turn waits, at least and at most
-SKEW, TURN, TURN_MOST = 3_000, 9, 60
+# milliseconds that a quiet turn waits, at least, and at most on a machine that does much else
+TURN, TURN_MOST = 9, 500
 
 
 def the_clock(room: Room) -> None:
     """Ticks, the moment of version 2 and the waiting of a turn go by the system's time."""
-    before = time.time() * 1000
-    begun = time.monotonic()
+    before, begun = time.time() * 1000, time.monotonic()
     node = Node(room, 100, period=200, version=2)
+    room.wants("a node serves", node.serves())
+    served = time.time() * 1000
     room.wants("a node ends with 0", node.ends() == 0)
     took = (time.monotonic() - begun) * 1000
     boot = [int(it.split(" ")[1]) for it in node.log_bytes().decode().split("\n") if it.startswith("boot ")]
-    room.wants("the moment in a log is the system's, in milliseconds", len(boot) == 1 and abs(boot[0] - before) < SKEW, boot)
+    is_between = len(boot) == 1 and before - 1 <= boot[0] <= served
+    room.wants("the moment in a log is the system's, in milliseconds", is_between, (before, boot, served))
     room.wants("a quiet turn waits some ten milliseconds", 100 * TURN <= took <= 100 * TURN_MOST, took)
     ticks = node.entries().count("tick")
     room.wants("a node ticks once a period", 2 <= ticks <= took / 200 + 1, ticks)
@@ -69,14 +71,13 @@ def datagrams(room: Room) -> None:
     front = ask(5)[:HEAD - 1]
     sent = [front[:size] + draw.randbytes(max(0, size - len(front))) for size in sizes]
     node.hears(b"")
-    for frame in sent:
+    for number, frame in enumerate(sent, 1):
         node.hears(frame)
         node.owner.sendto(frame, (LOOPBACK, node.number))
-        time.sleep(0.02)
+        # so that what the system holds for it doesn't overflow
+        if not node.says(" arrive @1 ", 2 * number):
+            break
     wanted = [f"{word} {it[: FRAME_MAX + 1].hex()}" for it in sent for word in ("frame 1", "control")]
-    last = time.monotonic() + 20
-    while len(node.entries()) < len(wanted) + 1 and time.monotonic() < last:
-        time.sleep(0.05)
     found = [it for it in node.entries() if it.startswith(("frame", "control"))]
     room.wants("each datagram is logged as it came, a longer one cut", found == wanted, (len(found), len(wanted)))
     too_long = node.said().count("BadFrame TooLong\n")

@@ -129,6 +129,13 @@ class Node:
             time.sleep(0.01)
         return self.trace.stat().st_size > 0
 
+    def says(self, what: str, count: int) -> bool:
+        """Waits until its trace has something so often, and answers whether it does within ten seconds."""
+        last = time.monotonic() + 10
+        while (found := self.said().count(what)) < count and time.monotonic() < last:
+            time.sleep(0.005)
+        return found >= count
+
     def ends(self) -> int:
         """Waits for its end, and answers its status."""
         try:

@@ -1,11 +1,11 @@
 """Runs a program `planet`, and says behind its note what is wrong, where, and what helps."""
 from __future__ import annotations
 
+# what signal stands on: signal itself makes enums, for a quarter of the time that a call takes
+import _signal as signal  # type: ignore[import]
 import os
 import select
-import signal
 import sys
-from types import FrameType
 
 USAGE = """usage: explain PROGRAM WORD..
 
@@ -62,7 +62,7 @@ def ran(program: str, words: list[str]) -> tuple[int, bytes]:
         (os.POSIX_SPAWN_DUP2, writing, 2), (os.POSIX_SPAWN_CLOSE, reading), (os.POSIX_SPAWN_CLOSE, writing)])
     os.close(writing)
 
-    def hand_on(number: int, _: FrameType | None) -> None:
+    def hand_on(number: int, _: object) -> None:
         try:
             os.kill(child, number)
         except ProcessLookupError:

@@ -1,7 +1,6 @@
 """Writes help on all commands or on one, without the program."""
 from __future__ import annotations
 
-import difflib
 import sys
 import textwrap
 
@@ -51,6 +50,7 @@ def main(words: list[str]) -> int:
     if name in known:
         sys.stdout.write(of_command(known[name]))
         return 0
+    import difflib
     like = difflib.get_close_matches(name, known, 1, 0.5)
     meant = f"; is {like[0]} meant?" if like else ""
     print(f"planet: no command is named {name}{meant} `planet help` has all", file=sys.stderr)

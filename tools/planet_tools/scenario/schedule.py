@@ -73,7 +73,7 @@ class Replays:
     last_text: str = ""
     last_trace: bytes = b""
     room: tempfile.TemporaryDirectory[str] = field(
-        default_factory=lambda: tempfile.TemporaryDirectory(prefix="planet-scenario-"))
+        default_factory=lambda: tempfile.TemporaryDirectory(prefix="planet-scenario-", dir=program.room_in_memory()))
 
     def trace(self, schedule: Schedule, shows_frames: bool) -> bytes:
         """The trace and ledger of a schedule. What planet refuses is a fault of the scenario's line."""

@@ -67,7 +67,8 @@ def words_of(words: Sequence[str]) -> argparse.Namespace:
     parser.add_argument("--over", metavar="NAME=VALUES", action="append", default=[],
                         help="values of a name: A..B, A..B:STEP, A..B%%:STEP or A,B,C; once for each name")
     parser.add_argument("--output", "-o", metavar="CSV", type=Path, help="the table; without it FILE's name with .csv")
-    parser.add_argument("--jobs", metavar="N", default="100%", help="runs at a time on each machine; one a processor")
+    parser.add_argument("--jobs", metavar="N", default="150%",
+                        help="runs at a time on each machine; three for two processors, as a run waits for its replay")
     parser.add_argument("--batch", metavar="N", type=int, help="runs that one process makes, one after the other")
     parser.add_argument("--sshlogin", metavar="MACHINE", action="append", default=[],
                         help="machines of GNU parallel, ':' for this one; each has this repository at the same place")
@@ -99,12 +100,17 @@ def command_of(asked: argparse.Namespace, planet: str) -> list[str]:
 
 
 def batches_of(runs: list[int], asked: argparse.Namespace) -> list[str]:
-    """The runs in batches: long enough that starting costs little, short enough that all processors end together."""
+    """The runs in batches: long enough that starting costs little, shorter towards the end, so that all processors end
+    together."""
     processors = (os.cpu_count() or 1) * max(1, len(",".join(asked.sshlogin).split(",")))
-    size = asked.batch or max(1, min(BATCH_MOST, len(runs) // (8 * processors)))
-    if size < 1:
+    if asked.batch is not None and asked.batch < 1:
         fail("sweep", "a batch has at least one run", "--batch")
-    return [ranges_of(runs[first:first + size]) for first in range(0, len(runs), size)]
+    batches, first = [], 0
+    while first < len(runs):
+        size = asked.batch or max(1, min(BATCH_MOST, (len(runs) - first) // (2 * processors)))
+        batches.append(ranges_of(runs[first:first + size]))
+        first += size
+    return batches
 
 
 def sweep(grid: Grid, table: Table, asked: argparse.Namespace, planet: str, output: Path) -> None:
@@ -115,7 +121,9 @@ def sweep(grid: Grid, table: Table, asked: argparse.Namespace, planet: str, outp
     if not runs:
         return
     logins = [word for machine in asked.sshlogin for word in ("--sshlogin", machine)]
-    command = ["parallel", "--will-cite", "--line-buffer", "--jobs", asked.jobs, "--joblog", f"+{output}.jobs", *logins]
+    # a row is one write of less than a pipe takes at once, so rows made here don't mix; ssh may hand on parts of rows
+    output_by = "--line-buffer" if logins else "--ungroup"
+    command = ["parallel", "--will-cite", output_by, "--jobs", asked.jobs, "--joblog", f"+{output}.jobs", *logins]
     with tempfile.NamedTemporaryFile("w", prefix="planet-sweep-") as batches:
         batches.write("".join(batch + "\n" for batch in batches_of(runs, asked)))
         batches.flush()

@@ -2,17 +2,26 @@
 from __future__ import annotations
 
 import os
+import socket
 import subprocess
 from pathlib import Path
 
 import pytest
 
+# a program whose children are killed as they begin
+KILLED = """#!/usr/bin/env python3
+import os, signal, sys
+if sys.argv[1] == "inject":
+    os.kill(os.getpid(), signal.SIGKILL)
+os.execv({planet!r}, sys.argv)
+"""
 TOOL = Path(__file__).resolve().parents[2] / "explain"
 MARK = "¦"
 NETWORK = ("planet schedule 1\nhost 1\nhost 2\nlink 1 1 2 1\nprogram p\nfun f(x : int) : unit = ()\nend program\n"
            "events\n")
 NODE = "planet node 1\nhost 1\nhosts 1 2\nport 7001\ncontrol 7002\nperiod 1000\nlog n.log\ndev 1 2 7003\n"
 FRAME = "504c414e010100000001000000000000000100000002000000090c64656661756c74526f7574650000010166000020016600"
+ASK = "504c414e01030000000a"
 PROGRAMS = (
     ("fun f() : int = ¦$", "DOLLAR SIGN"),
     ("svc print : (string) -> unit\nfun f() : unit = print(¦“a”)", "straight ones"),
@@ -41,6 +50,8 @@ PROGRAMS = (
     ("fun f() : int = ¦length(1)", "`length` takes a list"),
     ("fun f() : int = 1\nfun ¦f() : int = 2", "declared above, in line 1"),
     ("fun ¦hd() : int = 1", "a primitive of the language"),
+    ("fun f(x : int list list list list list list list) : int = length(x :: ¦[])", "hold fewer lists and tuples"),
+    ("¦fun f() : string = \"" + "a" * 15_991 + "\"", "more than 16000 bytes; leave something out"),
 )
 LINES = (
     ("replay", "¦planet shedule 1\n", "is `planet schedule 1` meant?"),
@@ -66,6 +77,7 @@ LINES = (
     ("replay", "planet schedule 1\nhost 1\nlink 1 1 ¦1 2\n", "both its ends are at host 1"),
     ("replay", NETWORK + "inject 1 p ¦g 5 (1)\n", "no function `g`"),
     ("replay", NETWORK + "inject 1 p f 5 (¦\"a\")\n", "`x` of `f` is of type int"),
+    ("replay", NETWORK + "inject 1 p f 5 (¦x)\n", "a value must stand here"),
     ("replay", NETWORK + "inject 1 p f 5 (¦)\n", "`f` takes 1 argument (x : int), not 0"),
     ("replay", NETWORK + "raw 1 1 ab¦c\n", "an odd number"),
     ("replay", NETWORK + "raw 1 1 a¦g\n", "`g` is no hex digit"),
@@ -91,16 +103,30 @@ FRAMES = (
     (FRAME[:92] + "¦ff" + FRAME[94:], "this tag"),
     (FRAME[:98] + "¦", "the bytes end inside"),
     (FRAME + "¦00", "leave them out"),
+    (ASK + "00000101660004240001¦ff016600", "no text in UTF-8"),
+    ("504c414e01020000000200020000000100000001¦00000001", "the hosts of an advert ascend"),
+    ("504c414e010200000002¦0021", "the limit is that of `hosts`"),
+)
+# a command, its file, the status, and what is said of the whole of it
+WHOLES = (
+    ("show", ASK + "0000010166000020016700", 2, "what isn't typed is: Entry"),
+    ("check", "a" * 65_537, 2, "it has 65537 bytes"),
+    ("node", NODE.replace("n.log", "no/n.log"), 4, "there is no folder no"),
+    ("node", NODE.replace("n.log", "."), 4, "the log . is a folder"),
+    ("fleet", "planet fleet 1\nask 1 missing\n", 8, "(missing) ended with 3: a file can't be read"),
+    ("audit", "planet audit 1\nlog missing\n", 3, "missing: No such file or directory"),
+    ("frob", "", 1, "there is no command `frob`"),
+    ("grwo", "", 1, "is `grow` meant?"),
 )
 
 
-def said(planet: str, folder: Path, command: str, text: str) -> str:
+def said(planet: str, folder: Path, command: str, text: str, status: int = 2) -> str:
     """What is written to standard error about a file of this text."""
     (folder / "file").write_bytes(text.encode())
     words = [str(TOOL), planet, command, "file", *(["1"] if command == "node" else [])]
     plain = {**os.environ, "NO_COLOR": "1"}
     done = subprocess.run(words, capture_output=True, text=True, check=False, cwd=folder, env=plain)
-    assert done.returncode == 2
+    assert done.returncode == status, done
     return done.stderr
 
 
@@ -125,3 +151,47 @@ def test_a_line_is_explained(planet: str, tmp_path: Path, command: str, marked: 
 @pytest.mark.parametrize("marked, sentence", FRAMES)
 def test_a_frame_is_explained(planet: str, tmp_path: Path, marked: str, sentence: str) -> None:
     check(planet, tmp_path, "show", marked, sentence)
+
+
+@pytest.mark.parametrize("command, text, status, sentence", WHOLES)
+def test_a_call_is_explained(planet: str, tmp_path: Path, command: str, text: str, status: int, sentence: str) -> None:
+    lines = said(planet, tmp_path, command, text, status).split("\n")
+    assert sentence in " ".join(it.strip() for it in lines), lines
+
+
+def test_a_port_that_is_taken_is_explained(planet: str, tmp_path: Path) -> None:
+    with socket.socket(socket.AF_INET, socket.SOCK_DGRAM) as held:
+        held.bind(("127.0.0.1", 0))
+        port = held.getsockname()[1]
+        lines = said(planet, tmp_path, "node", NODE.replace("7001", str(port)), 5).split("\n")
+    assert lines[0] == "planet: link fault"
+    assert f"port {port}: Address already in use" in lines[1]
+
+
+def wrapped(folder: Path, text: str) -> str:
+    """A script that stands for the program."""
+    script = folder / "script"
+    script.write_text(text)
+    script.chmod(0o755)
+    return str(script)
+
+
+def test_a_lost_child_is_explained(planet: str, tmp_path: Path) -> None:
+    program = wrapped(tmp_path, KILLED.format(planet=planet))
+    lines = said(program, tmp_path, "fleet", "planet fleet 1\nask 1 a\n", 6).split("\n")
+    assert lines[0] == "planet: spawn fault"
+    assert "was killed by a signal" in " ".join(it.strip() for it in lines[1:])
+
+
+def test_want_of_memory_is_explained(planet: str, tmp_path: Path) -> None:
+    """Among the sizes of memory with which the program is loaded, some are too small for a long file."""
+    text = NETWORK + "tick 1\n" * 40_000
+    (tmp_path / "file").write_text(text)
+    for size in range(2_000, 40_000, 500):
+        program = wrapped(tmp_path, f"#!/bin/sh\nulimit -v {size}\nexec '{planet}' \"$@\"\n")
+        done = subprocess.run([program, "replay", "file"], capture_output=True, text=True, check=False, cwd=tmp_path)
+        if done.stderr == "planet: no memory\n":
+            break
+    lines = said(program, tmp_path, "replay", text, 7).split("\n")
+    assert lines[0] == "planet: no memory"
+    assert "raise what `ulimit -v` allows" in " ".join(it.strip() for it in lines[1:])

@@ -1,7 +1,7 @@
-use Rattle.std.proofs.Common.{[], inl, refl, arith, append-nil, sym, subst, ◌∙◌}
+use Rattle.std.proofs.Common.{[], inl, refl, arith, sym, subst, ◌∙◌}
 use Rattle.fleet_run.specs.Children.{AreStarted}
 use Rattle.node_io.proofs.SpawnerLaws.{kept_same}
-use Rattle.fleet_run.proofs.FleetLaws.{no_lines, all_started}
+use Rattle.fleet_run.proofs.FleetLaws.{all_started}
 use Rattle.fleet_run.proofs.fleet.run_fleet.Goals as goal
 
 pub returns-in_default : goal.returns-in_default
@@ -12,7 +12,7 @@ returns-in_default g c =
       statuses = [];
       few = omega arith;
       given = λ t. refl;
-      did = (inl refl, record { still = []; is = sym (append-nil old.children) }, no_lines c.args.fleet.now.children (g.K.Sink.state c.args.out.now));
+      did = inl (refl, refl);
     }
 
 pub report_all-requires-clause-started : goal.report_all-requires-clause-started

@@ -1,11 +1,12 @@
-use Rattle.std.proofs.Common.{◌≡◌, ◌∙◌, ◌+◌, ◌<◌, IsTrue, Some, length, drop, get_or, slice_get, refl, sym, ap, subst, arith, rules}
+use Rattle.std.proofs.Common.{◌≡◌, ◌∙◌, ◌+◌, ◌<◌, IsTrue, Some, length, get_or, slice_get, refl, sym, ap, subst, arith, rules}
 use Rattle.std.proofs.lemmas.List.{length_push}
 use Rattle.node_io.specs.Causes.{HasRisen}
 use Rattle.node_io.specs.declared.spawner.Child.{Child}
 use Rattle.node_io.proofs.SpawnerLaws.{kept_same, kept_both}
 use Rattle.node_io.specs.Sinks.{Writes}
+use Rattle.fleet_run.specs.Children.{LeavesAllBut}
 use Rattle.fleet_run.specs.Fleets.{fleet_text}
-use Rattle.fleet_run.proofs.ChildLaws.{next_is_open, next_waited, leaves, numbered_at}
+use Rattle.fleet_run.proofs.ChildLaws.{next_is_open, next_waited, leaves_behind, numbered_at}
 use Rattle.fleet_run.proofs.FleetLaws.{no_lines, given_none, given_next, lines_next, lines_fail, put_ok, put_failed}
 use Rattle.fleet_run.proofs.reports.report_all.Goals as goal
 
@@ -49,8 +50,10 @@ returns-in_default g c =
       starts = c.wait.ensures.waits.starts ∙ l.starts;
       few = omega (arith, l.count, l.within);
       given = l.given;
-      closed = λ base o. leaves base new.children (drop (i + 1) c.args.started.now)
-          (next_waited base mid.children new.children c.args.started.now i none (get_or c.args.started.now i none) inside refl c.wait.ensures.waits.children (l.running base o));
+      closed = λ base o.
+          let behind = next_waited base mid.children new.children c.args.started.now i none (get_or c.args.started.now i none) inside refl c.wait.ensures.waits.children (l.running base o) in
+          subst (λ n. LeavesAllBut n (length c.args.kids.now) base new.children) (ap (λ n. n + 1) (sym l.count))
+          (leaves_behind base new.children c.args.started.now (i + 1) (length c.args.kids.now) behind (omega (arith, inside)) c.requires.started.each);
       did = (omega (arith, rose, l.kept.later), l.lines);
     }
 
@@ -69,8 +72,10 @@ returns-in_default-kid_line g c =
       starts = c.wait.ensures.waits.starts ∙ l.starts;
       few = omega (arith, l.count, l.within);
       given = l.given;
-      closed = λ base o. leaves base new.children (drop (i + 1) c.args.started.now)
-          (next_waited base mid.children new.children c.args.started.now i none (get_or c.args.started.now i none) inside refl c.wait.ensures.waits.children (l.running base o));
+      closed = λ base o.
+          let behind = next_waited base mid.children new.children c.args.started.now i none (get_or c.args.started.now i none) inside refl c.wait.ensures.waits.children (l.running base o) in
+          subst (λ n. LeavesAllBut n (length c.args.kids.now) base new.children) (ap (λ n. n + 1) (sym l.count))
+          (leaves_behind base new.children c.args.started.now (i + 1) (length c.args.kids.now) behind (omega (arith, inside)) c.requires.started.each);
       did = l.lines;
     }
 
@@ -96,8 +101,10 @@ returns-then-is_err g c =
           let there : IsTrue mid.observable = subst IsTrue (sym l.kept.observable) t in
           let given : slice_get old.statuses (n + i) ≡ Some c.in-Ok.status = ap (λ xs. slice_get xs (n + i)) (sym l.kept.statuses) ∙ ap (slice_get mid.statuses) (sym number) ∙ c.in-Ok.ensures.waits.status there in
           given_next n i old.statuses c.loop-i.statuses.items c.push_reserved.new.self.items c.in-Ok.status grown l.count (l.given t n a) given;
-      closed = λ base o. leaves base new.children (drop (i + 1) c.args.started.now)
-          (next_waited base mid.children new.children c.args.started.now i none (get_or c.args.started.now i none) inside refl c.wait.ensures.waits.children (l.running base o));
+      closed = λ base o.
+          let behind = next_waited base mid.children new.children c.args.started.now i none (get_or c.args.started.now i none) inside refl c.wait.ensures.waits.children (l.running base o) in
+          subst (λ n. LeavesAllBut n (length c.args.kids.now) base new.children) (sym (ap length grown ∙ length_push c.loop-i.statuses.items c.in-Ok.status ∙ ap (λ n. n + 1) l.count))
+          (leaves_behind base new.children c.args.started.now (i + 1) (length c.args.kids.now) behind (omega (arith, inside)) c.requires.started.each);
       did = lines_fail c.args.kids.now c.loop-i.statuses.items c.push_reserved.new.self.items c.in-Ok.status i c.index-kids-i.result piece
           l.count c.loop-i-test.true c.index-kids-i.is (c.as_bytes.ensures.value ∙ c.in-Ok-kid_line.ensures) grown (out c.args.out.now) (out c.loop-i.out) (out c.put_all.new.sink) l.lines
           (put_failed piece (out c.loop-i.out) (out c.put_all.new.sink) c.put_all.result c.is_err.result c.is_err.ensures.value c.if-is_err.true c.put_all.ensures);

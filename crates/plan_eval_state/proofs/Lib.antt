@@ -1,0 +1,14 @@
+pub mod Leading
+pub mod Bottoms
+pub mod Stacks
+pub mod Opening
+pub mod Going
+pub mod Forming
+pub mod Envs
+pub mod Named
+pub mod Stepping
+pub mod Flowing
+pub mod Looping
+pub mod Counting
+pub mod Ending
+pub mod Lawful
