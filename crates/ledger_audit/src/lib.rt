@@ -21,5 +21,5 @@ pub use reckoning::{Arrived, AuditState, LogPosition, nothing_reckoned, reckon_l
 pub use row_laws::{rows_in_order, rows_of_injected};
 pub use tally::{SendCount, Tallies};
 pub use text::verdict_text;
-pub use verdict::{LedgerRows, Logs, Verdict, audit, judge};
+pub use verdict::{LedgerRows, Verdict, audit, judge};
 pub use verdict_laws::yes_is_sent;

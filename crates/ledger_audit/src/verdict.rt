@@ -18,15 +18,11 @@ use crate::judging::{Over, first_over_of};
 use crate::reckoning::{Arrived, AuditState, nothing_reckoned, reckon_log};
 use crate::tally::Tallies;
 use bound_ledger::Row;
-use command_files::AuditFile;
 use containers::Items;
 use dv_routing::sorted_hosts;
 use network_config::{Link, Log};
 use plan_base::{Family, Host, NoMemory};
 use std::alloc::Global;
-
-/// A list of logs.
-pub type Logs = Items<Log>;
 
 /// The rows of families, by source and serial number.
 pub type LedgerRows = Items<(Family, Row)>;
@@ -184,28 +180,19 @@ fn reckon_logs(alloc: Global, links: &[Link], logs: &[Log]) -> Result<AuditState
     Ok(reckoning)
 }
 
-/// Adds the logs of a fleet, in order.
-fn reckon_all(alloc: Global, a: &AuditFile, logs: &Logs) -> Result<AuditState, NoMemory>
-    requires few { length logs.now ≤ 16 }
-    requires rules { All KeepsLog logs.now }
-    ensures { IfOk result (IsReckoned a.now.links (map logged_of logs.now)) }
-{
-    reckon_logs(alloc, a.links.as_slice(), logs.as_slice())
-}
-
 /// Whether the logs of a fleet fit together: whether each frame that a node accepted was sent so often by the other end of
-/// its link. Where they do, the answer has the counts of each family over all of them. Conditions: at most 16 logs, each of
-/// which keeps its rules. See `docs/use/audit.md`.
-pub fn audit(alloc: Global, a: &AuditFile, logs: &Logs) -> Result<Verdict, NoMemory>
+/// its link, one of `links`. Where they do, the answer has the counts of each family over all of them. Conditions: at most
+/// 16 logs, each of which keeps its rules. See `docs/use/audit.md`.
+pub fn audit(alloc: Global, links: &[Link], logs: &[Log]) -> Result<Verdict, NoMemory>
     requires few { length logs.now ≤ 16 }
     requires rules { All KeepsLog logs.now }
     // What is answered is what the logs make of it.
-    ensures verdict { IfOk result (λ v. v ≡ verdict_of a.now.links (map logged_of logs.now)) }
+    ensures verdict { IfOk result (λ v. v ≡ verdict_of links.now (map logged_of logs.now)) }
     // Where they fit, each family was granted what it paid, what is live and what was left.
     ensures ledger { IfOk result (λ v. IsYes v
-        → (f : FamilyOf) → AddsUp f a.now.links (map logged_of logs.now)) }
+        → (f : FamilyOf) → AddsUp f links.now (map logged_of logs.now)) }
 {
-    let reckoning = reckon_all(alloc, a, logs)?;
+    let reckoning = reckon_logs(alloc, links, logs)?;
     let verdict = judge(alloc, reckoning)?;
     Ok(verdict)
 }
