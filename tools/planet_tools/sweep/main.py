@@ -87,8 +87,14 @@ def make_runs(grid: Grid, asked: argparse.Namespace, planet: str) -> int:
         fail("sweep", str(bad), "--runs")
     for number in runs:
         values = dict(zip(grid.names(), grid.values(number)))
-        sys.stdout.buffer.write(line_of(run.row(asked.file, planet, values)))
-        sys.stdout.buffer.flush()
+        row = line_of(run.row(asked.file, planet, values))
+        try:
+            sys.stdout.buffer.write(row)
+            sys.stdout.buffer.flush()
+        except BrokenPipeError:
+            # the sweep was ended, and GNU parallel with it
+            os.dup2(os.open(os.devnull, os.O_WRONLY), sys.stdout.fileno())
+            return 1
     return 0
 
 
