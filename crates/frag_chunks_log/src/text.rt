@@ -7,9 +7,9 @@ ghost use Rattle.frag_chunks_log.specs.Texts as spec;
 use crate::counting::Counting;
 use frag_chunks::{Gather, Held};
 use hex::encode;
+use node_log::put_number;
 use plan_base::{Bytes, NoMemory};
 use std::alloc::Global;
-use trace_text::put_number;
 
 /// A number with its sign, `~` before a negative one, as an int of a program is printed.
 #[tactic(auto, unfolding(plan_printer_spec::specs::Literals::int_text), using(std::proofs::Common::append_assoc))]

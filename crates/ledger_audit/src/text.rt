@@ -5,9 +5,9 @@ ghost use Rattle.ledger_audit.specs.Texts as spec;
 
 use crate::verdict::Verdict;
 use bound_ledger::Row;
+use node_log::{put_family, put_number};
 use plan_base::{Bytes, Family, NoMemory};
 use std::alloc::Global;
-use trace_text::{put_family, put_number};
 
 /// A word and a count.
 fn put_count(out: &mut Bytes, word: &[u8], n: u64) -> Result<(), NoMemory>

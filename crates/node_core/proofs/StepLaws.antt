@@ -36,7 +36,8 @@ use Rattle.node_core_spec.specs.Node.{with_seen, frame_step, only_acts, stamped_
 use Rattle.node_core_spec.specs.Fits.{IsMarked}
 use Rattle.node_core_spec.proofs.Staying.{frame_stays}
 use Rattle.node_core_parts.proofs.ReadingLaws.{goes_on}
-use Rattle.node_core.specs.Stands.{NodeStands, IsStep, mark_on, own_family, own_packet, around_at}
+use Rattle.node_core.specs.Stands.{NodeStands, IsStep, mark_on}
+use Rattle.node_core_parts.specs.Visiting.{own_family, own_packet, around_at}
 use Rattle.node_core_parts.specs.Carried.{MayBear, MayGoOn}
 use Rattle.node_core_parts.specs.Heard.{TellsAll}
 use Rattle.node_core_parts.specs.Windows.{AllSeen, SeenUnder}

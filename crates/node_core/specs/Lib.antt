@@ -1,2 +1,2 @@
 pub mod Stands
-pub mod Turns
+pub use Rattle.node_core_parts.specs.Turns

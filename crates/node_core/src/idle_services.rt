@@ -1,25 +1,20 @@
 //! The services of a node between its visits, and the visits that they answer.
-ghost use Rattle.std.specs.Prelude.{◌≡◌, ◌≤◌, ◌+◌, ◌∷◌, ◌++◌, map, All, length, vec_len, vec_capacity, IfOk, OnOk, OnErr, IsSome, IsTrue, None, false};
-ghost use Rattle.std.specs.Option.{option_to_list};
+ghost use Rattle.std.specs.Prelude.{◌≡◌, ◌≤◌, ◌++◌, length, IfOk, OnOk, OnErr, IsSome, IsTrue};
 ghost use Rattle.service_api.specs.Services.{AreGoodRows, ServiceState, begun_now, made_ready, unexpired_services};
 ghost use Rattle.node_core_spec.specs.Visits.{visit_of, services_after};
 ghost use Rattle.node_core_spec.specs.Node as spec;
-ghost use Rattle.node_core_spec.specs.declared.acts.Act.TheVariants.{Noted, Ended};
 ghost use Rattle.packet_frame.specs.Spelled.{MayCarry};
 ghost use Rattle.plan_eval_settle.specs.Settles as settles;
-ghost use Rattle.node_core.specs.Turns.{IsOpen, IsResting, closed_services, is_spent as spent};
-ghost use Rattle.node_core_parts.specs.Carried.{Carries};
+ghost use Rattle.node_core_parts.specs.Turns.{IsOpen, IsResting, closed_services};
 
 use checked_chunks::CheckedPacket;
-use containers::Items;
-use node_core_parts::{Leavings, begin_acts, send_all, visit_sendings};
-use node_core_spec::{Act, ActList, TxQueue};
-use plan_base::{Family, Name, NoMemory, Stamp};
+use node_core_parts::{Turn, is_spent, turn_of};
+use node_core_spec::{ActList, TxQueue};
+use plan_base::{NoMemory, Stamp};
 use plan_eval::visit;
 use plan_eval_settle::{Settled, settle};
-use plan_meaning::{Outbox, Outcome, Visit};
-use service_api::{Ctx, Notes, Services};
-use std::alloc::{AllocError, Global};
+use service_api::{Ctx, Services};
+use std::alloc::Global;
 use std::marker::Model;
 
 /// The services of a node between its visits, which contracts see as those services: no `begin` is open.
@@ -36,7 +31,7 @@ impl<S: Services + Drop> Drop for QuiescentServices<S> {
 }
 
 impl<S: Services> Model for QuiescentServices<S> {
-    ghost use Rattle.node_core.specs.Turns.{IsResting};
+    ghost use Rattle.node_core_parts.specs.Turns.{IsResting};
 
     ghost Value = { S };
 
@@ -45,161 +40,6 @@ impl<S: Services> Model for QuiescentServices<S> {
     ghost view = { λ r. r.services };
 
     ghost invariant = { λ r. IsResting (S.stands r.services) };
-}
-
-/// A settled visit that was made, of which nothing stands yet: the acts up to its sends with room for theirs, the sends as they
-/// go on, and whether its work was spent.
-struct Turn {
-    acts: Vec<Act>,
-    sends: Leavings,
-    is_spent: bool,
-}
-
-impl Drop for Turn {
-    fn drop(self) {
-        let Turn {
-            acts: _acts,
-            sends: _sends,
-            is_spent: _is_spent,
-        } = self;
-    }
-}
-
-impl Turn {
-    /// Its acts, with its sends queued. Condition: there is room for their acts. Takes no memory.
-    fn end(self, lanes: &mut [TxQueue]) -> ActList
-        requires { vec_len self.acts + length self.sends ≤ vec_capacity self.acts }
-        ensures acts { result ≡ self.acts.items ++ spec.sends_acts lanes.old self.sends }
-        ensures lanes { lanes.new ≡ spec.sends_queues lanes.old self.sends }
-    {
-        let Turn {
-            mut acts,
-            sends,
-            is_spent: _is_spent,
-        } = self;
-        send_all(&mut acts, lanes, sends);
-        Items::from_vec(acts)
-    }
-}
-
-/// Whether an outcome is that of spent work.
-fn is_spent(outcome: &Outcome) -> bool
-    ensures { result ≡ spent outcome.now }
-{
-    match outcome {
-        Outcome::WorkSpent => true,
-        _ => false,
-    }
-}
-
-/// The act of a handler that is called with this bound.
-fn handled_act(family: Family, handled: Option<Name>, bound: u32) -> Option<Act>
-    ensures { option_to_list result ≡ spec.handled_acts family handled bound }
-{
-    match handled {
-        None => None,
-        Some(name) => Some(Act::Handled(family, name, bound)),
-    }
-}
-
-/// What a settled visit lists before its sends, behind some acts: its notes, how it ended, the evals that it paid, what is left,
-/// and the handler that is called.
-struct Listing {
-    before: ActList,
-    notes: Notes,
-    outcome: Outcome,
-    evals: u32,
-    rest: u32,
-    handled: Option<Name>,
-}
-
-impl Drop for Listing {
-    fn drop(self) {
-        let Listing {
-            before: _before,
-            notes: _notes,
-            outcome: _outcome,
-            evals: _evals,
-            rest: _rest,
-            handled: _handled,
-        } = self;
-    }
-}
-
-impl Listing {
-    /// Its acts, with room for so many sends.
-    fn acts(self, family: Family, left: u32, sends: usize) -> Result<Vec<Act>, AllocError>
-        ensures acts { IfOk result (λ acts. acts.items ≡ self.before ++
-            (map Noted self.notes ++ (Ended family self.outcome self.evals self.rest
-            ∷ spec.handled_acts family self.handled left))) }
-        ensures room { IfOk result (λ acts. vec_len acts + sends ≤ vec_capacity acts) }
-    {
-        let Listing {
-            before,
-            notes,
-            outcome,
-            evals,
-            rest,
-            handled,
-        } = self;
-        let end = Act::Ended(family, outcome, evals, rest);
-        let handled = handled_act(family, handled, left);
-        begin_acts(before, notes, end, handled, sends)
-    }
-}
-
-/// What a settled visit lists after some acts, and what it sends.
-fn listing_of(settled: Settled, before: ActList) -> (Listing, Outbox)
-    ensures before { result.0.before ≡ before }
-    ensures notes { result.0.notes ≡ settled.visit.notes }
-    ensures outcome { result.0.outcome ≡ settled.visit.outcome }
-    ensures evals { result.0.evals ≡ settled.visit.evals }
-    ensures rest { result.0.rest ≡ settled.visit.left }
-    ensures handled { result.0.handled ≡ settled.handled }
-    ensures outbox { result.1 ≡ settled.visit.outbox }
-{
-    let Settled { visit, handled } = settled;
-    let Visit {
-        outcome,
-        evals,
-        left: rest,
-        outbox,
-        notes,
-        work: _work,
-    } = visit;
-    let listing = Listing {
-        before,
-        notes,
-        outcome,
-        evals,
-        rest,
-        handled,
-    };
-    (listing, outbox)
-}
-
-/// What a settled visit lists and sends, with all the room that it needs. Condition: without a mark nothing that it sends has a
-/// handler.
-#[tactic(auto, unfolding(node_core_spec::specs::Node::visit_sends))]
-fn turn_of(
-    alloc: Global,
-    mark: Option<Stamp>,
-    family: Family,
-    left: u32,
-    settled: Settled,
-    before: ActList,
-) -> Result<(Vec<Act>, Leavings), NoMemory>
-    requires { All (Carries mark) settled.visit.outbox }
-    ensures acts { IfOk result (λ t. t.0.items ≡ before ++
-        (map Noted settled.visit.notes ++ (Ended family settled.visit.outcome settled.visit.evals
-        settled.visit.left ∷ spec.handled_acts family settled.handled left))) }
-    ensures sends { IfOk result (λ t. t.1 ≡ spec.visit_sends mark settled.visit) }
-    ensures room { IfOk result (λ t. vec_len t.0 + length t.1 ≤ vec_capacity t.0) }
-{
-    let (listing, outbox) = listing_of(settled, before);
-    let sends = visit_sendings(alloc, mark, outbox)?;
-    let acts = listing.acts(family, left, sends.len())?;
-    Ok((acts, sends))
 }
 
 /// Visits a packet and settles the visit, of which nothing stands yet: gives it with what was left before and with whether its
@@ -236,7 +76,7 @@ fn settled_of<S: Services>(
 
 /// Visits a packet, settles the visit, and takes all the room that its end needs. Condition: without a mark the packet has no
 /// handler.
-#[tactic(auto, using(crate::proofs::TurnLaws::settled_carries))]
+#[tactic(auto, using(node_core_parts::proofs::TurnLaws::settled_carries))]
 fn open_turn<S: Services>(
     alloc: Global,
     services: &mut S,
@@ -286,7 +126,7 @@ fn close<S: Services>(services: &mut S, is_spent: bool)
 
 /// The visit of a packet, after some acts: its acts, with its sends queued. Where an allocation fails, the
 /// lanes and the services stay.
-#[tactic(auto, unfolding(node_core_spec::specs::Node::visit_acts), using(crate::proofs::TurnLaws::undone, crate::proofs::TurnLaws::rests_closed, crate::proofs::TurnLaws::rests_abandoned))]
+#[tactic(auto, unfolding(node_core_spec::specs::Node::visit_acts), using(node_core_parts::proofs::TurnLaws::undone, node_core_parts::proofs::TurnLaws::rests_closed, node_core_parts::proofs::TurnLaws::rests_abandoned))]
 fn visit_turn<S: Services>(
     alloc: Global,
     services: &mut S,

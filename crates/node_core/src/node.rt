@@ -16,24 +16,19 @@ ghost use Rattle.packet_frame.specs.Stamped.{stamped_plain};
 ghost use Rattle.packet_frame.specs.Typed.{plain_of};
 ghost use Rattle.dv_routing.specs.Routing.{all_routes};
 ghost use Rattle.service_api.specs.Routes.{hop};
-ghost use Rattle.node_core.specs.Turns.{IsResting};
+ghost use Rattle.node_core_parts.specs.Turns.{IsResting};
 ghost use Rattle.node_core.specs.Stands.{NodeStands, IsStep, version_of, mark_on, with_stamp};
 ghost use Rattle.node_core_parts.specs.Carried.{MayBear, MayGoOn, asks_within};
 
-use crate::around::{around, next_tick};
 use crate::idle_services::QuiescentServices;
-use crate::links::leads_to;
-use crate::opening::open_parts;
-use crate::own::{own_family, own_packet};
-use crate::step_acts::{
-    acts_room, none_taken, one_act, only_acts, refusal_of, taken, ticked, two_room, with_act,
-};
 use checked_chunks::{Checked, CheckedChunk, CheckedPacket};
 use containers::Items;
 use network_config::{Event, NodeConfig};
 use node_core_parts::{
-    Leavings, NeighbourList, Routes, advert_sendings, code_of, count_frames, has_frame, judge,
-    note, packet_sending, read_as, send_all, send_one, take_first, what_of,
+    Leavings, NeighbourList, Routes, acts_room, advert_sendings, around, code_of, count_frames,
+    has_frame, judge, leads_to, next_tick, none_taken, note, one_act, only_acts, open_parts,
+    own_family, own_packet, packet_sending, read_as, refusal_of, send_all, send_one, take_first,
+    taken, ticked, two_room, what_of, with_act,
 };
 use node_core_spec::{Act, ActList, Acts, Reason, TxQueue};
 use packet_frame::{EncodedFrame, Frame, Stamped};

@@ -14,7 +14,7 @@ use std::alloc::Global;
 pub const DEVICES: usize = 9;
 
 /// Each device with nothing queued, and the number of its first frame.
-pub fn open_lanes(alloc: Global, link: u64) -> Result<Vec<TxQueue>, NoMemory>
+pub(crate) fn open_lanes(alloc: Global, link: u64) -> Result<Vec<TxQueue>, NoMemory>
     ensures { IfOk result (λ lanes. lanes.items ≡ no_queues link) }
 {
     let mut lanes = Items::new(alloc);

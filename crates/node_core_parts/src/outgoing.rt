@@ -51,7 +51,7 @@ pub fn packet_sending(
 
 /// The sendings of a visit. Condition: without a mark none has a handler.
 #[tactic(auto, unfolding(node_core_spec::specs::Node::visit_sends))]
-pub fn visit_sendings(
+pub(crate) fn visit_sendings(
     alloc: Global,
     mark: Option<Stamp>,
     outbox: Outbox,

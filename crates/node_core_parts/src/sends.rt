@@ -140,7 +140,7 @@ fn add_end(acts: &mut Vec<Act>, notes: Notes, end: Act, handled: Option<Act>)
 
 /// What a step lists: some acts, the notes of a visit, its end and the act of its handler, if there is one, with room for its
 /// sends.
-pub fn begin_acts(
+pub(crate) fn begin_acts(
     before: ActList,
     notes: Notes,
     end: Act,

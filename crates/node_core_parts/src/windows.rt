@@ -24,7 +24,7 @@ fn nine_windows(alloc: Global) -> Result<Vec<Window>, AllocError>
 
 /// The windows of a node at its beginning: one for each device under version 2, and none under version 1, where no frame bears
 /// a stamp.
-pub fn open_windows(alloc: Global, version: Version) -> Result<Vec<Window>, AllocError>
+pub(crate) fn open_windows(alloc: Global, version: Version) -> Result<Vec<Window>, AllocError>
     ensures { IfOk result (λ windows. SeenUnder version none_seen windows.items) }
 {
     match version {

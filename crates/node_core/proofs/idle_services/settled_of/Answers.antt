@@ -1,7 +1,7 @@
 use Rattle.std.proofs.Common.{ap, ◌∙◌}
 use Rattle.plan_eval_settle.specs.Settles.{visit_settled}
-use Rattle.node_core.specs.Turns.{closed_services}
-use Rattle.node_core.proofs.TurnLaws.{turn_visit, turn_closes}
+use Rattle.node_core_parts.specs.Turns.{closed_services}
+use Rattle.node_core_parts.proofs.TurnLaws.{turn_visit, turn_closes}
 use Rattle.node_core.proofs.idle_services.settled_of.Goals as goal
 
 pub returns-clause-settled : goal.returns-clause-settled

@@ -9,7 +9,7 @@ use Rattle.node_core_spec.specs.declared.acts.Act.{Act}
 use Rattle.node_core_spec.specs.declared.acts.Act.TheVariants.{Noted, Ended}
 use Rattle.node_core_spec.specs.Node.{handled_acts, visit_sends}
 use Rattle.plan_eval_settle.specs.declared.settling.Settled.{Settled}
-use Rattle.node_core.specs.declared.idle_services.Turn.{Turn}
+use Rattle.node_core_parts.specs.declared.turns.Turn.{Turn}
 
 -- no visit is open
 pub record IsResting (n : ServiceState) : Type 0 where

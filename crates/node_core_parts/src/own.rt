@@ -1,6 +1,6 @@
 //! The packet of an injection.
 ghost use Rattle.std.specs.Prelude.{◌≡◌, ◌≤◌, IfOk};
-ghost use Rattle.node_core.specs.Stands.{own_family, own_packet};
+ghost use Rattle.node_core_parts.specs.Visiting.{own_family, own_packet};
 ghost use Rattle.plan_types_spec.specs.Handlers.{MayHandle};
 
 use checked_chunks::{CheckedChunk, CheckedPacket};
@@ -10,7 +10,7 @@ use remote_calls::default_route;
 use std::alloc::Global;
 
 /// The family of the injection at a host with this serial number.
-pub(crate) fn own_family(here: Host, serial: u64) -> Family
+pub fn own_family(here: Host, serial: u64) -> Family
     ensures { result ≡ own_family here serial }
 {
     Family {
@@ -21,7 +21,7 @@ pub(crate) fn own_family(here: Host, serial: u64) -> Family
 
 /// The packet of the injection at a host with this serial number. Conditions: the bound is at most 65,535, and the handler, if
 /// there is one, may handle.
-pub(crate) fn own_packet(
+pub fn own_packet(
     alloc: Global,
     here: Host,
     serial: u64,

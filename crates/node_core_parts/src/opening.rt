@@ -7,17 +7,21 @@ ghost use Rattle.node_core_spec.specs.Fits.{NetworkFits};
 ghost use Rattle.node_core_spec.specs.State.{no_queues, none_seen};
 ghost use Rattle.node_core_parts.specs.Windows.{SeenUnder};
 
+use crate::lanes::open_lanes;
+use crate::routes::Routes;
+use crate::windows::open_windows;
 use network_config::NodeConfig;
-use node_core_parts::{Routes, open_lanes, open_windows};
 use node_core_spec::TxQueue;
 use plan_base::{NoMemory, Version};
 use replay_window::Window;
 use std::alloc::Global;
 
 /// The devices of a node at its beginning: the queue and the window of each.
-pub(crate) struct Devices {
-    pub(crate) lanes: Vec<TxQueue>,
-    pub(crate) windows: Vec<Window>,
+pub struct Devices {
+    /// The queue of each device.
+    pub lanes: Vec<TxQueue>,
+    /// The window of each device.
+    pub windows: Vec<Window>,
 }
 
 impl Drop for Devices {
@@ -31,7 +35,7 @@ impl Drop for Devices {
 
 impl Devices {
     /// The queues and the windows.
-    pub(crate) fn into_parts(self) -> (Vec<TxQueue>, Vec<Window>)
+    pub fn into_parts(self) -> (Vec<TxQueue>, Vec<Window>)
         ensures lanes { result.0 ≡ self.lanes }
         ensures windows { result.1 ≡ self.windows }
     {
@@ -51,7 +55,7 @@ fn open_devices(alloc: Global, link: u64, version: Version) -> Result<Devices, N
 }
 
 /// The routes and the devices of a node that has heard nothing. Conditions: at most 32 hosts, none twice.
-pub(crate) fn open_parts(alloc: Global, config: &NodeConfig) -> Result<(Routes, Devices), NoMemory>
+pub fn open_parts(alloc: Global, config: &NodeConfig) -> Result<(Routes, Devices), NoMemory>
     requires { NetworkFits config.now.hosts }
     ensures routes { IfOk result (λ parts. Stands (opening_routing config.now.here
         (sorted_into [] config.now.hosts) config.now.neighbours) parts.0) }

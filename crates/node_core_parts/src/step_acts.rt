@@ -14,7 +14,7 @@ use std::alloc::{AllocError, Global};
 const MOST_ACTS: usize = 4;
 
 /// Room for the acts of most steps.
-pub(crate) fn acts_room(alloc: Global) -> Result<Vec<Act>, NoMemory>
+pub fn acts_room(alloc: Global) -> Result<Vec<Act>, NoMemory>
     ensures none { IfOk result (λ room. room.items ≡ []) }
     ensures room { IfOk result (λ room. vec_len room + 1 ≤ vec_capacity room) }
 {
@@ -22,7 +22,7 @@ pub(crate) fn acts_room(alloc: Global) -> Result<Vec<Act>, NoMemory>
 }
 
 /// A list of one act. Condition: there is room for it.
-pub(crate) fn one_act(room: Vec<Act>, act: Act) -> ActList
+pub fn one_act(room: Vec<Act>, act: Act) -> ActList
     requires none { room.items ≡ [] }
     requires room { vec_len room + 1 ≤ vec_capacity room }
     ensures { result ≡ act ∷ [] }
@@ -33,7 +33,7 @@ pub(crate) fn one_act(room: Vec<Act>, act: Act) -> ActList
 }
 
 /// Acts and one more.
-pub(crate) fn with_act(before: ActList, act: Act) -> Result<ActList, NoMemory>
+pub fn with_act(before: ActList, act: Act) -> Result<ActList, NoMemory>
     ensures { IfOk result (λ acts. acts ≡ before ++ act ∷ []) }
 {
     let mut acts = before;
@@ -42,7 +42,7 @@ pub(crate) fn with_act(before: ActList, act: Act) -> Result<ActList, NoMemory>
 }
 
 /// Room for two acts.
-pub(crate) fn two_room(alloc: Global) -> Result<Vec<Act>, NoMemory>
+pub fn two_room(alloc: Global) -> Result<Vec<Act>, NoMemory>
     ensures none { IfOk result (λ room. room.items ≡ []) }
     ensures room { IfOk result (λ room. vec_len room + 2 ≤ vec_capacity room) }
 {
@@ -50,7 +50,7 @@ pub(crate) fn two_room(alloc: Global) -> Result<Vec<Act>, NoMemory>
 }
 
 /// What a step gives that lists two acts and does nothing. Condition: there is room for them.
-pub(crate) fn only_acts(room: Vec<Act>, first: Act, second: Act) -> Acts
+pub fn only_acts(room: Vec<Act>, first: Act, second: Act) -> Acts
     requires none { room.items ≡ [] }
     requires room { vec_len room + 2 ≤ vec_capacity room }
     ensures list { result.list ≡ first ∷ second ∷ [] }
@@ -66,7 +66,7 @@ pub(crate) fn only_acts(room: Vec<Act>, first: Act, second: Act) -> Acts
 }
 
 /// The refusal of bytes that are no frame, which a step reports; only where an allocation failed the step is refused.
-pub(crate) fn refusal_of(fault: FrameFault) -> Result<FrameFault, NoMemory>
+pub fn refusal_of(fault: FrameFault) -> Result<FrameFault, NoMemory>
     ensures ok { IfOk result (λ refusal. (refusal ≡ fault) × (fault ≢ faults.NoMemory)) }
     ensures err { OnErr result (fault ≡ faults.NoMemory) }
 {
@@ -77,7 +77,7 @@ pub(crate) fn refusal_of(fault: FrameFault) -> Result<FrameFault, NoMemory>
 }
 
 /// The act of a tick, with room for those of so many sends.
-pub(crate) fn ticked(alloc: Global, now: u64, sends: usize) -> Result<Vec<Act>, AllocError>
+pub fn ticked(alloc: Global, now: u64, sends: usize) -> Result<Vec<Act>, AllocError>
     requires { sends + 1 ≤ 18446744073709551615 }
     ensures acts { IfOk result (λ acts. acts.items ≡ act.Ticked now ∷ []) }
     ensures room { IfOk result (λ acts. vec_len acts + sends ≤ vec_capacity acts) }
@@ -88,7 +88,7 @@ pub(crate) fn ticked(alloc: Global, now: u64, sends: usize) -> Result<Vec<Act>, 
 }
 
 /// What a step gives that takes a frame of a device. Condition: there is room for an act.
-pub(crate) fn taken(room: Vec<Act>, dev: Dev, frame: EncodedFrame) -> Acts
+pub fn taken(room: Vec<Act>, dev: Dev, frame: EncodedFrame) -> Acts
     requires none { room.items ≡ [] }
     requires room { vec_len room + 1 ≤ vec_capacity room }
     ensures list { result.list ≡ act.Taken dev (spelled.what_of frame.frame) ∷ [] }
@@ -103,7 +103,7 @@ pub(crate) fn taken(room: Vec<Act>, dev: Dev, frame: EncodedFrame) -> Acts
 }
 
 /// What a step gives that finds no frame.
-pub(crate) fn none_taken(room: Vec<Act>) -> Acts
+pub fn none_taken(room: Vec<Act>) -> Acts
     requires { room.items ≡ [] }
     ensures list { result.list ≡ [] }
     ensures frame { result.frame ≡ None }

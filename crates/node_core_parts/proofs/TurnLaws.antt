@@ -17,7 +17,7 @@ use Rattle.plan_meaning.specs.Visit.{IsVisit, Ends, allowance, begun_state}
 use Rattle.node_core_spec.specs.Visits.{evaluated_packet, visit_end, visit_of, services_end, services_after}
 use Rattle.plan_eval_settle.specs.Settles.{visit_settled}
 use Rattle.plan_eval_settle.proofs.Sends.{settled_plain}
-use Rattle.node_core.specs.Turns.{closed_services, is_spent, IsResting}
+use Rattle.node_core_parts.specs.Turns.{closed_services, is_spent, IsResting}
 use Rattle.node_core_parts.specs.Carried.{Carries}
 
 visit_is : (bound : ℕ) (a : After Value) (r : Visit) (new : ServiceState) → Ends allowance bound a r new → r ≡ visit_end bound a

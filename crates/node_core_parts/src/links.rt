@@ -19,7 +19,7 @@ fn neighbour_on(links: &[(Host, Dev)], dev: Dev) -> Option<Host>
 }
 
 /// Whether a device leads to this neighbour.
-pub(crate) fn leads_to(links: &[(Host, Dev)], dev: Dev, host: Host) -> bool
+pub fn leads_to(links: &[(Host, Dev)], dev: Dev, host: Host) -> bool
     ensures { result ≡ leads_to links.now dev host }
 {
     if dev.0 == 0 {

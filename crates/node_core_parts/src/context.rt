@@ -1,14 +1,14 @@
 //! The context of a visit, and the node's time.
 ghost use Rattle.std.specs.Prelude.{◌≡◌, ◌≤◌, length};
 ghost use Rattle.node_core_spec.specs.Node as spec;
-ghost use Rattle.node_core.specs.Stands.{around_at};
+ghost use Rattle.node_core_parts.specs.Visiting.{around_at};
 
 use checked_chunks::CheckedPacket;
 use plan_base::Host;
 use service_api::{Ctx, Neighbours, Router};
 
 /// The context of the visit of a packet, with the neighbours and the routes of its node. Condition: at most 8 neighbours.
-pub(crate) fn around(
+pub fn around(
     here: Host,
     now: u64,
     packet: &CheckedPacket,
@@ -32,7 +32,7 @@ pub(crate) fn around(
 }
 
 /// The next tick, which stands still at the last number.
-pub(crate) fn next_tick(now: u64) -> u64
+pub fn next_tick(now: u64) -> u64
     ensures { result ≡ spec.next_tick now }
 {
     if now == u64::MAX { now } else { now + 1 }
