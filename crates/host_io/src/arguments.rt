@@ -1,5 +1,5 @@
 //! The arguments of the process, as bytes.
-ghost use Rattle.std.specs.Prelude.{◌≤◌, length, IfOk, IfSome, All};
+ghost use Rattle.std.specs.Prelude.{◌≡◌, ◌≤◌, length, IfOk, IfSome, All};
 ghost use Rattle.host_io.specs.Words.{IsShort};
 
 use containers::Items;
@@ -31,7 +31,8 @@ fn argument_in<R: Env>(
     buf: &mut [u8],
 ) -> Result<Option<Argument>, NoMemory>
     requires { length buf.old ≤ 131072 }
-    ensures { IfOk result (λ found. IfSome found IsShort) }
+    ensures found { IfOk result (λ found. IfSome found IsShort) }
+    ensures length { length buf.new ≡ length buf.old }
 {
     match system.arg(i, buf) {
         Ok(len) => {
@@ -43,14 +44,6 @@ fn argument_in<R: Env>(
     }
 }
 
-/// The same, in a buffer of its own.
-fn argument_at<R: Env>(alloc: Global, system: &R, i: usize) -> Result<Option<Argument>, NoMemory>
-    ensures { IfOk result (λ found. IfSome found IsShort) }
-{
-    let mut buf = vec![in alloc; 0u8; MOST_ARGUMENT_BYTES]?;
-    argument_in(alloc, system, i, &mut buf)
-}
-
 /// The arguments that the system gives, in their order, up to the first that isn't there. The system's own contract says
 /// how many bytes it gives, and nothing of which ones, so this one doesn't either.
 #[tactic(auto, using(crate::proofs::Shorts::none_short, crate::proofs::Shorts::more_short))]
@@ -58,8 +51,9 @@ pub fn arguments_of<R: Env>(alloc: Global, system: &R) -> Result<Arguments, NoMe
     ensures { IfOk result (All IsShort) }
 {
     let mut arguments = Items::new(alloc);
+    let mut buf = vec![in alloc; 0u8; MOST_ARGUMENT_BYTES]?;
     for i in 0..usize::MAX {
-        let Some(argument) = argument_at(alloc, system, i)? else {
+        let Some(argument) = argument_in(alloc, system, i, &mut buf)? else {
             break;
         };
         arguments.add(argument)?;

@@ -6,5 +6,5 @@ use Rattle.host_io.proofs.arguments.arguments_of.Goals as goal
 
 pub loop-i-preserved : goal.loop-i-preserved
 loop-i-preserved g c =
-    let short : IsShort c.in-Some.argument = subst (λ o. IfSome o IsShort) c.in-Some.is c.in_ok-argument.ensures in
+    let short : IsShort c.in-Some.argument = subst (λ o. IfSome o IsShort) c.in-Some.is c.in_ok-argument.ensures.found in
     subst (λ arguments. All IsShort arguments) (sym c.in_ok-add.ensures.ok) (more_short _ _ c.loop-i.invariant short)
