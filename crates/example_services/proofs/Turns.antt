@@ -5,7 +5,7 @@ use Rattle.service_api.specs.declared.ctx.Ctx.{Ctx}
 use Rattle.service_api.specs.Services.{ServiceState, begun_now, made_ready}
 use Rattle.plan_meaning.specs.declared.outcome.Visit.{Visit}
 use Rattle.plan_meaning.specs.Visit.{IsVisit, allowance}
-use Rattle.node_core.specs.Turns.{closed_services, is_spent}
+use Rattle.node_core_parts.specs.Turns.{closed_services, is_spent}
 use Rattle.example_services.specs.Visits.{IsMade, IsVisited}
 
 pub visit_is_made : (p : Packet) (ctx : Ctx) (old mid new : ServiceState) (r : Visit) → IsVisit allowance p.chunk ctx p.family old r mid → new ≡ made_ready mid → IsMade p ctx old r new

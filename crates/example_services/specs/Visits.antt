@@ -5,7 +5,7 @@ use Rattle.service_api.specs.declared.ctx.Ctx.{Ctx}
 use Rattle.service_api.specs.Services.{ServiceState, begun_now, made_ready}
 use Rattle.plan_meaning.specs.declared.outcome.Visit.{Visit}
 use Rattle.plan_meaning.specs.Visit.{IsVisit, allowance}
-use Rattle.node_core.specs.Turns.{closed_services, is_spent}
+use Rattle.node_core_parts.specs.Turns.{closed_services, is_spent}
 
 -- the visit was made, and its changes may be kept
 pub record IsMade (p : Packet) (ctx : Ctx) (old : ServiceState) (r : Visit) (new : ServiceState) : Type 0 where

@@ -2,25 +2,16 @@
 ghost use Rattle.std.specs.Prelude.{◌≡◌, ◌≤◌, ◌+◌, length, IfOk, OnOk, OnErr, IsSome, IsTrue};
 ghost use Rattle.service_api.specs.Services.{AreGoodRows};
 ghost use Rattle.plan_meaning.specs.Visit.{bounds};
-ghost use Rattle.node_core.specs.Turns.{IsResting, closed_services, is_spent as spent};
+ghost use Rattle.node_core_parts.specs.Turns.{IsResting, closed_services};
 ghost use Rattle.example_services.specs.Visits.{IsMade, IsVisited};
 
 use checked_chunks::CheckedPacket;
+use node_core_parts::is_spent;
 use plan_base::NoMemory;
 use plan_eval::visit;
-use plan_meaning::{Outcome, Visit};
+use plan_meaning::Visit;
 use service_api::{Ctx, Services};
 use std::alloc::Global;
-
-/// Whether an outcome is that of spent work.
-fn is_spent(outcome: &Outcome) -> bool
-    ensures { result ≡ spent outcome.now }
-{
-    match outcome {
-        Outcome::WorkSpent => true,
-        _ => false,
-    }
-}
 
 /// Visits a packet, and takes the room that its changes need.
 #[tactic(auto, using(crate::proofs::Turns::visit_is_made))]
@@ -65,7 +56,7 @@ fn close<S: Services>(services: &mut S, is_spent: bool)
 ///
 /// Conditions: the purse of the surroundings is the packet's bound and their source the family's host, there are at most 8
 /// neighbours, and no `begin` is open. Where an allocation fails the services stay.
-#[tactic(auto, using(crate::proofs::Turns::packet_is_visited, node_core::proofs::TurnLaws::undone, node_core::proofs::TurnLaws::rests_closed, node_core::proofs::TurnLaws::rests_abandoned))]
+#[tactic(auto, using(crate::proofs::Turns::packet_is_visited, node_core_parts::proofs::TurnLaws::undone, node_core_parts::proofs::TurnLaws::rests_closed, node_core_parts::proofs::TurnLaws::rests_abandoned))]
 pub fn visit_once<S: Services>(
     alloc: Global,
     services: &mut S,
