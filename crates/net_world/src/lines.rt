@@ -1,5 +1,5 @@
 //! The lines of an event, as acts of a node give them.
-ghost use Rattle.std.specs.Prelude.{◌≡◌, ◌≢◌, ◌∷◌, ◌++◌, [], IfOk};
+ghost use Rattle.std.specs.Prelude.{◌≡◌, ◌≢◌, ◌∷◌, ◌++◌, [], IfOk, OnErr};
 ghost use Rattle.packet_frame.specs.declared.fault.FrameFault.TheVariants as refusal;
 ghost use Rattle.packet_frame.specs.Typed.{plain_of};
 ghost use Rattle.packet_frame.specs.Stamped.{stamped_bytes};
@@ -54,9 +54,11 @@ fn lines_of(alloc: Global, host: Host, frame: &Frame) -> Result<Lines, NoMemory>
     }
 }
 
-/// The lines of bytes from outside that are refused with a fault: none, where memory was there.
+/// The lines of bytes from outside that are refused with a fault: none; only where an allocation failed, nothing is known of
+/// them.
 fn refused_lines(alloc: Global, fault: &FrameFault) -> Result<Lines, NoMemory>
-    ensures { IfOk result (λ lines. (lines ≡ []) × (fault.now ≢ refusal.NoMemory)) }
+    ensures ok { IfOk result (λ lines. (lines ≡ []) × (fault.now ≢ refusal.NoMemory)) }
+    ensures err { OnErr result (fault.now ≡ refusal.NoMemory) }
 {
     match fault {
         FrameFault::NoMemory => Err(NoMemory),

@@ -53,7 +53,8 @@ pub fn put(
     match changes.put(alloc, base, name, number, a, value, expiry) {
         Ok(()) => Ok(Answer::Gives(Value::Unit, None)),
         Err(TableFault::TableFull) => table_full(alloc),
-        Err(TableFault::NotFound | TableFault::NoMemory) => Err(NoMemory),
+        Err(TableFault::NoMemory) => Err(NoMemory),
+        Err(TableFault::NotFound) => unreachable!(),
     }
 }
 
@@ -82,7 +83,8 @@ pub fn get(
     match changes.get(alloc, base, name, number, a, ctx.now) {
         Ok(value) => Ok(Answer::Gives(value, None)),
         Err(TableFault::NotFound) => not_found(alloc),
-        Err(TableFault::TableFull | TableFault::NoMemory) => Err(NoMemory),
+        Err(TableFault::NoMemory) => Err(NoMemory),
+        Err(TableFault::TableFull) => unreachable!(),
     }
 }
 

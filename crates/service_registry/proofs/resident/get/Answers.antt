@@ -56,3 +56,6 @@ returns-in-Err-NotFound c =
     ∙ ap (λ (n : ℤ). f c.in-Some.name.now n) (sym same)
     ∙ ap (λ (o : Option Value). got_answer o rows) none)
     (c.not_found.ensures rows)
+
+pub unreachable-requires : goal.unreachable-requires
+unreachable-requires c = rw c.in-Err-TableFull.field-0-is at c.in-Err-TableFull.ensures

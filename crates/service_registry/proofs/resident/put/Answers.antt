@@ -97,3 +97,6 @@ returns-in-Err-TableFull-clause-meets c =
     c.if-life-lt1.false
     (c.saturating_add-expiry.ensures ∙ ap (λ (n : ℕ). min (c.args.ctx.now.now + n) 18446744073709551615) c.unsigned_abs.ensures.value) full.0)
     (rows_path _ _ _ _ full.1 c.put.ensures.next_key) (c.table_full.ensures rows)
+
+pub unreachable-requires : goal.unreachable-requires
+unreachable-requires c = rw c.in-Err-NotFound.field-0-is at c.in-Err-NotFound.ensures.rows
