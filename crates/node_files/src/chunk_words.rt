@@ -1,5 +1,5 @@
 //! Reads chunks in hex, and checks their types.
-ghost use Rattle.std.specs.Prelude.{◌≡◌, ◌≢◌, ◌≤◌, Some, IfOk, IfSome, OnOk, length};
+ghost use Rattle.std.specs.Prelude.{◌≡◌, ◌≢◌, ◌≤◌, Some, IfOk, IfSome, OnOk, OnErr, length};
 ghost use Rattle.chunk_codec_spec.specs.Spelling.{a_whole_chunk};
 ghost use Rattle.line_reader.specs.Reads.{Finds, GivesWith};
 ghost use Rattle.node_files.specs.ChunkWords as spec;
@@ -14,8 +14,10 @@ use plan_types_chunks::{ChunkFault, check_chunk};
 use std::alloc::Global;
 use wire_bytes::Cursor;
 
+/// Goes on where bytes were refused for what they are. Only where an allocation failed, nothing is known of them.
 fn not_memory(fault: &SpellFault) -> Result<(), NoMemory>
-    ensures { OnOk result (fault.now ≢ SpellFault.NoMemory) }
+    ensures ok { OnOk result (fault.now ≢ SpellFault.NoMemory) }
+    ensures err { OnErr result (fault.now ≡ SpellFault.NoMemory) }
 {
     match fault {
         SpellFault::NoMemory => Err(NoMemory),

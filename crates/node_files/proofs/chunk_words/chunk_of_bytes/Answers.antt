@@ -14,4 +14,4 @@ returns-else-bytes-at-clause-value c =
 
 pub returns-in_ok-not_memory-in-Err-clause-value : goal.returns-in_ok-not_memory-in-Err-clause-value
 returns-in_ok-not_memory-in-Err-clause-value c =
-    none_from c.args.bytes.now c.over-cursor.result c.in-Err.fault c.over-cursor.ensures.at c.over-cursor.ensures.rest (λ i. omega (arith, c.type_inv.bytes i)) c.in_ok-not_memory-in-Err.ensures c.in-Err.ensures.fault
+    none_from c.args.bytes.now c.over-cursor.result c.in-Err.fault c.over-cursor.ensures.at c.over-cursor.ensures.rest (λ i. omega (arith, c.type_inv.bytes i)) c.in_ok-not_memory-in-Err.ensures.ok c.in-Err.ensures.fault
