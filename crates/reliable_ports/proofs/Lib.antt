@@ -1,6 +1,6 @@
 pub mod Arguments
-pub mod TreeSizes
 pub mod PortTyping
+pub mod PortText
 pub mod Slots
 pub mod Steps
 pub mod Scripts

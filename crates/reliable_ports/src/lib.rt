@@ -10,11 +10,9 @@ mod laws;
 mod number;
 mod receiver;
 mod sender;
-mod shapes;
 
-pub use checked::{chunks_are_checked, port_is_checked};
+pub use checked::{chunks_are_checked, port_is_checked, port_is_read};
 pub use chunks::{ack_chunk, data_chunk, port_code};
 pub use laws::scripts_deliver_in_order;
 pub use receiver::{AckFault, Bodies, Came, Receiver};
 pub use sender::{Ack, OfferFault, Sender, TransmitFault};
-pub use shapes::is_port_program;

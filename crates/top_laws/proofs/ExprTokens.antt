@@ -1,42 +1,27 @@
 -- A printed expression is read as its tokens.
-use Rattle.std.proofs.Common.{◌≡◌, ℕ, List, [], ◌∷◌, ◌++◌, Option, Some, None, refl, sym, ap, ◌∙◌, subst, arith, append_assoc}
+use Rattle.std.proofs.Common.{◌≡◌, ℕ, List, [], ◌++◌, Option, Some, None, refl, sym, ap, ◌∙◌, subst, arith, append_assoc}
 use Rattle.std.specs.Prelude.{codes}
 use Rattle.plan_base.specs.Words.{IsName}
 use Rattle.plan_base.specs.declared.name.Name.{Name}
 use Rattle.plan_base.specs.declared.tree.Ty.{Ty}
-use Rattle.plan_base.specs.declared.tree.Expr.{Expr, Expr-F, out-Expr, map-Expr, fold_out-Expr}
-use Rattle.plan_base.specs.declared.tree.Clause.{Clause, fold-Clause, fold_out-Clause}
+use Rattle.plan_base.specs.declared.tree.Expr.{Expr, Expr-F, out-Expr}
+use Rattle.plan_base.specs.declared.tree.Clause.{Clause}
 use Rattle.plan_printer_spec.specs.Literals.{part_text}
 use Rattle.plan_lexer.specs.Tables.{key_text, symbol_text}
 use Rattle.plan_lexer.specs.declared.token.Key.TheVariants as keys
 use Rattle.plan_lexer.specs.declared.token.Symbol.TheVariants as symbols
-use Rattle.plan_lexer.specs.declared.token.TokenKind.TheVariants as kind
 use Rattle.plan_printer_spec.specs.Pieces.{listed_pieces, commas}
 use Rattle.plan_printer_spec.specs.Printed.{nil_text, raise_text, op_text, catch_text, expr_text_level, expr_text, clause_text}
-use Rattle.plan_printer.proofs.PrintLaws.{listed-map, listed_same, expr_text_out}
-use Rattle.top_laws.specs.PrintedTokens.{Kinds, mark, word, nil_kinds, raise_kinds, catch_kinds, expr_kinds_level, clause_kinds_level, expr_kinds, clause_kinds}
-use Rattle.top_laws.specs.Proper.{IsProperOption, IsProperCatch, IsProper, AreProper, AreProperClauses}
-use Rattle.top_laws.specs.Proper.{IsProper as P, AreProper as M, AreProperClauses as K}
+use Rattle.plan_printer.proofs.PrintLaws.{expr_text_out}
+use Rattle.program_text_laws.specs.PrintedTokens.{mark, word, nil_kinds, raise_kinds, catch_kinds, expr_kinds_level, expr_kinds, clause_kinds}
+use Rattle.program_text_laws.proofs.KindsOut.{expr_kinds_out}
+use Rattle.program_text_laws.specs.Proper.{IsProperOption, IsProperCatch, IsProper, AreProper, AreProperClauses}
+use Rattle.program_text_laws.specs.Proper.{IsProper as P, AreProper as M, AreProperClauses as K}
 use Rattle.top_laws.proofs.Segments.{begins, calm, anything, Part, ◌>>◌, segment_begins, blank_part}
 use Rattle.top_laws.proofs.Glue.{is_text, name_part, key_part, int_part, host_part, dev_part, pick_part, char_part, string_part, blob_part, bool_part, colon_part, spaced_part, paren_part, close_part}
 use Rattle.top_laws.proofs.Glue.{square_part, unsquare_part, comma_part, semicolon_part, bar_part, under_part, op_glue, then_blank}
 use Rattle.top_laws.proofs.Lists.{AllParts, some_listed, all_listed}
 use Rattle.top_laws.proofs.TypeTokens.{type_part, empty_part}
-
-expr_kinds_step : (f : Expr → Kinds) (g h : Clause → Kinds) → ((c : Clause) → g c ≡ h c) → (x : Expr-F Expr Clause)
-    → expr_kinds_level (λ s. s) (λ s. s) (map-Expr Expr Clause Kinds Kinds f g x) ≡ expr_kinds_level f h x
-expr_kinds_step f g h e (Expr-F.Tuple es) = ap (λ s. mark symbols.ParenOpen ++ s ++ mark symbols.ParenClose) (listed-map (mark symbols.Comma) [] f es)
-expr_kinds_step f g h e (Expr-F.Call x es) = ap (λ s. kind.Word x ∷ mark symbols.ParenOpen ++ s ++ mark symbols.ParenClose) (listed-map (mark symbols.Comma) [] f es)
-expr_kinds_step f g h e (Expr-F.ChunkOf x es) = ap (λ s. mark symbols.Bar ++ kind.Word x ∷ mark symbols.Bar ++ mark symbols.ParenOpen ++ s ++ mark symbols.ParenClose) (listed-map (mark symbols.Comma) [] f es)
-expr_kinds_step f g h e (Expr-F.Try a cs) = ap (λ s. word keys.Try ++ f a ++ word keys.Handle ++ s ++ word keys.End) (listed_same (mark symbols.Bar) [] g h e cs)
-expr_kinds_step f g h e _ = refl
-
-pub expr_kinds_out : (e : Expr) → expr_kinds e ≡ expr_kinds_level expr_kinds clause_kinds (out-Expr e)
-unfolding expr_kinds
-expr_kinds_out e =
-    fold_out-Expr Kinds Kinds (expr_kinds_level (λ s. s) (λ s. s)) (clause_kinds_level (λ s. s)) e
-    ∙ expr_kinds_step expr_kinds (fold-Clause Kinds Kinds (expr_kinds_level (λ s. s) (λ s. s)) (clause_kinds_level (λ s. s))) clause_kinds
-    (λ c. fold_out-Clause Kinds Kinds (expr_kinds_level (λ s. s) (λ s. s)) (clause_kinds_level (λ s. s)) c) (out-Expr e)
 
 regroup : (a b c d : List ℕ) → a ++ ((b ++ c) ++ d) ≡ ((a ++ b) ++ c) ++ d
 regroup a b c d = sym (append_assoc a (b ++ c) d) ∙ ap (λ s. s ++ d) (sym (append_assoc a b c))

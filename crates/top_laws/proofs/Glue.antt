@@ -24,7 +24,7 @@ use Rattle.plan_lexer.proofs.TableLemmas.{is_word-key}
 use Rattle.plan_base.proofs.WordLaws.{is_word_none, is_word_cons}
 use Rattle.plan_printer_spec.specs.Pieces.{scalar_text}
 use Rattle.plan_printer_spec.specs.Printed.{bool_text, op_text}
-use Rattle.top_laws.specs.PrintedTokens.{word, mark, bool_kinds, op_kinds}
+use Rattle.program_text_laws.specs.PrintedTokens.{word, mark, bool_kinds, op_kinds}
 use Rattle.top_laws.proofs.Segments.{begins, calm, anything, is_solid, Part, ◌>>◌, token_part, open_part, blank_part, line_part}
 
 -- the same segment by another spelling of its text and its tokens

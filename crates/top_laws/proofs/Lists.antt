@@ -3,7 +3,7 @@ use Rattle.std.proofs.Common.{◌≡◌, ℕ, ◌<◌, Bool, List, [], ◌∷◌
 use Rattle.std.specs.List.{flat_map}
 use Rattle.plan_lexer.specs.declared.token.TokenKind.{TokenKind}
 use Rattle.plan_printer_spec.specs.Pieces.{listed_pieces}
-use Rattle.top_laws.specs.Lexes.{Lexes}
+use Rattle.program_text_laws.specs.Lexes.{Lexes}
 use Rattle.top_laws.proofs.Segments.{begins, calm, anything, Part, ◌>>◌}
 use Rattle.top_laws.proofs.Glue.{is_text}
 

@@ -15,9 +15,9 @@ use Rattle.plan_lexer.specs.declared.token.Symbol.TheVariants as symbols
 use Rattle.plan_lexer.specs.declared.token.TokenKind.TheVariants as kind
 use Rattle.plan_printer_spec.specs.Pieces.{listed_pieces, commas}
 use Rattle.plan_printer_spec.specs.Printed.{type_text, svc_text, exn_text, param_text, fun_text, program_text}
-use Rattle.top_laws.specs.Lexes.{Lexes}
-use Rattle.top_laws.specs.PrintedTokens.{mark, word, type_kinds, svc_kinds, exn_kinds, param_kinds, fun_kinds, program_kinds}
-use Rattle.top_laws.specs.Proper.{AllProper, IsReadableType, IsProperSvc, IsProperParam, IsProperFun, IsProperProgram}
+use Rattle.program_text_laws.specs.Lexes.{Lexes}
+use Rattle.program_text_laws.specs.PrintedTokens.{mark, word, type_kinds, svc_kinds, exn_kinds, param_kinds, fun_kinds, program_kinds}
+use Rattle.program_text_laws.specs.Proper.{AllProper, IsReadableType, IsProperSvc, IsProperParam, IsProperFun, IsProperProgram}
 use Rattle.top_laws.proofs.Segments.{begins, calm, anything, Part, ◌>>◌, blank_part, lexes_end}
 use Rattle.top_laws.proofs.Glue.{is_text, name_part, key_part, colon_part, spaced_part, paren_part, close_part, then_line}
 use Rattle.top_laws.proofs.Lists.{AllParts, all_listed, lines_lex}

@@ -28,11 +28,11 @@ use Rattle.plan_types_spec.proofs.Programs.{annotated_complete, fills_itself, de
 use Rattle.checked_chunks.specs.Kept.{IsChecked}
 use Rattle.plan_lexer.specs.declared.token.Key.TheVariants as key
 use Rattle.plan_printer_spec.specs.Printed.{program_text}
-use Rattle.top_laws.specs.Proper.{AreBytes, base_key, IsProperType, AreProperTypes, IsReadableType, IsProperCatch, IsProper, AreProper, AreProperClauses, AllProper, IsProperSvc, IsProperParam, IsProperFun, IsProperProgram}
-use Rattle.top_laws.specs.Proper as p
+use Rattle.program_text_laws.specs.Proper.{AreBytes, base_key, IsProperType, AreProperTypes, IsReadableType, IsProperCatch, IsProper, AreProper, AreProperClauses, AllProper, IsProperSvc, IsProperParam, IsProperFun, IsProperProgram}
+use Rattle.program_text_laws.specs.Proper as p
 use Rattle.top_laws.proofs.ProgramTokens.{program_lexes}
-use Rattle.top_laws.proofs.Within.{within_limits}
-use Rattle.top_laws.proofs.Declarations.{program_reads}
+use Rattle.program_text_laws.proofs.Within.{within_limits}
+use Rattle.program_text_laws.proofs.Declarations.{program_reads}
 use Rattle.program_text.specs.Texts.{placed_result, typed_of, program_of, Says}
 use Rattle.program_text.proofs.Readings.{read_by}
 use Rattle.chunk_codec.specs.Ranges.{catch_ranged, param_ranged, service_ranged}

@@ -10,7 +10,7 @@ use Rattle.plan_lexer.specs.declared.token.TokenKind.{TokenKind}
 use Rattle.plan_lexer.proofs.SpellLemmas.{spells_read}
 use Rattle.plan_lexer.proofs.ReadLemmas.{drop_front}
 use Rattle.plan_lexer.proofs.LawLemmas.{spells_some}
-use Rattle.top_laws.specs.Lexes.{Lexes}
+use Rattle.program_text_laws.specs.Lexes.{Lexes}
 
 -- what may follow a bracket or a blank: no star and no colon
 abbrev pub begins : ℕ → Bool

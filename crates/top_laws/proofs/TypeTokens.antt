@@ -1,27 +1,20 @@
 -- A printed type is read as its tokens.
-use Rattle.std.proofs.Common.{◌≡◌, List, [], ◌++◌, Some, refl, sym, ap, ◌∙◌, arith}
+use Rattle.std.proofs.Common.{◌≡◌, List, ◌++◌, Some, refl, sym, ap, ◌∙◌, arith}
 use Rattle.std.specs.Prelude.{codes}
-use Rattle.plan_base.specs.declared.tree.Ty.{Ty, Ty-F, out-Ty, map-Ty, fold_out-Ty}
+use Rattle.plan_base.specs.declared.tree.Ty.{Ty, Ty-F, out-Ty}
 use Rattle.plan_lexer.specs.Tables.{key_text, symbol_text}
 use Rattle.plan_lexer.specs.declared.token.Key.{Key}
 use Rattle.plan_lexer.specs.declared.token.Key.TheVariants as keys
 use Rattle.plan_lexer.specs.declared.token.Symbol.TheVariants as symbols
 use Rattle.plan_printer_spec.specs.Printed.{type_text_level, type_text, empty_text}
-use Rattle.plan_printer.proofs.PrintLaws.{listed-map, type_text_out}
-use Rattle.top_laws.specs.PrintedTokens.{Kinds, mark, word, type_kinds_level, type_kinds, empty_kinds}
-use Rattle.top_laws.specs.Proper.{base_key, IsProperType, AreProperTypes}
-use Rattle.top_laws.specs.Proper.{IsProperType as T, AreProperTypes as A}
+use Rattle.plan_printer.proofs.PrintLaws.{type_text_out}
+use Rattle.program_text_laws.specs.PrintedTokens.{mark, word, type_kinds_level, type_kinds, empty_kinds}
+use Rattle.program_text_laws.proofs.KindsOut.{type_kinds_out}
+use Rattle.program_text_laws.specs.Proper.{base_key, IsProperType, AreProperTypes}
+use Rattle.program_text_laws.specs.Proper.{IsProperType as T, AreProperTypes as A}
 use Rattle.top_laws.proofs.Segments.{begins, calm, anything, Part, ◌>>◌, blank_part}
 use Rattle.top_laws.proofs.Glue.{is_text, key_part, paren_part, close_part, square_part, unsquare_part, colon_part, spaced_part}
 use Rattle.top_laws.proofs.Lists.{AllParts, some_listed}
-
-type_kinds_step : (f : Ty → Kinds) (x : Ty-F Ty) → type_kinds_level (λ s. s) (map-Ty Ty Kinds f x) ≡ type_kinds_level f x
-type_kinds_step f (Ty-F.Tuple ts) = ap (λ s. mark symbols.ParenOpen ++ s ++ mark symbols.ParenClose) (listed-map (mark symbols.Star) [] f ts)
-type_kinds_step f _ = refl
-
-pub type_kinds_out : (t : Ty) → type_kinds t ≡ type_kinds_level type_kinds (out-Ty t)
-unfolding type_kinds
-type_kinds_out t = fold_out-Ty Kinds (type_kinds_level (λ s. s)) t ∙ type_kinds_step type_kinds (out-Ty t)
 
 base_part : (x : Ty-F Ty) (k : Key) → base_key x ≡ Some k → Part begins calm (type_text_level type_text x) (type_kinds_level type_kinds x)
 unfolding key_text

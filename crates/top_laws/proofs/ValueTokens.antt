@@ -9,9 +9,9 @@ use Rattle.plan_printer_spec.specs.Pieces.{listed_pieces}
 use Rattle.plan_printer_spec.specs.Printed.{values_text, chunk_text, value_text_level, value_text}
 use Rattle.plan_printer.proofs.PrintLaws.{listed-map}
 use Rattle.plan_printer.proofs.ValueLaws.{value_text_out}
-use Rattle.top_laws.specs.PrintedTokens.{Kinds, mark, values_kinds, value_kinds_level, value_kinds}
-use Rattle.top_laws.specs.Proper.{IsProperType, IsProperValue, AreProperValues}
-use Rattle.top_laws.specs.Proper.{IsProperValue as V, AreProperValues as A}
+use Rattle.program_text_laws.specs.PrintedTokens.{Kinds, mark, values_kinds, value_kinds_level, value_kinds}
+use Rattle.program_text_laws.specs.Proper.{IsProperType, IsProperValue, AreProperValues}
+use Rattle.program_text_laws.specs.Proper.{IsProperValue as V, AreProperValues as A}
 use Rattle.top_laws.proofs.Segments.{begins, calm, Part, ◌>>◌}
 use Rattle.top_laws.proofs.Glue.{is_text, int_part, host_part, dev_part, char_part, string_part, blob_part, bool_part, paren_part, close_part, square_part, unsquare_part}
 use Rattle.top_laws.proofs.Lists.{AllParts, some_listed}

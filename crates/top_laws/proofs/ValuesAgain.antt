@@ -20,8 +20,8 @@ use Rattle.checked_chunks.specs.Kept.{IsCheckedChunk}
 use Rattle.plan_parser.specs.Values.{value_of}
 use Rattle.plan_parser.specs.ReadTexts.{Reads}
 use Rattle.plan_printer_spec.specs.Printed.{value_text}
-use Rattle.top_laws.specs.Proper.{IsReadableType, IsProperValue, AreProperValues}
-use Rattle.top_laws.specs.Proper as p
+use Rattle.program_text_laws.specs.Proper.{IsReadableType, IsProperValue, AreProperValues}
+use Rattle.program_text_laws.specs.Proper as p
 use Rattle.top_laws.proofs.Segments.{lexes_whole}
 use Rattle.top_laws.proofs.ValueTokens.{value_part}
 use Rattle.top_laws.specs.Readable.{IsReadable, AreOfType, AreReadable}

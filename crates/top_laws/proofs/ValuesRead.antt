@@ -26,14 +26,14 @@ use Rattle.plan_parser.specs.declared.item.TypedValue.{TypedValue}
 use Rattle.plan_parser.specs.Values.{typed_value, literal, literal_from, begins_value, tuple_of, list_of, judged_item, fits, tuple_from, tuple, grouped_value, parens, like, listing, typed_nil}
 use Rattle.plan_parser.specs.Values.{brackets, value_at, value_to, nothing_follows, value_of}
 use Rattle.plan_printer_spec.specs.Pieces.{listed_pieces}
-use Rattle.top_laws.specs.Lexes.{kinds_of}
-use Rattle.top_laws.specs.PrintedTokens.{Kinds, mark, bool_kinds, type_kinds, value_kinds_level, value_kinds}
-use Rattle.top_laws.specs.Proper.{IsReadableType}
+use Rattle.program_text_laws.specs.Lexes.{kinds_of}
+use Rattle.program_text_laws.specs.PrintedTokens.{Kinds, mark, bool_kinds, type_kinds, value_kinds_level, value_kinds}
+use Rattle.program_text_laws.specs.Proper.{IsReadableType}
 use Rattle.top_laws.proofs.ValueTokens.{value_kinds_out}
-use Rattle.top_laws.specs.Reads.{kinds_at, Took}
-use Rattle.top_laws.proofs.Steps.{took, then_took, took_by, weaker, next_is, behind_is, symbol_is, take_symbol, take_open, AllRead, AllGood, more_took}
-use Rattle.top_laws.proofs.TypesRead.{type_takes}
-use Rattle.top_laws.proofs.Forms.{behind_one}
+use Rattle.program_text_laws.specs.Reads.{kinds_at, Took}
+use Rattle.program_text_laws.proofs.Steps.{took, then_took, took_by, weaker, next_is, behind_is, symbol_is, take_symbol, take_open, AllRead, AllGood, more_took}
+use Rattle.program_text_laws.proofs.TypesRead.{type_takes}
+use Rattle.program_text_laws.proofs.Forms.{behind_one}
 use Rattle.top_laws.specs.Readable.{IsReadable, AreOfType, AreReadable}
 use Rattle.top_laws.specs.Readable.{IsReadable as R, AreOfType as O, AreReadable as M}
 

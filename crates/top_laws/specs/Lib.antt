@@ -1,7 +1,3 @@
-pub mod Lexes
-pub mod Proper
-pub mod PrintedTokens
-pub mod Reads
 pub mod Readable
 pub mod Exact
 pub mod ReadBack

@@ -5,7 +5,7 @@ use Rattle.plan_base.specs.declared.ids.Dev.{Dev}
 use Rattle.plan_base.specs.declared.tree.Ty.{Ty}
 use Rattle.plan_base.specs.declared.tree.Ty.TheVariants as ty
 use Rattle.plan_base.specs.declared.tree.Value.{Value, Value-F, out-Value}
-use Rattle.top_laws.specs.Proper.{IsReadableType}
+use Rattle.program_text_laws.specs.Proper.{IsReadableType}
 use Rattle.plan_base.specs.Sizes.{type_depth}
 
 mutual

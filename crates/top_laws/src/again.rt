@@ -10,9 +10,9 @@ ghost use Rattle.plan_parser_exprs.specs.declared.level.Level.{Level};
 ghost use Rattle.plan_parser_exprs.specs.Ahead.{Front};
 ghost use Rattle.plan_parser_exprs.specs.Types.{type_to};
 ghost use Rattle.plan_parser_exprs.specs.Exprs.{expr_to};
-ghost use Rattle.top_laws.specs.Proper.{IsProperType, IsProper, IsProperValue, IsProperProgram};
-ghost use Rattle.top_laws.specs.PrintedTokens.{Kinds, type_kinds, expr_kinds, value_kinds, program_kinds};
-ghost use Rattle.top_laws.specs.Reads.{kinds_at, Took, first_kind, FollowsType, IsNode, Ends};
+ghost use Rattle.program_text_laws.specs.Proper.{IsProperType, IsProper, IsProperValue, IsProperProgram};
+ghost use Rattle.program_text_laws.specs.PrintedTokens.{Kinds, type_kinds, expr_kinds, value_kinds, program_kinds};
+ghost use Rattle.program_text_laws.specs.Reads.{kinds_at, Took, first_kind, FollowsType, IsNode, Ends};
 ghost use Rattle.plan_base.specs.declared.tree.Value.{Value};
 ghost use Rattle.plan_base.specs.declared.tree.Program.{Program};
 ghost use Rattle.plan_base.specs.declared.tree.Draft.{Draft};
@@ -23,7 +23,7 @@ ghost use Rattle.plan_parser.specs.Programs.{program_of};
 ghost use Rattle.plan_parser.specs.Values.{value_of};
 ghost use Rattle.plan_parser.specs.ReadTexts.{Reads};
 ghost use Rattle.plan_printer_spec.specs.Printed.{value_text, program_text};
-ghost use Rattle.top_laws.specs.Lexes.{kinds_of};
+ghost use Rattle.program_text_laws.specs.Lexes.{kinds_of};
 ghost use Rattle.top_laws.specs.Readable.{IsReadable};
 
 /// The tokens of a printed type of depth 8 at most are read as that type, before anything but the word `list`.

@@ -6,9 +6,9 @@ ghost use Rattle.plan_base.specs.declared.tree.Ty.{Ty};
 ghost use Rattle.plan_base.specs.declared.tree.Value.{Value};
 ghost use Rattle.plan_base.specs.declared.tree.Program.{Program};
 ghost use Rattle.plan_printer_spec.specs.Printed.{type_text, value_text, program_text};
-ghost use Rattle.top_laws.specs.Lexes.{Lexes};
-ghost use Rattle.top_laws.specs.Proper.{IsProperType, IsProperValue, IsProperProgram};
-ghost use Rattle.top_laws.specs.PrintedTokens.{type_kinds, value_kinds, program_kinds};
+ghost use Rattle.program_text_laws.specs.Lexes.{Lexes};
+ghost use Rattle.program_text_laws.specs.Proper.{IsProperType, IsProperValue, IsProperProgram};
+ghost use Rattle.program_text_laws.specs.PrintedTokens.{type_kinds, value_kinds, program_kinds};
 
 /// A printed type is read as its tokens.
 pub fn printed_type_lexes()

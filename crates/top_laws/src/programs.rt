@@ -2,7 +2,7 @@
 ghost use Rattle.std.specs.Prelude.{◌≡◌, IsTrue, Ok};
 ghost use Rattle.std.specs.List.{list_all};
 ghost use Rattle.plan_printer_spec.specs.Printed.{program_text};
-ghost use Rattle.top_laws.specs.Proper.{IsProperProgram};
+ghost use Rattle.program_text_laws.specs.Proper.{IsProperProgram};
 ghost use Rattle.program_text.specs.Texts.{Says, program_of};
 ghost use Rattle.top_laws.specs.Exact.{function_exact, program_exact};
 

@@ -1,6 +1,6 @@
 use Rattle.std.proofs.Common.{arith}
-use Rattle.top_laws.proofs.Forms.{level_took}
-use Rattle.top_laws.proofs.ExprsRead.{expr_read}
+use Rattle.program_text_laws.proofs.Forms.{level_took}
+use Rattle.program_text_laws.proofs.ExprsRead.{expr_read}
 use Rattle.top_laws.proofs.again.printed_expr_reads.Goals as goal
 
 pub returns : goal.returns

@@ -1,6 +1,6 @@
 use Rattle.top_laws.proofs.ProgramTokens.{program_lexes}
-use Rattle.top_laws.proofs.Within.{within_limits}
-use Rattle.top_laws.proofs.Declarations.{program_reads}
+use Rattle.program_text_laws.proofs.Within.{within_limits}
+use Rattle.program_text_laws.proofs.Declarations.{program_reads}
 use Rattle.top_laws.proofs.again.printed_program_again.Goals as goal
 
 pub returns : goal.returns

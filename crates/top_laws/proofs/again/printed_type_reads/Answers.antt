@@ -1,4 +1,4 @@
-use Rattle.top_laws.proofs.TypesRead.{type_takes}
+use Rattle.program_text_laws.proofs.TypesRead.{type_takes}
 use Rattle.top_laws.proofs.again.printed_type_reads.Goals as goal
 
 pub returns : goal.returns

@@ -16,10 +16,10 @@ use Rattle.plan_parser_exprs.specs.Begins.{kind_begins}
 use Rattle.plan_parser_exprs.specs.Joints.{joint_of}
 use Rattle.plan_parser_exprs.specs.Nodes.{joined_nodes}
 use Rattle.plan_parser_exprs.specs.Exprs.{chain_from, operand, chained_operands, product, addition, listed_operands, compared_operands, comparison, negated_operand, conjunction, disjunction, low, whole, at_level}
-use Rattle.top_laws.specs.Lexes.{kinds_of}
-use Rattle.top_laws.specs.PrintedTokens.{Kinds}
-use Rattle.top_laws.specs.Reads.{kinds_at, Took, first_kind, Ends}
-use Rattle.top_laws.proofs.Steps.{took, then_took, took_by, next_is, behind_is, symbol_is, key_is}
+use Rattle.program_text_laws.specs.Lexes.{kinds_of}
+use Rattle.program_text_laws.specs.PrintedTokens.{Kinds}
+use Rattle.program_text_laws.specs.Reads.{kinds_at, Took, first_kind, Ends}
+use Rattle.program_text_laws.proofs.Steps.{took, then_took, took_by, next_is, behind_is, symbol_is, key_is}
 
 -- tokens that begin with one that may begin an operand
 pub record Starts (ks : Kinds) : Type 0 where

@@ -9,7 +9,7 @@ use Rattle.plan_base.specs.declared.tree.Svc.{Svc}
 use Rattle.plan_base.specs.declared.tree.Expr.{Expr}
 use Rattle.plan_base.specs.declared.tree.Fun.{Fun}
 use Rattle.plan_base.specs.declared.tree.Program.{Program}
-use Rattle.top_laws.specs.Proper.{AllProper}
+use Rattle.program_text_laws.specs.Proper.{AllProper}
 
 -- at most 8 parameters
 abbrev pub IsShortSvc : Svc → Type 0

@@ -173,10 +173,18 @@ exn_kinds x = word key.Exception ++ name x
 abbrev pub param_kinds : Param → Kinds
 param_kinds p = name p.name ++ mark symbol.Colon ++ type_kinds p.ty
 
-abbrev pub fun_kinds : Fun → Kinds
-fun_kinds f =
+-- a function, by the tokens of its body
+abbrev pub fun_kinds_by : (Expr → Kinds) → Fun → Kinds
+fun_kinds_by body f =
     word key.Fun ++ name f.name ++ mark symbol.ParenOpen ++ comma_kinds param_kinds f.params ++ mark symbol.ParenClose ++ mark symbol.Colon
-    ++ type_kinds f.result ++ mark symbol.Equal ++ expr_kinds f.body
+    ++ type_kinds f.result ++ mark symbol.Equal ++ body f.body
+
+abbrev pub fun_kinds : Fun → Kinds
+fun_kinds f = fun_kinds_by expr_kinds f
+
+-- declarations, by the tokens of bodies
+abbrev pub program_kinds_by : (Expr → Kinds) → Program → Kinds
+program_kinds_by body p = flat_map svc_kinds p.svcs ++ flat_map exn_kinds p.exns ++ flat_map (fun_kinds_by body) p.funs
 
 -- a program
 unfoldable pub program_kinds : Program → Kinds

@@ -17,24 +17,24 @@ use Rattle.plan_parser_exprs.specs.declared.joint.Joint.TheVariants as joints
 use Rattle.plan_parser_exprs.specs.Ahead.{Front, behind, place, is_symbol_kind}
 use Rattle.plan_parser_exprs.specs.Exprs.{parens, parens_behind, key_form, symbol_form, expr_to}
 use Rattle.plan_printer_spec.specs.Pieces.{listed_pieces}
-use Rattle.top_laws.specs.PrintedTokens.{Kinds, mark, op_kinds, type_kinds, clause_kinds, expr_kinds}
-use Rattle.top_laws.specs.Proper.{IsProperOption, IsProper, AreProper, AreProperClauses}
-use Rattle.top_laws.specs.Proper.{IsProper as P, AreProper as M, AreProperClauses as K}
-use Rattle.top_laws.specs.Reads.{kinds_at, Took, IsNode}
-use Rattle.top_laws.proofs.Steps.{took, then_took, behind_is, symbol_is, take_open}
-use Rattle.top_laws.proofs.TypesRead.{largest_cons}
-use Rattle.top_laws.proofs.Forms.{Measured, made_of, measured_by_level, kinds_are, IsRead, Between, in_product, in_sum, in_comparison, in_both, in_either, pair_read}
-use Rattle.top_laws.proofs.Bracketing.{if_read, sequence_read, not_read, cons_read, part_read}
-use Rattle.top_laws.proofs.Applied.{leaf_good, literal_read, var_read, AreRead, call_read, chunk_read, tuple_read}
-use Rattle.top_laws.proofs.Words.{by_operand, eval_read, foldl_read, foldr_read, remote_read, neighbor_read, nil_read, empty_read, raise_typed_read, raise_read, let_read}
-use Rattle.top_laws.proofs.Tries.{ClausesRead, try_read}
+use Rattle.program_text_laws.specs.PrintedTokens.{Kinds, mark, op_kinds, type_kinds, clause_kinds, expr_kinds}
+use Rattle.program_text_laws.specs.Proper.{IsProperOption, IsProper, AreProper, AreProperClauses}
+use Rattle.program_text_laws.specs.Proper.{IsProper as P, AreProper as M, AreProperClauses as K}
+use Rattle.program_text_laws.specs.Reads.{kinds_at, Took, IsNode}
+use Rattle.program_text_laws.proofs.Steps.{took, then_took, behind_is, symbol_is, take_open}
+use Rattle.program_text_laws.proofs.TypesRead.{largest_cons}
+use Rattle.program_text_laws.proofs.Forms.{Measured, made_of, measured_by_level, kinds_are, IsRead, Between, in_product, in_sum, in_comparison, in_both, in_either, pair_read}
+use Rattle.program_text_laws.proofs.Bracketing.{if_read, sequence_read, not_read, cons_read, part_read}
+use Rattle.program_text_laws.proofs.Applied.{leaf_good, literal_read, var_read, AreRead, call_read, chunk_read, tuple_read}
+use Rattle.program_text_laws.proofs.Words.{by_operand, eval_read, foldl_read, foldr_read, remote_read, neighbor_read, nil_read, empty_read, raise_typed_read, raise_read, let_read}
+use Rattle.program_text_laws.proofs.Tries.{ClausesRead, try_read}
 
 -- ---- kinds, regrouped
 
 two_parts : (a b rest : Kinds) (k : TokenKind) → ((a ++ (k ∷ [])) ++ b) ++ rest ≡ a ++ (k ∷ (b ++ rest))
 two_parts a b rest k = append_assoc (a ++ (k ∷ [])) b rest ∙ append_assoc a (k ∷ []) (b ++ rest)
 
-three_parts : (a b c rest : Kinds) (k m : TokenKind) → ((((a ++ (k ∷ [])) ++ b) ++ (m ∷ [])) ++ c) ++ rest ≡ a ++ (k ∷ (b ++ (m ∷ (c ++ rest))))
+pub three_parts : (a b c rest : Kinds) (k m : TokenKind) → ((((a ++ (k ∷ [])) ++ b) ++ (m ∷ [])) ++ c) ++ rest ≡ a ++ (k ∷ (b ++ (m ∷ (c ++ rest))))
 three_parts a b c rest k m = two_parts ((a ++ (k ∷ [])) ++ b) c rest m ∙ two_parts a b (m ∷ (c ++ rest)) k
 
 -- ---- the unit

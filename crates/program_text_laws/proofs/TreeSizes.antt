@@ -1,8 +1,9 @@
--- How large the parts of a port's program are, and that they are well formed and lack no types.
+-- How large the parts of a program are that is given by its tree, and that they are well formed and lack no types.
 use Rattle.std.proofs.Common.{◌≡◌, ℕ, ◌+◌, ◌≤◌, true, ◌&&◌, List, [], ◌∷◌, length, max, refl, ap, ◌∙◌, arith}
 use Rattle.std.specs.Prelude.{ℤ, nat_le, is_some}
 use Rattle.std.specs.List.{list_all, sum_by}
 use Rattle.std.proofs.lemmas.Bool.{le-leb}
+use Rattle.std.proofs.lemmas.List.Sums.{sum_by-cons}
 use Rattle.plan_base.specs.declared.name.Name.{Name}
 use Rattle.plan_base.specs.declared.tree.Ty.{Ty, Ty-F, out-Ty}
 use Rattle.plan_base.specs.declared.tree.Ty.TheVariants as ty
@@ -10,10 +11,10 @@ use Rattle.plan_base.specs.declared.tree.Expr.{Expr, Expr-F, out-Expr}
 use Rattle.plan_base.specs.declared.tree.Expr.TheVariants as expr
 use Rattle.plan_base.specs.Trees.{TyLayer, ExprLayer}
 use Rattle.plan_base.specs.Sizes.{largest_by, type_size_level, type_size, expr_size_level, expr_size, clause_size, type_depth_level, type_depth, expr_depth_level, expr_depth, clause_depth, expr_nodes_level, expr_nodes, clause_nodes}
-use Rattle.plan_base.specs.WellFormed.{has_from_to, formed_type_level, formed_type, formed_expr_level, formed_expr, typed_expr_level, has_types}
+use Rattle.plan_base.specs.WellFormed.{well_formed_text, has_from_to, formed_type_level, formed_type, formed_expr_level, formed_expr, typed_expr_level, has_types}
 use Rattle.plan_base.proofs.SizeLaws.{type_size_out, type_depth_out, expr_size_out, expr_depth_out, expr_nodes_out}
 use Rattle.plan_base.proofs.FormLaws.{formed_type_out, formed_expr_out, has_types_out}
-use Rattle.reliable_ports.specs.Programs.{delivered_type}
+use Rattle.program_text_laws.proofs.TypesRead.{largest_cons}
 
 -- ---- types
 
@@ -48,11 +49,30 @@ blob_fits = type_fits ty.Blob Ty-F.Blob 1 1 ty.outs-Blob one_byte one_byte refl
 pub unit_fits : TypeFits ty.Unit 1 1
 unit_fits = type_fits ty.Unit Ty-F.Unit 1 1 ty.outs-Unit one_byte one_byte refl
 
-pub delivered_fits : TypeFits delivered_type 4 2
-delivered_fits =
-    let size : 2 + (0 + type_size ty.Int + type_size ty.Blob) ≤ 4 = omega (arith, int_fits.size, blob_fits.size) in
-    let depth : 1 + max (max 0 (type_depth ty.Int)) (type_depth ty.Blob) ≤ 2 = omega (arith, int_fits.depth, blob_fits.depth) in
-    type_fits delivered_type (Ty-F.Tuple (ty.Int ∷ ty.Blob ∷ [])) 4 2 (ty.outs-Tuple (ty.Int ∷ ty.Blob ∷ [])) size depth (λ i. int_fits.formed i && (blob_fits.formed i && true))
+pub str_fits : TypeFits ty.Str 1 1
+str_fits = type_fits ty.Str Ty-F.Str 1 1 ty.outs-Str one_byte one_byte refl
+
+-- so of types, in sum
+pub record TypesFit (ts : List Ty) (m d : ℕ) : Type 0 where
+  pub size : sum_by type_size ts ≤ m
+  pub depth : largest_by type_depth ts ≤ d
+  pub formed : list_all formed_type ts ≡ true
+
+pub no_types_fit : TypesFit [] 0 0
+no_types_fit = let none : 0 ≤ 0 = omega arith in record { size = none; depth = none; formed = refl }
+
+pub and_type_fits : (t : Ty) (ts : List Ty) (m n d k : ℕ) → TypeFits t m d → TypesFit ts n k → TypesFit (t ∷ ts) (m + n) (max d k)
+and_type_fits t ts m n d k h j = record {
+  size = omega (arith, sum_by-cons type_size t ts, h.size, j.size);
+  depth = omega (arith, largest_cons type_depth t ts, h.depth, j.depth);
+  formed = λ i. h.formed i && j.formed i;
+}
+
+pub tuple_type_fits : (ts : List Ty) (m d : ℕ) → has_from_to 2 8 ts ≡ true → TypesFit ts m d → TypeFits (ty.Tuple ts) (m + 2) (d + 1)
+tuple_type_fits ts m d few h =
+    let size : 2 + sum_by type_size ts ≤ m + 2 = omega (arith, h.size) in
+    let depth : 1 + largest_by type_depth ts ≤ d + 1 = omega (arith, h.depth) in
+    type_fits (ty.Tuple ts) (Ty-F.Tuple ts) (m + 2) (d + 1) (ty.outs-Tuple ts) size depth (λ i. few i && h.formed i)
 
 -- ---- expressions
 
@@ -85,26 +105,14 @@ pub record AllFit (es : List Expr) (m d : ℕ) : Type 0 where
 pub no_parts_fit : AllFit [] 0 0
 no_parts_fit = let none : 0 ≤ 0 = omega arith in record { size = none; nodes = none; depth = none; formed = refl; full = refl }
 
-pub one_fits : (a : Expr) (m d : ℕ) → Fits a m d → AllFit (a ∷ []) m d
-one_fits a m d h =
-    let size : 0 + expr_size a ≤ m = omega (arith, h.size) in
-    let nodes : 0 + expr_nodes a ≤ m = omega (arith, h.nodes) in
-    let depth : max 0 (expr_depth a) ≤ d = omega (arith, h.depth) in
-    record { size = size; nodes = nodes; depth = depth; formed = λ i. h.formed i && true; full = λ i. h.full i && true }
-
-pub two_fit : (a b : Expr) (m n d : ℕ) → Fits a m d → Fits b n d → AllFit (a ∷ b ∷ []) (m + n) d
-two_fit a b m n d h k =
-    let size : 0 + expr_size a + expr_size b ≤ m + n = omega (arith, h.size, k.size) in
-    let nodes : 0 + expr_nodes a + expr_nodes b ≤ m + n = omega (arith, h.nodes, k.nodes) in
-    let depth : max (max 0 (expr_depth a)) (expr_depth b) ≤ d = omega (arith, h.depth, k.depth) in
-    record { size = size; nodes = nodes; depth = depth; formed = λ i. h.formed i && (k.formed i && true); full = λ i. h.full i && (k.full i && true) }
-
-pub three_fit : (a b c : Expr) (m n k d : ℕ) → Fits a m d → Fits b n d → Fits c k d → AllFit (a ∷ b ∷ c ∷ []) (m + n + k) d
-three_fit a b c m n k d h j l =
-    let size : 0 + expr_size a + expr_size b + expr_size c ≤ m + n + k = omega (arith, h.size, j.size, l.size) in
-    let nodes : 0 + expr_nodes a + expr_nodes b + expr_nodes c ≤ m + n + k = omega (arith, h.nodes, j.nodes, l.nodes) in
-    let depth : max (max (max 0 (expr_depth a)) (expr_depth b)) (expr_depth c) ≤ d = omega (arith, h.depth, j.depth, l.depth) in
-    record { size = size; nodes = nodes; depth = depth; formed = λ i. h.formed i && (j.formed i && (l.formed i && true)); full = λ i. h.full i && (j.full i && (l.full i && true)) }
+pub and_fits : (a : Expr) (es : List Expr) (m n d k : ℕ) → Fits a m d → AllFit es n k → AllFit (a ∷ es) (m + n) (max d k)
+and_fits a es m n d k h j = record {
+  size = omega (arith, sum_by-cons expr_size a es, h.size, j.size);
+  nodes = omega (arith, sum_by-cons expr_nodes a es, h.nodes, j.nodes);
+  depth = omega (arith, largest_cons expr_depth a es, h.depth, j.depth);
+  formed = λ i. h.formed i && j.formed i;
+  full = λ i. h.full i && j.full i;
+}
 
 -- within greater bounds
 pub wider : (e : Expr) (m d n k : ℕ) → Fits e m d → m ≤ n → d ≤ k → Fits e n k
@@ -130,6 +138,20 @@ bytes_fit b h =
     let nodes : 1 ≤ length b + 3 = omega arith in
     let depth : 1 ≤ 1 = omega arith in
     fits (expr.Blob b) (Expr-F.Blob b) (length b + 3) 1 (expr.outs-Blob b) size nodes depth (le-leb (length b) 65535 h) refl
+
+pub text_fits : (s : List ℕ) → well_formed_text s ≡ true → Fits (expr.Str s) (length s + 3) 1
+text_fits s h =
+    let size : 3 + length s ≤ length s + 3 = omega arith in
+    let nodes : 1 ≤ length s + 3 = omega arith in
+    let depth : 1 ≤ 1 = omega arith in
+    fits (expr.Str s) (Expr-F.Str s) (length s + 3) 1 (expr.outs-Str s) size nodes depth h refl
+
+pub not_fits : (a : Expr) (m d : ℕ) → Fits a m d → Fits (expr.Not a) (m + 1) (d + 1)
+not_fits a m d h =
+    let size : 1 + expr_size a ≤ m + 1 = omega (arith, h.size) in
+    let nodes : 1 + expr_nodes a ≤ m + 1 = omega (arith, h.nodes) in
+    let depth : 1 + expr_depth a ≤ d + 1 = omega (arith, h.depth) in
+    fits (expr.Not a) (Expr-F.Not a) (m + 1) (d + 1) (expr.outs-Not a) size nodes depth h.formed h.full
 
 pub tuple_fits : (es : List Expr) (m d : ℕ) → has_from_to 2 8 es ≡ true → AllFit es m d → Fits (expr.Tuple es) (m + 2) (d + 1)
 tuple_fits es m d few h =

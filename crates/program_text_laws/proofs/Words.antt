@@ -19,13 +19,13 @@ use Rattle.plan_parser_exprs.specs.Begins.{kind_begins}
 use Rattle.plan_parser_exprs.specs.Nodes.{below_of, both, let_of}
 use Rattle.plan_parser_exprs.specs.Exprs.{typed_nil, brackets_behind, brackets, binding, bindings_from, let_form, raise_typed, raise_plain, raise_form, before_comma, before_close, fold_parts}
 use Rattle.plan_parser_exprs.specs.Exprs.{foldl_form, foldr_form, eval_form, send_parts, remote_form, neighbor_form, key_form, symbol_form, operand_kind, expr_to}
-use Rattle.top_laws.specs.PrintedTokens.{Kinds, type_kinds, expr_kinds}
-use Rattle.top_laws.specs.Proper.{IsProperType}
-use Rattle.top_laws.specs.Reads.{kinds_at, Took, IsNode, Ends}
-use Rattle.top_laws.proofs.Steps.{took, then_took, took_by, behind_is, symbol_is, key_is, take_symbol, take_key, take_name, take_open}
-use Rattle.top_laws.proofs.TypesRead.{type_takes}
-use Rattle.top_laws.proofs.Forms.{is_over, Measured, IsRead, nest, behind_one, level_took, ends_paren, operand_is}
-use Rattle.top_laws.proofs.Applied.{ends_comma, take_need_open, leaf_good}
+use Rattle.program_text_laws.specs.PrintedTokens.{Kinds, type_kinds, expr_kinds}
+use Rattle.program_text_laws.specs.Proper.{IsProperType}
+use Rattle.program_text_laws.specs.Reads.{kinds_at, Took, IsNode, Ends}
+use Rattle.program_text_laws.proofs.Steps.{took, then_took, took_by, behind_is, symbol_is, key_is, take_symbol, take_key, take_name, take_open}
+use Rattle.program_text_laws.proofs.TypesRead.{type_takes}
+use Rattle.program_text_laws.proofs.Forms.{is_over, Measured, IsRead, nest, behind_one, level_took, ends_paren, operand_is}
+use Rattle.program_text_laws.proofs.Applied.{ends_comma, take_need_open, leaf_good}
 
 pub ends_in : Ends (Some (kind.Key keys.In))
 ends_in = record { product = refl; sum = refl; cons = refl; comparison = refl; both = refl; either = refl; next = refl; call = refl }

@@ -21,13 +21,13 @@ use Rattle.plan_parser_exprs.specs.Ahead.{Front, Reader, behind, place, is_symbo
 use Rattle.plan_parser_exprs.specs.Begins.{simple_type, kind_type, begins_type}
 use Rattle.plan_parser_exprs.specs.Types.{type_or_fault, after_lists, is_list_word, list_words, behind_lists, lists_of, judged_type, tuple_type, group_type, base_type, whole_type, type_to}
 use Rattle.plan_printer_spec.specs.Pieces.{listed_pieces}
-use Rattle.top_laws.specs.Lexes.{kinds_of}
-use Rattle.top_laws.specs.PrintedTokens.{Kinds, mark, word, type_kinds_level, type_kinds}
-use Rattle.top_laws.specs.Proper.{base_key, IsProperType, AreProperTypes}
-use Rattle.top_laws.specs.Proper.{IsProperType as T, AreProperTypes as M}
-use Rattle.top_laws.proofs.TypeTokens.{type_kinds_out}
-use Rattle.top_laws.specs.Reads.{kinds_at, Took, first_kind, FollowsType}
-use Rattle.top_laws.proofs.Steps.{took, then_took, took_by, next_is, behind_is, symbol_is, take_symbol, take_open, AllRead, AllGood, more_took}
+use Rattle.program_text_laws.specs.Lexes.{kinds_of}
+use Rattle.program_text_laws.specs.PrintedTokens.{Kinds, mark, word, type_kinds_level, type_kinds}
+use Rattle.program_text_laws.specs.Proper.{base_key, IsProperType, AreProperTypes}
+use Rattle.program_text_laws.specs.Proper.{IsProperType as T, AreProperTypes as M}
+use Rattle.program_text_laws.proofs.KindsOut.{type_kinds_out}
+use Rattle.program_text_laws.specs.Reads.{kinds_at, Took, first_kind, FollowsType}
+use Rattle.program_text_laws.proofs.Steps.{took, then_took, took_by, next_is, behind_is, symbol_is, take_symbol, take_open, AllRead, AllGood, more_took}
 
 -- so many words `list`
 abbrev lists : ℕ → Kinds

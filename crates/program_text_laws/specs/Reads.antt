@@ -10,8 +10,8 @@ use Rattle.plan_parser_exprs.specs.declared.joint.Chain.TheVariants as chains
 use Rattle.plan_parser_exprs.specs.declared.node.Node.{Node}
 use Rattle.plan_parser_exprs.specs.Ahead.{Front, is_symbol_kind, is_key_kind}
 use Rattle.plan_parser_exprs.specs.Joints.{joint_of}
-use Rattle.top_laws.specs.Lexes.{kinds_of}
-use Rattle.top_laws.specs.PrintedTokens.{Kinds}
+use Rattle.program_text_laws.specs.Lexes.{kinds_of}
+use Rattle.program_text_laws.specs.PrintedTokens.{Kinds}
 
 -- the kinds of the tokens that are left
 abbrev pub kinds_at : Front → Kinds

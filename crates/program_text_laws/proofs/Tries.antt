@@ -17,11 +17,11 @@ use Rattle.plan_parser_exprs.specs.Ahead.{Front, behind, place, is_symbol}
 use Rattle.plan_parser_exprs.specs.Nodes.{all_at, below_of, both, below_all, clauses_of, bodies, try_of}
 use Rattle.plan_parser_exprs.specs.Exprs.{catch_at, clause_follows, clause, clauses_from, try_form, key_form, expr_to}
 use Rattle.plan_printer_spec.specs.Pieces.{listed_pieces}
-use Rattle.top_laws.specs.PrintedTokens.{Kinds, mark, catch_kinds, expr_kinds, clause_kinds}
-use Rattle.top_laws.specs.Reads.{kinds_at, Took, first_kind, IsNode, Ends}
-use Rattle.top_laws.proofs.Steps.{took, then_took, weaker, behind_is, symbol_is, take_symbol, take_key, take_name, take_open}
-use Rattle.top_laws.proofs.Forms.{is_over, Measured, IsRead, nest, behind_one, level_took}
-use Rattle.top_laws.proofs.Words.{ends_end, ends_handle, by_operand}
+use Rattle.program_text_laws.specs.PrintedTokens.{Kinds, mark, catch_kinds, expr_kinds, clause_kinds}
+use Rattle.program_text_laws.specs.Reads.{kinds_at, Took, first_kind, IsNode, Ends}
+use Rattle.program_text_laws.proofs.Steps.{took, then_took, weaker, behind_is, symbol_is, take_symbol, take_key, take_name, take_open}
+use Rattle.program_text_laws.proofs.Forms.{is_over, Measured, IsRead, nest, behind_one, level_took}
+use Rattle.program_text_laws.proofs.Words.{ends_end, ends_handle, by_operand}
 
 ends_bar : Ends (Some (kind.Symbol symbols.Bar))
 ends_bar = record { product = refl; sum = refl; cons = refl; comparison = refl; both = refl; either = refl; next = refl; call = refl }

@@ -22,11 +22,11 @@ use Rattle.plan_parser_exprs.specs.Joints.{joint_of, joined_tree}
 use Rattle.plan_parser_exprs.specs.Nodes.{over, below_of, both, joined_nodes}
 use Rattle.plan_parser_exprs.specs.Exprs.{operand_kind, operand, product, addition, listed_operands, compared_operands, comparison, negated_operand, conjunction, disjunction, whole, at_level, expr_to}
 use Rattle.plan_parser_exprs.specs.Exprs.{single, grouped_expression, parens_behind, parens, symbol_form}
-use Rattle.top_laws.specs.PrintedTokens.{Kinds, expr_kinds_level, clause_kinds, expr_kinds}
-use Rattle.top_laws.proofs.ExprTokens.{expr_kinds_out}
-use Rattle.top_laws.specs.Reads.{kinds_at, Took, first_kind, IsNode, Ends}
-use Rattle.top_laws.proofs.Steps.{took, then_took, took_by, weaker, next_is, behind_is, symbol_is, take_symbol, take_open}
-use Rattle.top_laws.proofs.Ladder.{Starts, two_are_joined, Joins, up_product, up_addition, up_listed, up_comparison, up_negated, up_conjunction, up_disjunction, up_low, up_whole, isnt_not, isnt_if, at_every_level}
+use Rattle.program_text_laws.specs.PrintedTokens.{Kinds, expr_kinds_level, clause_kinds, expr_kinds}
+use Rattle.program_text_laws.proofs.KindsOut.{expr_kinds_out}
+use Rattle.program_text_laws.specs.Reads.{kinds_at, Took, first_kind, IsNode, Ends}
+use Rattle.program_text_laws.proofs.Steps.{took, then_took, took_by, weaker, next_is, behind_is, symbol_is, take_symbol, take_open}
+use Rattle.program_text_laws.proofs.Ladder.{Starts, two_are_joined, Joins, up_product, up_addition, up_listed, up_comparison, up_negated, up_conjunction, up_disjunction, up_low, up_whole, isnt_not, isnt_if, at_every_level}
 
 -- ---- nodes
 

@@ -13,11 +13,11 @@ use Rattle.plan_parser_exprs.specs.Begins.{begins_type, begins_name}
 use Rattle.plan_parser.specs.declared.signature.Head.{Head}
 use Rattle.plan_parser.specs.Signatures.{outer_type, inner_type, arguments_from, arguments_behind, service_at, param_at, params_from, params_behind, head_at}
 use Rattle.plan_printer_spec.specs.Pieces.{listed_pieces}
-use Rattle.top_laws.specs.PrintedTokens.{Kinds, mark, type_kinds, param_kinds}
-use Rattle.top_laws.specs.Proper.{IsReadableType, IsProperParam, IsProperSvc, IsProperFun, AllProper}
-use Rattle.top_laws.specs.Reads.{kinds_at, Took, FollowsType}
-use Rattle.top_laws.proofs.Steps.{took, then_took, next_is, behind_is, symbol_is, take_symbol, take_name, AllRead, AllGood, more_took}
-use Rattle.top_laws.proofs.TypesRead.{type_takes, type_starts, same_type}
+use Rattle.program_text_laws.specs.PrintedTokens.{Kinds, mark, type_kinds, param_kinds}
+use Rattle.program_text_laws.specs.Proper.{IsReadableType, IsProperParam, IsProperSvc, IsProperFun, AllProper}
+use Rattle.program_text_laws.specs.Reads.{kinds_at, Took, FollowsType}
+use Rattle.program_text_laws.proofs.Steps.{took, then_took, next_is, behind_is, symbol_is, take_symbol, take_name, AllRead, AllGood, more_took}
+use Rattle.program_text_laws.proofs.TypesRead.{type_takes, type_starts, same_type}
 
 inner_took : (t : Ty) → IsReadableType t → (f : Front) (rest : Kinds) → kinds_at f ≡ type_kinds t ++ rest → FollowsType rest → Took (inner_type f) rest (λ u. u ≡ t)
 unfolding inner_type

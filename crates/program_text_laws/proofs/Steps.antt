@@ -15,9 +15,9 @@ use Rattle.plan_parser_exprs.specs.Codes.{key_code, symbol_code}
 use Rattle.plan_parser_exprs.specs.Ahead.{Front, Reader, ◌>>=◌, behind, kind_in, next_kind, is_symbol_kind, is_symbol, is_key_kind, is_key, need_symbol, need_key, name_kind, name_at}
 use Rattle.plan_parser_exprs.specs.Types.{opens, more}
 use Rattle.plan_printer_spec.specs.Pieces.{listed_pieces}
-use Rattle.top_laws.specs.Lexes.{kinds_of}
-use Rattle.top_laws.specs.Reads.{kinds_at, Took, first_kind}
-use Rattle.top_laws.specs.PrintedTokens.{Kinds, mark}
+use Rattle.program_text_laws.specs.Lexes.{kinds_of}
+use Rattle.program_text_laws.specs.Reads.{kinds_at, Took, first_kind}
+use Rattle.program_text_laws.specs.PrintedTokens.{Kinds, mark}
 
 pub took : {A : Type 0} {more : Kinds} {Q : A → Type 0} (a : A) (g : Front) → kinds_at g ≡ more → Q a → Took (Ok (a, g)) more Q
 took a g h q = record { value = a; rest = g; is = refl; left = h; good = q }

@@ -21,12 +21,12 @@ use Rattle.plan_parser_exprs.specs.Types.{more}
 use Rattle.plan_parser_exprs.specs.Nodes.{all_at, leaf, below_all, trees, over_list}
 use Rattle.plan_parser_exprs.specs.Exprs.{need_open, items_from, arguments_behind, arguments, call, name_operand, chunk, tuple, grouped_expression, parens_behind, parens, symbol_form, operand_kind, operand, expr_to}
 use Rattle.plan_printer_spec.specs.Pieces.{listed_pieces}
-use Rattle.top_laws.specs.PrintedTokens.{Kinds, mark, expr_kinds}
-use Rattle.top_laws.specs.Reads.{kinds_at, Took, first_kind, IsNode, Ends}
-use Rattle.top_laws.proofs.Steps.{took, then_took, took_by, weaker, behind_is, symbol_is, take_symbol, take_name, take_open, AllRead, AllGood, more_took}
-use Rattle.top_laws.proofs.Ladder.{Starts}
-use Rattle.top_laws.proofs.Forms.{is_over, Measured, IsRead, nest, behind_one, level_took, ends_paren, operand_is, starts_by, paren_starts, no_close}
-use Rattle.top_laws.proofs.Bracketing.{begins_starts}
+use Rattle.program_text_laws.specs.PrintedTokens.{Kinds, mark, expr_kinds}
+use Rattle.program_text_laws.specs.Reads.{kinds_at, Took, first_kind, IsNode, Ends}
+use Rattle.program_text_laws.proofs.Steps.{took, then_took, took_by, weaker, behind_is, symbol_is, take_symbol, take_name, take_open, AllRead, AllGood, more_took}
+use Rattle.program_text_laws.proofs.Ladder.{Starts}
+use Rattle.program_text_laws.proofs.Forms.{is_over, Measured, IsRead, nest, behind_one, level_took, ends_paren, operand_is, starts_by, paren_starts, no_close}
+use Rattle.program_text_laws.proofs.Bracketing.{begins_starts}
 
 pub ends_comma : Ends (Some (kind.Symbol symbols.Comma))
 ends_comma = record { product = refl; sum = refl; cons = refl; comparison = refl; both = refl; either = refl; next = refl; call = refl }

@@ -1,0 +1,5 @@
+pub mod Lexes
+pub mod Proper
+pub mod PrintedTokens
+pub mod Reads
+pub mod Written
