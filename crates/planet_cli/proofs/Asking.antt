@@ -8,8 +8,8 @@ use Rattle.fleet_run.specs.Asks.{Asks, ask_line, Bound, Sent}
 use Rattle.fleet_run.specs.declared.fault.AskFault.{AskFault}
 use Rattle.fleet_run.specs.declared.fault.AskFault.TheVariants as asks
 use Rattle.grow_run.specs.Pings.{OfGrown}
-use Rattle.exit_status.specs.declared.status.Cause.{Cause}
-use Rattle.exit_status.specs.declared.status.Cause.TheVariants.{Done, Usage, Refused, ReadFault, WriteFault, LinkFault, SpawnFault, NoMemory, NodesFailed}
+use Rattle.planet_commands.specs.declared.status.Cause.{Cause}
+use Rattle.planet_commands.specs.declared.status.Cause.TheVariants.{Done, Usage, Refused, ReadFault, WriteFault, LinkFault, SpawnFault, NoMemory, NodesFailed}
 use Rattle.planet_commands.specs.Said.{Said, nothing, outside, says}
 use Rattle.planet_commands.specs.Takes.{Untaken}
 use Rattle.planet_commands_run.specs.Grown.{GrowsAs}

@@ -11,8 +11,8 @@ use Rattle.ledger_audit.specs.Ledgers.{verdict_of}
 use Rattle.ledger_audit.proofs.VerdictLaws.{yes_fits, yes_sent}
 use Rattle.command_files.specs.declared.audit.AuditFile.{AuditFile}
 use Rattle.command_files.specs.AuditFiles.{audit_of}
-use Rattle.exit_status.specs.declared.status.Cause.{Cause}
-use Rattle.exit_status.specs.declared.status.Cause.TheVariants.{Done}
+use Rattle.planet_commands.specs.declared.status.Cause.{Cause}
+use Rattle.planet_commands.specs.declared.status.Cause.TheVariants.{Done}
 use Rattle.planet_commands.specs.Said.{says, lines_said, said_then}
 use Rattle.planet_commands.specs.Takes.{Untaken, TakeResult}
 use Rattle.planet_commands.specs.Renders.{Prints}

@@ -6,11 +6,11 @@ use Rattle.node_io.specs.FileStates.{FilesState}
 use Rattle.node_io.specs.Outsides.{Outside}
 use Rattle.node_io.specs.Sinks.{SinkState}
 use Rattle.node_io.proofs.SinkLaws.{prefix_none}
-use Rattle.exit_status.specs.Causes.{IfRefused}
+use Rattle.planet_commands.specs.Causes.{IfRefused}
 use Rattle.planet_commands.specs.Own.{IsOwn}
-use Rattle.exit_status.specs.declared.status.Cause.{Cause}
-use Rattle.exit_status.specs.declared.status.Cause.TheVariants.{Done, Usage, Refused, ReadFault, WriteFault, LinkFault, SpawnFault, NoMemory, NodesFailed}
-use Rattle.exit_status.specs.declared.status.Refusal.{Refusal}
+use Rattle.planet_commands.specs.declared.status.Cause.{Cause}
+use Rattle.planet_commands.specs.declared.status.Cause.TheVariants.{Done, Usage, Refused, ReadFault, WriteFault, LinkFault, SpawnFault, NoMemory, NodesFailed}
+use Rattle.planet_commands.specs.declared.status.Refusal.{Refusal}
 use Rattle.planet_commands.specs.Said.{Said, nothing, outside, says}
 use Rattle.planet_commands.specs.Takes.{Untaken}
 use Rattle.planet_commands.specs.Renders.{Prints}

@@ -19,9 +19,9 @@ use Rattle.fleet_run.specs.declared.reports.FleetEnd.TheVariants.{Well, Failed}
 use Rattle.node_serve.specs.Moments.{ServesFrom}
 use Rattle.node_serve.specs.declared.fault.ServeFault.{ServeFault}
 use Rattle.node_serve.specs.declared.fault.ServeFault.TheVariants as serves
-use Rattle.exit_status.specs.Causes.{WriteRose, Explains}
-use Rattle.exit_status.specs.declared.status.Cause.{Cause}
-use Rattle.exit_status.specs.declared.status.Cause.TheVariants.{Done, Usage, Refused, ReadFault, WriteFault, LinkFault, SpawnFault, NoMemory, NodesFailed}
+use Rattle.planet_commands.specs.Causes.{WriteRose, Explains}
+use Rattle.planet_commands.specs.declared.status.Cause.{Cause}
+use Rattle.planet_commands.specs.declared.status.Cause.TheVariants.{Done, Usage, Refused, ReadFault, WriteFault, LinkFault, SpawnFault, NoMemory, NodesFailed}
 use Rattle.planet_commands.specs.Said.{Said}
 use Rattle.planet_commands.specs.Takes.{Untaken}
 use Rattle.planet_commands.specs.Renders.{Prints}
@@ -34,7 +34,7 @@ use Rattle.planet_cli.specs.Kinds.{file_said}
 use Rattle.planet_cli.specs.Requests.{Request, on_file, inject, fleet, audit, node, grow}
 use Rattle.planet_cli.specs.Does.{Does, wire_in, shop_in, serving_in}
 use Rattle.planet_cli.specs.Calls.{Calls}
-use Rattle.exit_status.specs.Notes.{Notes, told, no_memory, failed}
+use Rattle.planet_commands.specs.Notes.{Notes, told, no_memory, failed}
 use Rattle.planet_cli.proofs.Views.{Took, took, left, view, text_view, audit_view}
 
 module _ (old new : Outside) (n m : SinkState) where

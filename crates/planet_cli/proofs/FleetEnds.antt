@@ -11,8 +11,8 @@ use Rattle.fleet_run.specs.declared.fault.FleetFault.TheVariants as fleets
 use Rattle.fleet_run.specs.declared.reports.FleetEnd.{FleetEnd}
 use Rattle.fleet_run.specs.declared.reports.FleetEnd.TheVariants.{Well, Failed}
 use Rattle.fleet_run.proofs.Prefixes.{prefix_written}
-use Rattle.exit_status.specs.declared.status.Cause.{Cause}
-use Rattle.exit_status.specs.declared.status.Cause.TheVariants.{SpawnFault}
+use Rattle.planet_commands.specs.declared.status.Cause.{Cause}
+use Rattle.planet_commands.specs.declared.status.Cause.TheVariants.{SpawnFault}
 use Rattle.planet_commands.specs.Said.{says}
 use Rattle.planet_commands.specs.Takes.{Untaken}
 use Rattle.planet_commands_fleet.specs.Fleets.{RunsAs, fleet_said, fleet_cause, Shop}

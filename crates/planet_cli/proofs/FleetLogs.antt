@@ -25,7 +25,7 @@ use Rattle.ledger_audit.specs.Spelling.{Begins, ReadsAgain}
 use Rattle.ledger_audit.specs.Crossings.{Crossing}
 use Rattle.ledger_audit.specs.Once.{EntriesFit, ComesFrom, FromTwo, HostsApart}
 use Rattle.ledger_audit.specs.Pasts.{logged_of}
-use Rattle.exit_status.specs.declared.status.Refusal.TheVariants.{TooLong, Log as OfLog}
+use Rattle.planet_commands.specs.declared.status.Refusal.TheVariants.{TooLong, Log as OfLog}
 use Rattle.planet_commands.specs.Said.{Said, nothing, outside, says, said_by, said_at, line_limit, lines_said, said_then}
 use Rattle.planet_commands_fleet.specs.Audits.{said_of, of_new_host, log_said, hosts_in, logs_said}
 use Rattle.planet_commands_fleet.proofs.FileTaking.{says_same}

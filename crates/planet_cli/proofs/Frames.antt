@@ -4,7 +4,7 @@ use Rattle.node_io.specs.FileMaps.{MayName}
 use Rattle.node_io.specs.FileStates.{FilesState}
 use Rattle.node_io.specs.Outsides.{Outside}
 use Rattle.node_io.specs.Sinks.{SinkState}
-use Rattle.exit_status.specs.declared.status.Cause.{Cause}
+use Rattle.planet_commands.specs.declared.status.Cause.{Cause}
 use Rattle.planet_commands.specs.Said.{Said, nothing, outside, says}
 use Rattle.network_config.specs.declared.serve.ServeConfig.{ServeConfig}
 use Rattle.planet_commands_fleet.specs.Asks.{AsksAs, ask_said}

@@ -4,13 +4,13 @@ use Rattle.node_io.specs.Causes.{HasRisen}
 use Rattle.node_io.specs.FileMaps.{FileMap}
 use Rattle.node_io.specs.Outsides.{Outside}
 use Rattle.node_io.specs.Sinks.{SinkState, Writes, FailsIn}
-use Rattle.exit_status.specs.Causes.{IfRefused, Gives}
+use Rattle.planet_commands.specs.Causes.{IfRefused, Gives}
 use Rattle.planet_commands.specs.Own.{IsOwn}
-use Rattle.exit_status.specs.Notes.{note_text, Notes, told, no_memory, failed}
-use Rattle.exit_status.specs.declared.status.Cause.{Cause}
-use Rattle.exit_status.specs.declared.status.Cause.TheVariants.{Done, Usage, Refused, ReadFault, WriteFault, LinkFault, SpawnFault, NoMemory, NodesFailed}
-use Rattle.exit_status.specs.declared.status.Refusal.{Refusal}
-use Rattle.exit_status.proofs.Telling.{notes_give}
+use Rattle.planet_commands.specs.Notes.{note_text, Notes, told, no_memory, failed}
+use Rattle.planet_commands.specs.declared.status.Cause.{Cause}
+use Rattle.planet_commands.specs.declared.status.Cause.TheVariants.{Done, Usage, Refused, ReadFault, WriteFault, LinkFault, SpawnFault, NoMemory, NodesFailed}
+use Rattle.planet_commands.specs.declared.status.Refusal.{Refusal}
+use Rattle.planet_commands.proofs.Telling.{notes_give}
 use Rattle.planet_cli.specs.Kinds.{file_said}
 use Rattle.planet_cli.specs.Requests.{Request, on_file, inject, fleet, audit, node, grow}
 use Rattle.fleet_run.specs.Asks.{ask_line}

@@ -3,9 +3,9 @@ use Rattle.std.proofs.Common.{◌≡◌, ◌⊎◌, inl, inr, ℕ, Option, Some,
 use Rattle.node_io.specs.Causes.{HasRisen}
 use Rattle.node_io.specs.Outsides.{Outside}
 use Rattle.node_io.specs.Sinks.{SinkState, Writes, FailsIn}
-use Rattle.exit_status.specs.Notes.{note_text, Notes, told, no_memory, failed}
-use Rattle.exit_status.specs.declared.status.Cause.{Cause}
-use Rattle.exit_status.specs.declared.status.Cause.TheVariants.{Done, WriteFault, NoMemory}
+use Rattle.planet_commands.specs.Notes.{note_text, Notes, told, no_memory, failed}
+use Rattle.planet_commands.specs.declared.status.Cause.{Cause}
+use Rattle.planet_commands.specs.declared.status.Cause.TheVariants.{Done, WriteFault, NoMemory}
 use Rattle.planet_cli.specs.Requests.{Request, grow}
 use Rattle.planet_cli.specs.Calls.{Calls}
 use Rattle.planet_cli.proofs.Asking.{grown_so}

@@ -6,8 +6,8 @@ use Rattle.node_io.specs.Outsides.{Outside}
 use Rattle.node_io.specs.Sinks.{SinkState, Writes}
 use Rattle.net_world_spec.specs.World.{opening}
 use Rattle.net_world_spec.specs.Texts.{run_text}
-use Rattle.exit_status.specs.declared.status.Cause.{Cause}
-use Rattle.exit_status.specs.declared.status.Cause.TheVariants.{Done}
+use Rattle.planet_commands.specs.declared.status.Cause.{Cause}
+use Rattle.planet_commands.specs.declared.status.Cause.TheVariants.{Done}
 use Rattle.planet_commands.specs.Said.{says, said_by, said_then}
 use Rattle.planet_commands_run.specs.Schedules.{log_trace}
 use Rattle.planet_commands_run.proofs.Logs.{replay_said_is, log_said}
@@ -16,7 +16,7 @@ use Rattle.command_files.specs.Texts.{cut_output}
 use Rattle.planet_commands_fleet.specs.Messages.{messages_text}
 use Rattle.planet_cli.specs.declared.kinds.Kind.TheVariants.{Replay, Cut, Gather}
 use Rattle.planet_cli.specs.Requests.{request_of}
-use Rattle.exit_status.specs.Notes.{Notes}
+use Rattle.planet_commands.specs.Notes.{Notes}
 use Rattle.planet_cli.specs.Does.{Does}
 use Rattle.planet_cli.specs.Calls.{Calls}
 use Rattle.planet_cli.specs.Replays.{Replays, ReplaysLog}

@@ -9,8 +9,8 @@ use Rattle.node_io.specs.Sinks.{SinkState}
 use Rattle.node_serve.specs.Desks.{Serving}
 use Rattle.node_serve.specs.declared.fault.ServeFault.{ServeFault}
 use Rattle.node_serve.specs.declared.fault.ServeFault.TheVariants as faults
-use Rattle.exit_status.specs.declared.status.Cause.{Cause}
-use Rattle.exit_status.specs.declared.status.Cause.TheVariants.{Done}
+use Rattle.planet_commands.specs.declared.status.Cause.{Cause}
+use Rattle.planet_commands.specs.declared.status.Cause.TheVariants.{Done}
 use Rattle.planet_commands.specs.Said.{says}
 use Rattle.planet_commands.specs.Takes.{Untaken}
 use Rattle.planet_commands_fleet.specs.Nodes.{ServesAs, config_said, serve_cause}

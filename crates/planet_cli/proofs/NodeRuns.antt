@@ -34,9 +34,9 @@ use Rattle.node_serve.specs.Served.{Served, Begun}
 use Rattle.node_serve.specs.Again.{ReadsAgain}
 use Rattle.node_serve.proofs.Again.{again}
 use Rattle.node_serve.proofs.Ending.{whole_agrees}
-use Rattle.exit_status.specs.declared.status.Cause.{Cause}
-use Rattle.exit_status.specs.declared.status.Cause.TheVariants.{Done, NoMemory}
-use Rattle.exit_status.specs.declared.status.Refusal.TheVariants.{TooLong}
+use Rattle.planet_commands.specs.declared.status.Cause.{Cause}
+use Rattle.planet_commands.specs.declared.status.Cause.TheVariants.{Done, NoMemory}
+use Rattle.planet_commands.specs.declared.status.Refusal.TheVariants.{TooLong}
 use Rattle.planet_commands.specs.Said.{Said, outside, says, said_by, said_within, said_at, line_limit}
 use Rattle.planet_commands_run.specs.Keeping.{KeepsNodeRun, node_at}
 use Rattle.node_log.specs.Nodes.{log_node}

@@ -21,8 +21,8 @@ use Rattle.node_serve.specs.Served.{Served, AgreesEarly, Begun, Ends, run_in}
 use Rattle.node_serve.specs.Moments.{booted_config, Asks, ServesFrom}
 use Rattle.node_serve.specs.declared.fault.ServeFault.{ServeFault}
 use Rattle.node_serve.specs.declared.fault.ServeFault.TheVariants as faults
-use Rattle.exit_status.specs.declared.status.Cause.{Cause}
-use Rattle.exit_status.specs.declared.status.Cause.TheVariants.{Done, WriteFault, LinkFault, NoMemory}
+use Rattle.planet_commands.specs.declared.status.Cause.{Cause}
+use Rattle.planet_commands.specs.declared.status.Cause.TheVariants.{Done, WriteFault, LinkFault, NoMemory}
 use Rattle.planet_commands.specs.Said.{Said, nothing, outside, says}
 use Rattle.planet_commands.specs.Takes.{Untaken}
 use Rattle.planet_commands_fleet.specs.Asks.{AsksAs, ask_said}

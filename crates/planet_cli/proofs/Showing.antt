@@ -4,8 +4,8 @@ use Rattle.node_io.specs.Outsides.{Outside}
 use Rattle.node_io.specs.Sinks.{SinkState, Writes}
 use Rattle.packet_frame.specs.declared.frame.PlainStamped.{PlainStamped}
 use Rattle.packet_frame_text.specs.Frames.{frame_text}
-use Rattle.exit_status.specs.declared.status.Cause.{Cause}
-use Rattle.exit_status.specs.declared.status.Cause.TheVariants.{Done}
+use Rattle.planet_commands.specs.declared.status.Cause.{Cause}
+use Rattle.planet_commands.specs.declared.status.Cause.TheVariants.{Done}
 use Rattle.planet_commands.specs.Said.{Said, nothing, outside, says, IsSaid}
 use Rattle.planet_commands.specs.Shows.{show_said, HoldsFrame}
 use Rattle.planet_commands.proofs.Showing.{frame_shown, frame_is_found}

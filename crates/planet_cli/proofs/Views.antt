@@ -3,7 +3,7 @@ use Rattle.std.proofs.Common.{◌≡◌, ℕ, IsTrue, List, Result, Ok, Err, Mat
 use Rattle.node_io.specs.FileMaps.{FileMap}
 use Rattle.node_io.specs.FileStates.{FilesState}
 use Rattle.node_io.specs.Sinks.{SinkState}
-use Rattle.exit_status.specs.declared.status.Cause.{Cause}
+use Rattle.planet_commands.specs.declared.status.Cause.{Cause}
 use Rattle.planet_commands.specs.Said.{Said, says, said_in, all_of}
 use Rattle.planet_commands.specs.Takes.{Untaken, TakeResult, Takes, TakesAndActs}
 use Rattle.planet_commands.specs.Renders.{Prints, RendersBy}

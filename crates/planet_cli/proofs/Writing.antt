@@ -3,9 +3,9 @@ use Rattle.std.proofs.Common.{◌≡◌, ℕ, IsTrue, Bool, true, false, cond, n
 use Rattle.node_io.specs.FileMaps.{file_at}
 use Rattle.node_io.specs.Outsides.{Outside}
 use Rattle.node_io.specs.Sinks.{SinkState, Writes}
-use Rattle.exit_status.specs.declared.status.Cause.{Cause}
-use Rattle.exit_status.specs.declared.status.Cause.TheVariants.{Done}
-use Rattle.exit_status.specs.declared.status.Refusal.TheVariants.{TooLong}
+use Rattle.planet_commands.specs.declared.status.Cause.{Cause}
+use Rattle.planet_commands.specs.declared.status.Cause.TheVariants.{Done}
+use Rattle.planet_commands.specs.declared.status.Refusal.TheVariants.{TooLong}
 use Rattle.planet_commands.specs.Said.{Said, outside, says, said_at}
 use Rattle.planet_cli.specs.declared.kinds.Kind.{Kind}
 use Rattle.planet_cli.specs.Kinds.{limit_of, text_said}

@@ -2,8 +2,8 @@
 use Rattle.std.specs.Prelude.{Option}
 use Rattle.node_io.specs.Outsides.{Outside}
 use Rattle.node_io.specs.Sinks.{SinkState}
-use Rattle.exit_status.specs.Notes.{Notes}
-use Rattle.exit_status.specs.declared.status.Cause.{Cause}
+use Rattle.planet_commands.specs.Notes.{Notes}
+use Rattle.planet_commands.specs.declared.status.Cause.{Cause}
 use Rattle.planet_cli.specs.Requests.{Request}
 use Rattle.planet_cli.specs.Does.{Does}
 

@@ -2,8 +2,8 @@
 use Rattle.std.specs.Prelude.{◌≡◌, Option, Some, None}
 use Rattle.node_io.specs.Outsides.{Outside}
 use Rattle.node_serve.specs.Desks.{Serving}
-use Rattle.exit_status.specs.declared.status.Cause.{Cause}
-use Rattle.exit_status.specs.declared.status.Cause.TheVariants.{Usage}
+use Rattle.planet_commands.specs.declared.status.Cause.{Cause}
+use Rattle.planet_commands.specs.declared.status.Cause.TheVariants.{Usage}
 use Rattle.planet_commands.specs.Said.{all_of, said_in}
 use Rattle.planet_commands.specs.Takes.{TakesAndActs}
 use Rattle.planet_commands.specs.Renders.{RendersBy}

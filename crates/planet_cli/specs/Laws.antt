@@ -15,8 +15,8 @@ use Rattle.fleet_run.specs.declared.reports.FleetEnd.{FleetEnd}
 use Rattle.fleet_run.specs.declared.reports.FleetEnd.TheVariants.{Well, Failed}
 use Rattle.node_serve.specs.Desks.{Serving}
 use Rattle.node_serve.specs.Served.{Served, Begun}
-use Rattle.exit_status.specs.declared.status.Cause.{Cause}
-use Rattle.exit_status.specs.declared.status.Cause.TheVariants.{Done, NodesFailed}
+use Rattle.planet_commands.specs.declared.status.Cause.{Cause}
+use Rattle.planet_commands.specs.declared.status.Cause.TheVariants.{Done, NodesFailed}
 use Rattle.planet_commands.specs.Said.{Said, nothing, outside, says}
 use Rattle.planet_commands_fleet.specs.Audits.{MayNames}
 use Rattle.planet_commands_fleet.specs.Nodes.{config_said, own_node, begun_config, begun_with}

@@ -3,7 +3,7 @@ use Rattle.std.specs.Prelude.{ℕ, ◌≡◌, List, Option, Some, None}
 use Rattle.node_io.specs.FileMaps.{FileMap}
 use Rattle.node_io.specs.Sinks.{SinkState, Writes, WritesPrefix}
 use Rattle.fleet_run.specs.Asks.{ask_line}
-use Rattle.exit_status.specs.declared.status.Refusal.{Refusal}
+use Rattle.planet_commands.specs.declared.status.Refusal.{Refusal}
 use Rattle.planet_commands.specs.Said.{Said, nothing, outside, says}
 use Rattle.planet_commands_fleet.specs.Audits.{audit_said}
 use Rattle.planet_commands_fleet.specs.Asks.{ask_said}

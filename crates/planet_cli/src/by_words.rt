@@ -5,9 +5,9 @@ ghost use Rattle.planet_cli.specs.Does.{Does};
 
 use crate::kinds::on_kind;
 use crate::words::{Command, read_words};
-use exit_status::Cause;
 use node_io::{Clock, Files, Link, Sink, Spawner};
 use plan_base::Texts;
+use planet_commands::Cause;
 use planet_commands_fleet::{on_ask, on_audit, on_fleet, on_node};
 use planet_commands_run::on_seed;
 use std::alloc::Global;

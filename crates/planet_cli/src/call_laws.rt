@@ -3,11 +3,11 @@ ghost use Rattle.std.specs.Prelude.{◌≡◌, ◌⊎◌, IsTrue, Option, None, 
 ghost use Rattle.node_io.specs.Causes.{HasRisen};
 ghost use Rattle.node_io.specs.Outsides.{Outside};
 ghost use Rattle.node_io.specs.Sinks.{SinkState, Writes, FailsIn};
-ghost use Rattle.exit_status.specs.Causes.{IfRefused, Gives, WriteRose, Explains};
+ghost use Rattle.planet_commands.specs.Causes.{IfRefused, Gives, WriteRose, Explains};
 ghost use Rattle.planet_commands.specs.Own.{IsOwn};
-ghost use Rattle.exit_status.specs.Notes.{note_text};
-ghost use Rattle.exit_status.specs.declared.status.Cause.{Cause as Why};
-ghost use Rattle.exit_status.specs.declared.status.Refusal.{Refusal as Reason};
+ghost use Rattle.planet_commands.specs.Notes.{note_text};
+ghost use Rattle.planet_commands.specs.declared.status.Cause.{Cause as Why};
+ghost use Rattle.planet_commands.specs.declared.status.Refusal.{Refusal as Reason};
 ghost use Rattle.planet_cli.specs.Requests.{Request, grow, fleet};
 ghost use Rattle.planet_cli.specs.Calls.{Calls};
 ghost use Rattle.planet_cli.specs.Outcomes.{refused, outcome_of, IsWhole, IsAccepted, WritesOut, BeginsOut};
@@ -17,7 +17,7 @@ ghost use Rattle.planet_commands.specs.Said.{says};
 ghost use Rattle.planet_commands_fleet.specs.Fleets.{fleet_said};
 ghost use Rattle.planet_cli.specs.Fleets.{Unstarted, Unwaited, WritesLines};
 
-use exit_status::Cause;
+use planet_commands::Cause;
 
 /// A fault comes only where its count rose in this call.
 pub fn explained()

@@ -16,7 +16,7 @@ ghost use Rattle.node_core_spec.specs.State.{NodeState};
 ghost use Rattle.net_world_spec.specs.World.{opening};
 ghost use Rattle.net_world_spec.specs.Texts.{run_text};
 ghost use Rattle.grow_run.specs.Pings.{OfGrown};
-ghost use Rattle.exit_status.specs.declared.status.Cause.{Cause as Why};
+ghost use Rattle.planet_commands.specs.declared.status.Cause.{Cause as Why};
 ghost use Rattle.planet_commands.specs.Said.{says, IsSaid};
 ghost use Rattle.planet_commands.specs.Checks.{sizes_text};
 ghost use Rattle.planet_commands.specs.Shows.{show_said, HoldsFrame};
@@ -60,8 +60,8 @@ ghost use Rattle.node_log.specs.Nodes.{log_node};
 ghost use Rattle.planet_cli.specs.Runs.{first_node, made_run, KeepsOrder, KeepsServing, AgreesServing, KeepsUpTo, ReplaysSo};
 
 use crate::kinds::Kind;
-use exit_status::Cause;
 use frag_chunks::messages_are_gathered;
+use planet_commands::Cause;
 
 /// A replay that is done wrote the run of its schedule.
 pub fn replayed()

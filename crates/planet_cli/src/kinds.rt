@@ -5,10 +5,9 @@ ghost use Rattle.planet_commands.specs.Takes.{TakesAndActs};
 ghost use Rattle.planet_commands.specs.Renders.{RendersBy};
 ghost use Rattle.planet_cli.specs.Kinds.{kind_named, limit_of, text_said};
 
-use exit_status::Cause;
 use line_reader::is;
 use node_io::{Files, Sink};
-use planet_commands::{Check, Show, on_file};
+use planet_commands::{Cause, Check, Show, on_file};
 use planet_commands_fleet::{Cut, Gather};
 use planet_commands_port::Port;
 use planet_commands_run::Replay;

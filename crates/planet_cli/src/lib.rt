@@ -23,7 +23,7 @@ pub use command_laws::{
     replays_are_whole, runs_are_ordered, served, served_agrees, served_keeps, serves, shown,
     shown_only, shown_whole, unbound, waited,
 };
-pub use exit_status::{Cause, Refusal, Status};
 pub use kinds::Kind;
+pub use planet_commands::{Cause, Refusal, Status};
 pub use top::planet;
 pub use words::{Command, read_words};

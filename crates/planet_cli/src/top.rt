@@ -6,16 +6,16 @@ ghost use Rattle.node_io.specs.Sinks.{Writes};
 ghost use Rattle.net_world_spec.specs.World.{opening};
 ghost use Rattle.net_world_spec.specs.Texts.{run_text};
 ghost use Rattle.net_world.specs.Keeping.{KeepsRun};
-ghost use Rattle.exit_status.specs.Causes.{code_of};
+ghost use Rattle.planet_commands.specs.Causes.{code_of};
 ghost use Rattle.planet_cli.specs.Requests.{request_of};
 ghost use Rattle.planet_cli.specs.Calls.{Calls};
 ghost use Rattle.planet_cli.specs.Replays.{Replays};
 ghost use Rattle.schedule_text.specs.Schedules.{schedule_of};
 
 use crate::by_words::run;
-use exit_status::{Cause, Status, settle};
 use node_io::{Clock, Files, Link, Sink, Spawner};
 use plan_base::Texts;
+use planet_commands::{Cause, Status, settle};
 use std::alloc::Global;
 
 fn exit_code(cause: &Cause) -> u8

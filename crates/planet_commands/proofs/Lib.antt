@@ -3,3 +3,4 @@ pub mod Taking
 pub mod Rendering
 pub mod ShowLemmas
 pub mod Showing
+pub mod Telling

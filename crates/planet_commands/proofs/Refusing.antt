@@ -4,10 +4,10 @@ use Rattle.line_reader.specs.declared.fault.LineFault.{LineFault}
 use Rattle.line_reader.specs.declared.fault.LineFault.TheVariants as faults
 use Rattle.packet_frame.specs.Decoding.{read_by}
 use Rattle.file_laws.specs.Refusals.{FaultHolds}
-use Rattle.exit_status.specs.Causes.{cause_of}
-use Rattle.exit_status.specs.declared.status.Refusal.TheVariants.{Line}
-use Rattle.exit_status.specs.declared.status.Cause.{Cause}
-use Rattle.exit_status.specs.declared.status.Cause.TheVariants.{Done, Usage, Refused, ReadFault, WriteFault, LinkFault, SpawnFault, NoMemory, NodesFailed}
+use Rattle.planet_commands.specs.Causes.{cause_of}
+use Rattle.planet_commands.specs.declared.status.Refusal.TheVariants.{Line}
+use Rattle.planet_commands.specs.declared.status.Cause.{Cause}
+use Rattle.planet_commands.specs.declared.status.Cause.TheVariants.{Done, Usage, Refused, ReadFault, WriteFault, LinkFault, SpawnFault, NoMemory, NodesFailed}
 use Rattle.planet_commands.specs.Said.{Said, outside, said_by, said_then}
 use Rattle.planet_commands.specs.Takes.{Refuses}
 use Rattle.planet_commands.specs.Shows.{version_shown, framed_said, decoded_said}

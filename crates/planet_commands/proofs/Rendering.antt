@@ -2,8 +2,8 @@
 use Rattle.std.proofs.Common.{◌≡◌, ℕ, List, Result, Ok, Err, MatchResult, refl, sym, ap, subst, inl, inr}
 use Rattle.node_io.specs.FileStates.{FilesState}
 use Rattle.node_io.specs.Sinks.{SinkState}
-use Rattle.exit_status.specs.declared.status.Cause.{Cause}
-use Rattle.exit_status.specs.declared.status.Cause.TheVariants.{Done, Usage, Refused, ReadFault, WriteFault, LinkFault, SpawnFault, NoMemory, NodesFailed}
+use Rattle.planet_commands.specs.declared.status.Cause.{Cause}
+use Rattle.planet_commands.specs.declared.status.Cause.TheVariants.{Done, Usage, Refused, ReadFault, WriteFault, LinkFault, SpawnFault, NoMemory, NodesFailed}
 use Rattle.planet_commands.specs.Said.{Said, nothing, outside, says, said_in, said_then, all_of, SaysOf}
 use Rattle.planet_commands.specs.Takes.{Refuses, Takes, TakesAndActs}
 use Rattle.planet_commands.specs.Renders.{Prints, Renders, RendersBy}

@@ -14,10 +14,10 @@ use Rattle.packet_frame.proofs.OneAnswer.{first_is}
 use Rattle.packet_frame.proofs.Versions.{refused_by_two}
 use Rattle.file_laws.specs.FrameRefusals.{HoldsNoMemory}
 use Rattle.file_laws.proofs.WholeFrames.{frame_own, stamped_own}
-use Rattle.exit_status.specs.Causes.{frame_cause}
-use Rattle.exit_status.specs.declared.status.Cause.{Cause}
-use Rattle.exit_status.specs.declared.status.Cause.TheVariants.{Refused}
-use Rattle.exit_status.specs.declared.status.Refusal.TheVariants.{Frame}
+use Rattle.planet_commands.specs.Causes.{frame_cause}
+use Rattle.planet_commands.specs.declared.status.Cause.{Cause}
+use Rattle.planet_commands.specs.declared.status.Cause.TheVariants.{Refused}
+use Rattle.planet_commands.specs.declared.status.Refusal.TheVariants.{Frame}
 use Rattle.planet_commands.specs.Said.{Said, outside}
 use Rattle.planet_commands.specs.Takes.{Refuses}
 use Rattle.planet_commands.specs.Shows.{without_feed, framed_said}

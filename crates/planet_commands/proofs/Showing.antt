@@ -11,7 +11,7 @@ use Rattle.packet_frame.specs.Stamped.{AcceptsBy}
 use Rattle.packet_frame_text.specs.Frames.{frame_text}
 use Rattle.packet_frame.specs.Decoding.{read_by}
 use Rattle.packet_frame.proofs.Versions.{accepted_by, found_by}
-use Rattle.exit_status.specs.declared.status.Refusal.TheVariants.{TooLong}
+use Rattle.planet_commands.specs.declared.status.Refusal.TheVariants.{TooLong}
 use Rattle.planet_commands.specs.Said.{Said, outside, says, said_at, IsSaid}
 use Rattle.planet_commands.specs.Shows.{frame_limit, without_feed, version_shown, bytes_said, framed_said, decoded_said, frame_said, show_said, HoldsFrame}
 use Rattle.planet_commands.proofs.ShowLemmas.{short_hex}

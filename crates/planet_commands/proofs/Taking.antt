@@ -2,9 +2,9 @@
 use Rattle.std.proofs.Common.{◌≡◌, ℕ, List, length, Option, Some, None, Result, Ok, Err, Bool, true, false, nat_lt, if◌then◌else◌, ap, ◌∙◌}
 use Rattle.node_io.specs.FileMaps.{file_at}
 use Rattle.node_io.specs.FileStates.{FilesState}
-use Rattle.exit_status.specs.declared.status.Refusal.{Refusal}
-use Rattle.exit_status.specs.declared.status.Cause.{Cause}
-use Rattle.exit_status.specs.declared.status.Cause.TheVariants.{Done, Usage, Refused, ReadFault, WriteFault, LinkFault, SpawnFault, NoMemory, NodesFailed}
+use Rattle.planet_commands.specs.declared.status.Refusal.{Refusal}
+use Rattle.planet_commands.specs.declared.status.Cause.{Cause}
+use Rattle.planet_commands.specs.declared.status.Cause.TheVariants.{Done, Usage, Refused, ReadFault, WriteFault, LinkFault, SpawnFault, NoMemory, NodesFailed}
 use Rattle.planet_commands.specs.Said.{Said, outside, says, said_at, said_in, all_of}
 use Rattle.planet_commands.specs.Takes.{Refuses, Reads, Takes}
 

@@ -7,7 +7,7 @@ use Rattle.plan_base.specs.Sizes.{program_nodes, code_size}
 use Rattle.program_text.specs.declared.fault.TextFault.{TextFault}
 use Rattle.program_text.specs.Texts.{program_of}
 use Rattle.program_text.specs.Reasons.{fault_byte}
-use Rattle.exit_status.specs.declared.status.Refusal.TheVariants.{At}
+use Rattle.planet_commands.specs.declared.status.Refusal.TheVariants.{At}
 use Rattle.planet_commands.specs.Said.{Said, outside, says}
 
 -- the most bytes of a program's text

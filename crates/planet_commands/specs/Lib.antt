@@ -4,3 +4,5 @@ pub mod Takes
 pub mod Renders
 pub mod Checks
 pub mod Shows
+pub mod Causes
+pub mod Notes

@@ -1,6 +1,6 @@
 -- Refusals that are for a reason of the file's own: none is `NoMemory`, or holds it.
-use Rattle.exit_status.specs.declared.status.Refusal.{Refusal}
-use Rattle.exit_status.specs.declared.status.Refusal.TheVariants.{Line, At, Frame, BadHex, TooLong, Log, LogTooLong}
+use Rattle.planet_commands.specs.declared.status.Refusal.{Refusal}
+use Rattle.planet_commands.specs.declared.status.Refusal.TheVariants.{Line, At, Frame, BadHex, TooLong, Log, LogTooLong}
 use Rattle.file_laws.specs.ProgramRefusals as texts
 use Rattle.file_laws.specs.FrameRefusals as frames
 use Rattle.file_laws.specs.Refusals.{ReasonHolds}

@@ -11,7 +11,7 @@ use Rattle.packet_frame.specs.Stamped.{AcceptsBy}
 use Rattle.packet_frame_text.specs.Frames.{frame_text}
 use Rattle.packet_frame.specs.Decoding.{read_by}
 use Rattle.node_io.specs.FileMaps.{FileMap, file_at}
-use Rattle.exit_status.specs.declared.status.Refusal.TheVariants.{Frame, BadHex}
+use Rattle.planet_commands.specs.declared.status.Refusal.TheVariants.{Frame, BadHex}
 use Rattle.planet_commands.specs.Said.{Said, outside, says, said_in, said_then}
 
 -- the most bytes of a frame in hex

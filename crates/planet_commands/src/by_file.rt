@@ -5,7 +5,7 @@ ghost use Rattle.planet_commands.specs.Renders.{RendersBy};
 
 use crate::command::FileCommand;
 use crate::lines::bytes_of;
-use exit_status::Cause;
+use crate::status::Cause;
 use node_io::{Files, Sink};
 use std::alloc::Global;
 

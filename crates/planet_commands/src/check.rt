@@ -7,7 +7,7 @@ ghost use Rattle.planet_commands.specs.Takes.{Refuses};
 ghost use Rattle.planet_commands.specs.Checks.{program_limit, program_said, sizes_text};
 
 use crate::command::{FileCommand, print};
-use exit_status::Cause;
+use crate::status::Cause;
 use node_io::Sink;
 use plan_base::Program;
 use plan_base_size::{CountsNodes, code_size};

@@ -3,7 +3,7 @@ ghost use Rattle.std.specs.Prelude.{◌≡◌, ◌^◌, ◌<◌, ◌≤◌, List
 ghost use Rattle.planet_commands.specs.Said.{Said};
 ghost use Rattle.planet_commands.specs.Renders.{Prints, Renders};
 
-use exit_status::Cause;
+use crate::status::Cause;
 use node_io::{Sink, put_all};
 use std::alloc::Global;
 

@@ -5,8 +5,8 @@ ghost use Rattle.file_laws.specs.Refusals.{FaultHolds};
 ghost use Rattle.planet_commands.specs.Said.{all_of, said_by, said_in, lines_said};
 ghost use Rattle.planet_commands.specs.Takes.{Reads, Takes};
 
+use crate::status::{Cause, Refusal};
 use command_files::{AuditFile, CutFile, PortFile, read_audit, read_cut, read_port};
-use exit_status::{Cause, Refusal};
 use line_reader::LineFault;
 use network_config::{AskFile, Fleet, Log, ServeConfig};
 use node_files::{read_ask, read_config, read_fleet, read_log};

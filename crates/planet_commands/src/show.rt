@@ -9,7 +9,7 @@ ghost use Rattle.planet_commands.specs.Takes.{Refuses, Reads};
 ghost use Rattle.planet_commands.specs.Shows.{frame_limit, without_feed, bytes_said, version_shown, framed_said, frame_said};
 
 use crate::command::{FileCommand, print};
-use exit_status::{Cause, Refusal};
+use crate::status::{Cause, Refusal};
 use hex::FromHexError;
 use node_io::Sink;
 use packet_frame::{Stamped, get_frame, get_frame2};

@@ -18,8 +18,8 @@ use Rattle.ledger_audit.specs.Pasts.{IsReckoned, IsReckoning, logged_of}
 use Rattle.ledger_audit.specs.Ledgers.{hosts_of, verdict_of}
 use Rattle.ledger_audit.specs.Texts.{audit_text}
 use Rattle.ledger_audit.proofs.VerdictLaws.{hosts_are}
-use Rattle.exit_status.specs.declared.status.Cause.{Cause}
-use Rattle.exit_status.specs.declared.status.Cause.TheVariants.{Done, Usage, Refused, ReadFault, WriteFault, LinkFault, SpawnFault, NoMemory, NodesFailed}
+use Rattle.planet_commands.specs.declared.status.Cause.{Cause}
+use Rattle.planet_commands.specs.declared.status.Cause.TheVariants.{Done, Usage, Refused, ReadFault, WriteFault, LinkFault, SpawnFault, NoMemory, NodesFailed}
 use Rattle.planet_commands.specs.Said.{Said, nothing, outside, says, lines_said, said_then}
 use Rattle.planet_commands.specs.Takes.{Untaken, TakeResult, Takes}
 use Rattle.planet_commands.specs.Renders.{Prints}

@@ -7,10 +7,10 @@ use Rattle.line_reader.specs.declared.fault.LineReason.TheVariants.{TwiceNamed}
 use Rattle.node_io.specs.FileMaps.{FileMap}
 use Rattle.node_io.specs.FileStates.{FilesState}
 use Rattle.planet_commands.specs.Own.{IsOwn}
-use Rattle.exit_status.specs.declared.status.Cause.{Cause}
-use Rattle.exit_status.specs.declared.status.Cause.TheVariants.{Done, Usage, Refused, ReadFault, WriteFault, LinkFault, SpawnFault, NoMemory, NodesFailed}
-use Rattle.exit_status.specs.declared.status.Refusal.{Refusal}
-use Rattle.exit_status.specs.declared.status.Refusal.TheVariants.{Line, At, Frame, BadHex, TooLong, Log as OfLog, LogTooLong}
+use Rattle.planet_commands.specs.declared.status.Cause.{Cause}
+use Rattle.planet_commands.specs.declared.status.Cause.TheVariants.{Done, Usage, Refused, ReadFault, WriteFault, LinkFault, SpawnFault, NoMemory, NodesFailed}
+use Rattle.planet_commands.specs.declared.status.Refusal.{Refusal}
+use Rattle.planet_commands.specs.declared.status.Refusal.TheVariants.{Line, At, Frame, BadHex, TooLong, Log as OfLog, LogTooLong}
 use Rattle.planet_commands.specs.Said.{Said, outside, says, said_then}
 use Rattle.planet_commands.specs.Takes.{Untaken, Takes}
 use Rattle.planet_commands_fleet.specs.Audits.{refusal_of, cause_of, said_of, of_new_host}

@@ -8,8 +8,8 @@ use Rattle.node_io.specs.Sinks.{SinkState}
 use Rattle.fleet_run.specs.Asks.{Asks}
 use Rattle.fleet_run.specs.declared.fault.AskFault.{AskFault}
 use Rattle.fleet_run.specs.declared.fault.AskFault.TheVariants.{LinkFault, WriteFault, NoMemory}
-use Rattle.exit_status.specs.declared.status.Cause.{Cause}
-use Rattle.exit_status.specs.declared.status.Cause.TheVariants as causes
+use Rattle.planet_commands.specs.declared.status.Cause.{Cause}
+use Rattle.planet_commands.specs.declared.status.Cause.TheVariants as causes
 use Rattle.planet_commands.specs.Said.{Said, lines_said}
 
 -- what the file of this name says to `inject`

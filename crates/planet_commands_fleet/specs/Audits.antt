@@ -17,10 +17,10 @@ use Rattle.ledger_audit.specs.declared.reckoning.AuditState.{AuditState}
 use Rattle.ledger_audit.specs.Pasts.{IsReckoned, logged_of}
 use Rattle.ledger_audit.specs.Ledgers.{verdict_of}
 use Rattle.ledger_audit.specs.Texts.{audit_text}
-use Rattle.exit_status.specs.declared.status.Cause.{Cause}
-use Rattle.exit_status.specs.declared.status.Cause.TheVariants.{Refused}
-use Rattle.exit_status.specs.declared.status.Refusal.{Refusal}
-use Rattle.exit_status.specs.declared.status.Refusal.TheVariants.{Line, TooLong, Log as OfLog, LogTooLong}
+use Rattle.planet_commands.specs.declared.status.Cause.{Cause}
+use Rattle.planet_commands.specs.declared.status.Cause.TheVariants.{Refused}
+use Rattle.planet_commands.specs.declared.status.Refusal.{Refusal}
+use Rattle.planet_commands.specs.declared.status.Refusal.TheVariants.{Line, TooLong, Log as OfLog, LogTooLong}
 use Rattle.planet_commands.specs.Said.{Said, nothing, outside, says, lines_said, said_then}
 use Rattle.planet_commands.specs.Takes.{Untaken, TakeResult}
 use Rattle.planet_commands.specs.Renders.{Prints}

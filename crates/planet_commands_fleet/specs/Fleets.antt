@@ -10,8 +10,8 @@ use Rattle.fleet_run.specs.declared.fault.FleetFault.{FleetFault}
 use Rattle.fleet_run.specs.declared.fault.FleetFault.TheVariants.{StartFault, WaitFault, WriteFault, NoMemory}
 use Rattle.fleet_run.specs.declared.reports.FleetEnd.{FleetEnd}
 use Rattle.fleet_run.specs.declared.reports.FleetEnd.TheVariants.{Well, Failed}
-use Rattle.exit_status.specs.declared.status.Cause.{Cause}
-use Rattle.exit_status.specs.declared.status.Cause.TheVariants as causes
+use Rattle.planet_commands.specs.declared.status.Cause.{Cause}
+use Rattle.planet_commands.specs.declared.status.Cause.TheVariants as causes
 use Rattle.planet_commands.specs.Said.{Said, lines_said}
 
 -- what the file of this name says to `fleet`

@@ -14,8 +14,8 @@ use Rattle.node_serve.specs.Desks.{Serving}
 use Rattle.node_serve.specs.Moments.{booted_config, ServesFrom}
 use Rattle.node_serve.specs.declared.fault.ServeFault.{ServeFault}
 use Rattle.node_serve.specs.declared.fault.ServeFault.TheVariants.{LinkFault, WriteFault, NoMemory}
-use Rattle.exit_status.specs.declared.status.Cause.{Cause}
-use Rattle.exit_status.specs.declared.status.Cause.TheVariants as causes
+use Rattle.planet_commands.specs.declared.status.Cause.{Cause}
+use Rattle.planet_commands.specs.declared.status.Cause.TheVariants as causes
 use Rattle.planet_commands.specs.Said.{Said, lines_said}
 use Rattle.planet_commands.specs.Takes.{TakesAndActs}
 

@@ -11,11 +11,10 @@ ghost use Rattle.planet_commands_fleet.specs.Audits.{AuditsFile, AuditsRead, Tak
 
 use crate::logs::reckon_logs;
 use command_files::AuditFile;
-use exit_status::Cause;
 use ledger_audit::{AuditState, judge, verdict_text};
 use node_io::{Files, Sink};
 use plan_base::{Bytes, NoMemory};
-use planet_commands::{print, value_of};
+use planet_commands::{Cause, print, value_of};
 use std::alloc::Global;
 
 /// The text of what is answered of logs.

@@ -2,11 +2,10 @@
 ghost use Rattle.planet_commands.specs.Takes.{TakesAndActs};
 ghost use Rattle.planet_commands_fleet.specs.Fleets.{RunsAs, fleet_said, shop};
 
-use exit_status::Cause;
 use fleet_run::{FleetEnd, FleetFault, run_fleet};
 use network_config::Fleet;
 use node_io::{Files, Sink, Spawner};
-use planet_commands::value_of;
+use planet_commands::{Cause, value_of};
 use std::alloc::Global;
 
 // Runs a fleet that was read.

@@ -4,11 +4,10 @@ ghost use Rattle.planet_commands.specs.Said.{line_limit};
 ghost use Rattle.planet_commands.specs.Renders.{Prints};
 ghost use Rattle.planet_commands_fleet.specs.Messages.{messages_text, messages_said};
 
-use exit_status::Cause;
 use frag_chunks_log::gather_text;
 use network_config::Log;
 use node_io::Sink;
-use planet_commands::{FileCommand, MOST_FILE_BYTES, print, value_in};
+use planet_commands::{Cause, FileCommand, MOST_FILE_BYTES, print, value_in};
 use service_registry::Registry;
 use std::alloc::Global;
 

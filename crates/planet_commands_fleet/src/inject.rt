@@ -3,11 +3,10 @@ ghost use Rattle.network_config.specs.NodeRules.{KeepsAsk};
 ghost use Rattle.planet_commands.specs.Takes.{TakesAndActs};
 ghost use Rattle.planet_commands_fleet.specs.Asks.{AsksAs, ask_said, wire};
 
-use exit_status::Cause;
 use fleet_run::{AskFault, inject};
 use network_config::AskFile;
 use node_io::{Files, Link, Sink};
-use planet_commands::value_of;
+use planet_commands::{Cause, value_of};
 use std::alloc::Global;
 
 // Sends a request and writes its line.

@@ -10,13 +10,12 @@ ghost use Rattle.planet_commands.specs.Takes.{Takes};
 ghost use Rattle.planet_commands_fleet.specs.Audits as spec;
 ghost use Rattle.planet_commands_fleet.specs.Audits.{TakesLogs, said_of, log_said};
 
-use exit_status::{Cause, Refusal};
 use ledger_audit::{AuditState, nothing_reckoned, reckon_log};
 use line_reader::LineReason;
 use network_config::{Link, Log};
 use node_io::Files;
 use plan_base::{Host, Text};
-use planet_commands::value_of;
+use planet_commands::{Cause, Refusal, value_of};
 use std::alloc::Global;
 
 /// The refusal of a file of lines, reported as that of the log with this number.

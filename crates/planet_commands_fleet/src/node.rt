@@ -3,11 +3,10 @@ ghost use Rattle.network_config.specs.NodeRules.{KeepsServe};
 ghost use Rattle.node_serve.specs.Desks.{serving};
 ghost use Rattle.planet_commands_fleet.specs.Nodes.{ServesAs, ServesFile};
 
-use exit_status::Cause;
 use network_config::ServeConfig;
 use node_io::{Clock, Files, Link, Sink};
 use node_serve::{ServeFault, serve};
-use planet_commands::value_of;
+use planet_commands::{Cause, value_of};
 use service_registry::Registry;
 use std::alloc::Global;
 

@@ -6,9 +6,8 @@ ghost use Rattle.planet_commands.specs.Renders.{Prints};
 ghost use Rattle.planet_commands_fleet.specs.Messages.{parts_said};
 
 use command_files::{CutFile, cut_text};
-use exit_status::Cause;
 use node_io::Sink;
-use planet_commands::{FileCommand, MOST_FILE_BYTES, print, value_in};
+use planet_commands::{Cause, FileCommand, MOST_FILE_BYTES, print, value_in};
 use std::alloc::Global;
 
 /// `cut FILE`: the asks of the parts of the message that the file names.

@@ -11,10 +11,9 @@ ghost use Rattle.planet_commands_port.specs.Ports.{ends_said};
 
 use command_files::PortFile;
 use containers::Items;
-use exit_status::Cause;
 use node_io::Sink;
 use plan_base::NoMemory;
-use planet_commands::{FileCommand, MOST_FILE_BYTES, print, services_of, value_in};
+use planet_commands::{Cause, FileCommand, MOST_FILE_BYTES, print, services_of, value_in};
 use reliable_ports_world::{port_text, two_hosts};
 use service_registry::Registry;
 use std::alloc::Global;

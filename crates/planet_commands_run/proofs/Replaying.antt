@@ -10,9 +10,9 @@ use Rattle.node_io.specs.Sinks.{SinkState}
 use Rattle.file_laws.specs.Refusals.{FaultHolds}
 use Rattle.file_laws.proofs.ScheduleHolds.{schedule_holds}
 use Rattle.file_laws.proofs.LogHolds.{log_holds}
-use Rattle.exit_status.specs.Causes.{cause_of}
-use Rattle.exit_status.specs.declared.status.Cause.{Cause}
-use Rattle.exit_status.specs.declared.status.Cause.TheVariants.{NoMemory}
+use Rattle.planet_commands.specs.Causes.{cause_of}
+use Rattle.planet_commands.specs.declared.status.Cause.{Cause}
+use Rattle.planet_commands.specs.declared.status.Cause.TheVariants.{NoMemory}
 use Rattle.planet_commands.specs.Takes.{Refuses}
 use Rattle.planet_commands.specs.Renders.{Prints, Renders}
 use Rattle.planet_commands.proofs.Rendering.{renders_none, renders_text}

@@ -12,7 +12,7 @@ use Rattle.node_log.specs.Texts.{whole_trace}
 use Rattle.node_log.specs.Nodes.{log_node}
 use Rattle.net_world_spec.specs.World.{opening}
 use Rattle.net_world_spec.specs.Texts.{run_text}
-use Rattle.exit_status.specs.declared.status.Refusal.TheVariants.{Line}
+use Rattle.planet_commands.specs.declared.status.Refusal.TheVariants.{Line}
 use Rattle.planet_commands.specs.Said.{Said, nothing, outside, says}
 
 -- the schedule of a network, or the log of a node

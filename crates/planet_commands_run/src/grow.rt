@@ -2,11 +2,10 @@
 ghost use Rattle.std.specs.Prelude.{◌≤◌};
 ghost use Rattle.planet_commands_run.specs.Grown.{GrowsAs};
 
-use exit_status::Cause;
 use grow_run::{grow, ring};
 use net_world::RunFault;
 use node_io::Sink;
-use planet_commands::services_of;
+use planet_commands::{Cause, services_of};
 use std::alloc::Global;
 
 /// `grow SEED N`: the summary of a network that grows by itself.

@@ -8,14 +8,13 @@ ghost use Rattle.planet_commands.specs.Said.{line_limit};
 ghost use Rattle.planet_commands.specs.Renders.{Prints, Renders};
 ghost use Rattle.planet_commands_run.specs.Schedules.{schedule_said, is_header_fault, replayed_of, as_log, replay_text, log_trace};
 
-use exit_status::Cause;
 use line_reader::{LineFault, LineReason};
 use net_world::{RunFault, run};
 use network_config::{Log, Schedule};
 use node_files::read_log;
 use node_io::Sink;
 use node_log::{ReplayFault, run_log};
-use planet_commands::{FileCommand, MOST_FILE_BYTES, services_of};
+use planet_commands::{Cause, FileCommand, MOST_FILE_BYTES, services_of};
 use schedule_text::read_schedule;
 use service_registry::Registry;
 use std::alloc::Global;

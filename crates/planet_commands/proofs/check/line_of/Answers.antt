@@ -5,10 +5,10 @@ use Rattle.program_text.specs.Reasons.{fault_byte}
 use Rattle.program_text.specs.Texts.{program_of}
 use Rattle.file_laws.specs.ProgramRefusals.{HoldsNoMemory}
 use Rattle.file_laws.proofs.ProgramTexts.{text_own}
-use Rattle.exit_status.specs.Causes.{text_cause}
-use Rattle.exit_status.specs.declared.status.Refusal.TheVariants.{At}
-use Rattle.exit_status.specs.declared.status.Cause.{Cause}
-use Rattle.exit_status.specs.declared.status.Cause.TheVariants.{Refused}
+use Rattle.planet_commands.specs.Causes.{text_cause}
+use Rattle.planet_commands.specs.declared.status.Refusal.TheVariants.{At}
+use Rattle.planet_commands.specs.declared.status.Cause.{Cause}
+use Rattle.planet_commands.specs.declared.status.Cause.TheVariants.{Refused}
 use Rattle.planet_commands.specs.Takes.{Refuses}
 use Rattle.planet_commands.specs.Checks.{sizes_of, program_said}
 use Rattle.planet_commands.proofs.check.line_of.Goals as goal

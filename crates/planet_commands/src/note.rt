@@ -1,6 +1,6 @@
 //! Writes the note of a call that was refused or failed.
 ghost use Rattle.std.specs.Prelude.{◌≡◌, ◌++◌, IfOk, OnOk};
-ghost use Rattle.exit_status.specs.Notes.{reason_name, refused_text, reason_text, refusal_text, note_text, Notes, Pushed};
+ghost use Rattle.planet_commands.specs.Notes.{reason_name, refused_text, reason_text, refusal_text, note_text, Notes, Pushed};
 
 use crate::status::{Cause, Refusal};
 use line_reader::LineReason;

@@ -2,10 +2,10 @@
 use Rattle.std.proofs.Common.{◌≡◌, List, ℕ, inl, inr, refl, subst}
 use Rattle.node_io.specs.Causes.{HasRisen}
 use Rattle.node_io.specs.Sinks.{SinkState, Writes, FailsIn}
-use Rattle.exit_status.specs.Causes.{Gives}
-use Rattle.exit_status.specs.Notes.{note_text, Notes, told, no_memory, failed, Pushed, written, cut}
-use Rattle.exit_status.specs.declared.status.Cause.{Cause}
-use Rattle.exit_status.specs.declared.status.Cause.TheVariants.{NoMemory, WriteFault}
+use Rattle.planet_commands.specs.Causes.{Gives}
+use Rattle.planet_commands.specs.Notes.{note_text, Notes, told, no_memory, failed, Pushed, written, cut}
+use Rattle.planet_commands.specs.declared.status.Cause.{Cause}
+use Rattle.planet_commands.specs.declared.status.Cause.TheVariants.{NoMemory, WriteFault}
 
 pub pushed_whole : (cause : Cause) (note : List ℕ) (a b : SinkState) → note ≡ note_text cause → Writes a b note → Pushed cause a b cause
 pushed_whole cause note a b e w = written (subst (Writes a b) e w)

@@ -39,7 +39,7 @@ pub enum Cause {
 }
 
 impl From<LineFault> for Cause {
-    ghost use Rattle.exit_status.specs.Causes.{cause_of};
+    ghost use Rattle.planet_commands.specs.Causes.{cause_of};
 
     ghost from_gives = { λ f c. c ≡ cause_of f };
 
@@ -52,7 +52,7 @@ impl From<LineFault> for Cause {
 }
 
 impl From<FrameFault> for Cause {
-    ghost use Rattle.exit_status.specs.Causes.{frame_cause};
+    ghost use Rattle.planet_commands.specs.Causes.{frame_cause};
 
     ghost from_gives = { λ f c. c ≡ frame_cause f };
 
@@ -65,7 +65,7 @@ impl From<FrameFault> for Cause {
 }
 
 impl From<TextFault> for Cause {
-    ghost use Rattle.exit_status.specs.Causes.{text_cause};
+    ghost use Rattle.planet_commands.specs.Causes.{text_cause};
 
     ghost from_gives = { λ f c. c ≡ text_cause f };
 

@@ -6,10 +6,10 @@ use Rattle.node_io.specs.Sinks.{SinkState, Writes, FailsIn}
 use Rattle.program_text.specs.declared.fault.TextFault.{TextFault}
 use Rattle.program_text.specs.Reasons as texts
 use Rattle.packet_frame.specs.Reasons as frames
-use Rattle.exit_status.specs.declared.status.Cause.{Cause}
-use Rattle.exit_status.specs.declared.status.Cause.TheVariants.{Done, Usage, Refused, ReadFault, WriteFault, LinkFault, SpawnFault, NoMemory, NodesFailed}
-use Rattle.exit_status.specs.declared.status.Refusal.{Refusal}
-use Rattle.exit_status.specs.declared.status.Refusal.TheVariants.{Line, At, Frame, BadHex, TooLong, Log, LogTooLong}
+use Rattle.planet_commands.specs.declared.status.Cause.{Cause}
+use Rattle.planet_commands.specs.declared.status.Cause.TheVariants.{Done, Usage, Refused, ReadFault, WriteFault, LinkFault, SpawnFault, NoMemory, NodesFailed}
+use Rattle.planet_commands.specs.declared.status.Refusal.{Refusal}
+use Rattle.planet_commands.specs.declared.status.Refusal.TheVariants.{Line, At, Frame, BadHex, TooLong, Log, LogTooLong}
 use Rattle.line_reader.specs.declared.fault.LineReason.{LineReason}
 use Rattle.line_reader.specs.declared.fault.LineReason.TheVariants.{BadHeader, BadWord, BadNumber, UnknownHost, UnknownProgram, TwiceNamed}
 use Rattle.line_reader.specs.declared.fault.LineReason.TheVariants.{TooMany, ProgramRefused, BadArgument}

@@ -3,10 +3,10 @@ use Rattle.std.specs.Prelude.{ℕ, ◌≡◌, ◌⊎◌}
 use Rattle.node_io.specs.Causes.{HasRisen}
 use Rattle.node_io.specs.Sinks.{SinkState}
 use Rattle.node_io.specs.Outsides.{Outside}
-use Rattle.exit_status.specs.declared.status.Cause.{Cause}
-use Rattle.exit_status.specs.declared.status.Cause.TheVariants.{Done, Usage, Refused, ReadFault, WriteFault, LinkFault, SpawnFault, NoMemory, NodesFailed}
-use Rattle.exit_status.specs.declared.status.Refusal.{Refusal}
-use Rattle.exit_status.specs.declared.status.Refusal.TheVariants.{Line, At, Frame}
+use Rattle.planet_commands.specs.declared.status.Cause.{Cause}
+use Rattle.planet_commands.specs.declared.status.Cause.TheVariants.{Done, Usage, Refused, ReadFault, WriteFault, LinkFault, SpawnFault, NoMemory, NodesFailed}
+use Rattle.planet_commands.specs.declared.status.Refusal.{Refusal}
+use Rattle.planet_commands.specs.declared.status.Refusal.TheVariants.{Line, At, Frame}
 use Rattle.line_reader.specs.declared.fault.LineFault.{LineFault}
 use Rattle.line_reader.specs.declared.fault.LineFault.TheVariants as faults
 use Rattle.packet_frame.specs.declared.fault.FrameFault.{FrameFault}
