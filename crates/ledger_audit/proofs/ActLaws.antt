@@ -1,6 +1,6 @@
 -- What acts count for families, and how the counts of families change with their keys.
 use Rattle.std.proofs.Common.{◌≡◌, ℕ, ◌+◌, Bool, true, false, cond, if◌then◌else◌, List, [], ◌∷◌, ◌++◌, Option, Some, None, refl, sym, ap, ◌∙◌, arith}
-use Rattle.std.specs.Prelude.{unwrap_or, ◌==◌}
+use Rattle.std.specs.Prelude.{◌≤◌, min, unwrap_or, ◌==◌}
 use Rattle.std.specs.Map.{lookup, KeepsOthers}
 use Rattle.std.proofs.lemmas.List.Sums.{sum_by-cons}
 use Rattle.std.proofs.lemmas.Bool.{eqb-true}
@@ -14,7 +14,8 @@ use Rattle.ledger_audit.specs.declared.keys.FamilyKey.{FamilyKey}
 use Rattle.ledger_audit.specs.declared.book.Counts.{Counts}
 use Rattle.ledger_audit.specs.declared.book.FamilyTotals.{FamilyTotals}
 use Rattle.ledger_audit.specs.Keys.{family_of}
-use Rattle.ledger_audit.specs.Books.{none, plus, counts_of, counts_in, IsSet, Adds, act_row, act_counts, acts_counts}
+use Rattle.ledger_audit.specs.Books.{none, plus, capped, counts_of, counts_in, IsSet, Adds, act_row, with_row, act_counts, acts_counts}
+use Rattle.ledger_audit.specs.Ledgers.{Pays}
 use Rattle.ledger_audit.specs.contracts.keys.FamilyKeyPartialEq.TheImpl as key_eq
 use Rattle.ledger_audit.proofs.LookUps.{own_test, found_after}
 
@@ -74,7 +75,7 @@ abbrev share : Family → Option (Family × Counts) → Counts
 share f None = none
 share f (Some x) = if is_family f x.0 then x.1 else none
 
-abbrev counts : ℕ → ℕ → ℕ → ℕ → Counts
+abbrev pub counts : ℕ → ℕ → ℕ → ℕ → Counts
 counts g h e l = record { granted = g; hops = h; evals = e; left = l }
 
 act_shares : (f : Family) (a : Act) → act_counts f a ≡ share f (act_row a)
@@ -115,23 +116,52 @@ act_shares f (Taken d w) = refl
 act_shares f SerialsSpent = refl
 act_shares f NoMemory = refl
 
-plus_none : (c : Counts) → c ≡ plus c none
-plus_none c =
+pub act_added : (a : Act) (g : Family) (more : Counts) (old new : FamilyTotals) → Some (g, more) ≡ act_row a → Adds g more old new → (f : Family) → counts_in f new ≡ with_row f (act_row a) (counts_in f old)
+act_added a g more old new e h f = h f ∙ ap (λ o. with_row f o (counts_in f old)) e
+
+pub act_apart : (a : Act) (b : FamilyTotals) → None ≡ act_row a → (f : Family) → counts_in f b ≡ with_row f (act_row a) (counts_in f b)
+act_apart a b e f = ap (λ o. with_row f o (counts_in f b)) e
+
+-- ---- counts that stand still
+
+-- both in sum, with no last value
+abbrev pub in_sum : Counts → Counts → Counts
+in_sum a b = counts (a.granted + b.granted) (a.hops + b.hops) (a.evals + b.evals) (a.left + b.left)
+
+sum_none : (c : Counts) → c ≡ in_sum c none
+sum_none c =
     let g : c.granted ≡ c.granted + 0 = omega arith in
     let h : c.hops ≡ c.hops + 0 = omega arith in
     let e : c.evals ≡ c.evals + 0 = omega arith in
     let l : c.left ≡ c.left + 0 = omega arith in
-    λ i. record { granted = g i; hops = h i; evals = e i; left = l i }
+    λ i. counts (g i) (h i) (e i) (l i)
 
-pub act_added : (a : Act) (g : Family) (more : Counts) (old new : FamilyTotals) → Some (g, more) ≡ act_row a → Adds g more old new → (f : Family) → counts_in f new ≡ plus (counts_in f old) (act_counts f a)
-act_added a g more old new e h f = h f ∙ by (is_family f g) ∙ ap (plus (counts_in f old)) (ap (share f) e ∙ sym (act_shares f a))
+one_capped : (m n : ℕ) → min (min m 18446744073709551615 + n) 18446744073709551615 ≡ min (m + n) 18446744073709551615
+one_capped m n = omega arith
+
+plus_capped : (c d : Counts) → plus (capped c) d ≡ capped (in_sum c d)
+plus_capped c d = λ i. counts (one_capped c.granted d.granted i) (one_capped c.hops d.hops i) (one_capped c.evals d.evals i) (one_capped c.left d.left i)
+
+-- what an act adds to counts that stand still is what it adds to the sums
+pub row_capped : (f : Family) (a : Act) (c : Counts) → with_row f (act_row a) (capped c) ≡ capped (in_sum c (act_counts f a))
+row_capped f a c = by_row (act_row a) ∙ ap (λ d. capped (in_sum c d)) (sym (act_shares f a))
   where
-    by : (t : Bool) → (if t then plus (counts_in f old) more else counts_in f old) ≡ plus (counts_in f old) (if t then more else none)
-    by true = refl
-    by false = plus_none (counts_in f old)
+    by_family : (t : Bool) (d : Counts) → (if t then plus (capped c) d else capped c) ≡ capped (in_sum c (if t then d else none))
+    by_family true d = plus_capped c d
+    by_family false d = ap capped (sum_none c)
 
-pub act_apart : (a : Act) (b : FamilyTotals) → None ≡ act_row a → (f : Family) → counts_in f b ≡ plus (counts_in f b) (act_counts f a)
-act_apart a b e f = plus_none (counts_in f b) ∙ ap (plus (counts_in f b)) (ap (share f) e ∙ sym (act_shares f a))
+    by_row : (o : Option (Family × Counts)) → with_row f o (capped c) ≡ capped (in_sum c (share f o))
+    by_row None = ap capped (sum_none c)
+    by_row (Some x) = by_family (is_family f x.0) x.1
+
+-- what is granted has a place in 64 bits, so no count stood still
+pub none_capped : (c : Counts) → Pays c → c.granted ≤ 18446744073709551615 → capped c ≡ c
+none_capped c pays room =
+    let g : min c.granted 18446744073709551615 ≡ c.granted = omega (arith, room) in
+    let h : min c.hops 18446744073709551615 ≡ c.hops = omega (arith, room, pays) in
+    let e : min c.evals 18446744073709551615 ≡ c.evals = omega (arith, room, pays) in
+    let l : min c.left 18446744073709551615 ≡ c.left = omega (arith, room, pays) in
+    λ i. counts (g i) (h i) (e i) (l i)
 
 -- ---- acts in sum
 
@@ -142,7 +172,7 @@ one_sum c a = omega (arith, sum_by-cons c a [])
 sum_push : (c : Act → ℕ) (acts : List Act) (a : Act) → act_sum c (acts ++ a ∷ []) ≡ act_sum c acts + c a
 sum_push c acts a = act_sum-append c acts (a ∷ []) ∙ ap (λ n. act_sum c acts + n) (one_sum c a)
 
-pub counts_push : (f : Family) (acts : List Act) (a : Act) → acts_counts f (acts ++ a ∷ []) ≡ plus (acts_counts f acts) (act_counts f a)
+pub counts_push : (f : Family) (acts : List Act) (a : Act) → acts_counts f (acts ++ a ∷ []) ≡ in_sum (acts_counts f acts) (act_counts f a)
 counts_push f acts a = λ i. record {
   granted = sum_push (act_granted f) acts a i;
   hops = sum_push (act_hops f) acts a i;
@@ -150,6 +180,6 @@ counts_push f acts a = λ i. record {
   left = sum_push (act_left f) acts a i;
 }
 
-pub no_counts : (f : Family) → none ≡ acts_counts f []
+pub no_counts : (f : Family) → none ≡ capped (acts_counts f [])
 unfolding act_sum
 no_counts f = refl

@@ -1,6 +1,7 @@
 pub mod LookUps
 pub mod TallyLaws
 pub mod ActLaws
+pub mod LimitLaws
 pub mod PastLaws
 pub mod JudgeLaws
 pub mod VerdictLaws

@@ -1,9 +1,9 @@
 -- What the code keeps of logs, one act, one frame, one entry and one log after the other.
 use Rattle.std.proofs.Common.{◌≡◌, ℕ, suc, ◌+◌, ◌<◌, ◌≤◌, true, false, if◌then◌else◌, List, [], ◌∷◌, ◌++◌, length, take, get_or, Option, Some, None, refl, sym, ap, subst, ◌∙◌, arith, append-nil, append_assoc}
 use Rattle.std.specs.Prelude.{Result, Ok, Err, OnOk}
-use Rattle.std.specs.List.{cons_option, AllByRecursion}
+use Rattle.std.specs.List.{cons_option, All, AllByRecursion}
 use Rattle.std.proofs.lemmas.Grind.{take_at_read}
-use Rattle.std.proofs.lemmas.List.{take_all, length-take-le, map-append}
+use Rattle.std.proofs.lemmas.List.{take_all, length-append, length-take-le, map-append}
 use Rattle.std.proofs.lemmas.List.Elements.{filter_map-append}
 use Rattle.plan_base.specs.declared.stamp.Stamp.{Stamp}
 use Rattle.plan_base.specs.declared.stamp.Version.{Version}
@@ -22,7 +22,7 @@ use Rattle.network_config.specs.declared.event.Event.{Event}
 use Rattle.network_config.specs.declared.event.Event.TheVariants as event
 use Rattle.network_config.specs.declared.event.LogEvent.{LogEvent}
 use Rattle.network_config.specs.declared.event.LogEvent.TheVariants.{Step, Lost}
-use Rattle.network_config.specs.NodeRules.{KeepsNodeEvent}
+use Rattle.network_config.specs.NodeRules.{KeepsNodeEvent, KeepsEntry}
 use Rattle.service_api.specs.Services.{ServiceState}
 use Rattle.node_core_spec.specs.declared.acts.Act.{Act}
 use Rattle.node_core_spec.specs.declared.acts.Act.TheVariants.{NoMemory}
@@ -42,11 +42,11 @@ use Rattle.ledger_audit.specs.declared.reckoning.Arrived.{Arrived}
 use Rattle.ledger_audit.specs.declared.reckoning.AuditState.{AuditState}
 use Rattle.ledger_audit.specs.Keys.{crossing_of}
 use Rattle.ledger_audit.specs.Tallies.{none as no_frames, one_sent, tally_in, Changes}
-use Rattle.ledger_audit.specs.Books.{none as no_sums, plus, counts_in, act_counts}
+use Rattle.ledger_audit.specs.Books.{none as no_sums, capped, counts_in, act_row, with_row, acts_counts}
 use Rattle.ledger_audit.specs.Pasts.{Past, nothing, with_acts, with_sent, with_accepted, with_host, arrived_from, accepted_by, taken_by, TakenReads, with_frames, with_entry, with_entries, with_log}
-use Rattle.ledger_audit.specs.Pasts.{with_logs, arrival_of, arrivals_of, injected_by, injected_families, Holds, IsReckoned}
+use Rattle.ledger_audit.specs.Pasts.{with_logs, arrival_of, arrivals_of, injected_by, injected_families, Holds, KeepsLimits, IsReckoned}
 use Rattle.ledger_audit.proofs.TallyLaws.{tallied_sent}
-use Rattle.ledger_audit.proofs.ActLaws.{counts_push, no_counts, act_apart}
+use Rattle.ledger_audit.proofs.ActLaws.{row_capped, counts_push, no_counts, act_apart}
 
 -- ---- acts
 
@@ -54,13 +54,13 @@ injected_push : (acts : List Act) (a : Act) → injected_families (acts ++ a ∷
 unfolding injected_families
 injected_push acts a = filter_map-append injected_by acts (a ∷ [])
 
-pub act_held : (a : Act) (p : Past) (old new : AuditState) → Holds old p → ((f : Family) → counts_in f new.book ≡ plus (counts_in f old.book) (act_counts f a))
+pub act_held : (a : Act) (p : Past) (old new : AuditState) → Holds old p → ((f : Family) → counts_in f new.book ≡ with_row f (act_row a) (counts_in f old.book))
     → new.hosts ≡ old.hosts → new.tallies ≡ old.tallies → new.arrived ≡ old.arrived → (o : Option Family) → o ≡ injected_by a → new.injected ≡ old.injected ++ cons_option o [] → Holds new (with_acts (a ∷ []) p)
 act_held a p old new h counted hosts tallies arrived o is more = record {
   hosts = hosts ∙ h.hosts;
   sent = λ c. ap (tally_in c) tallies ∙ h.sent c;
   accepted = ap arrivals_of arrived ∙ h.accepted;
-  counts = λ f. counted f ∙ ap (λ x. plus x (act_counts f a)) (h.counts f) ∙ sym (counts_push f p.acts a);
+  counts = λ f. counted f ∙ ap (with_row f (act_row a)) (h.counts f) ∙ row_capped f a (acts_counts f p.acts) ∙ ap capped (sym (counts_push f p.acts a));
   families = more ∙ ap (λ x. old.injected ++ cons_option x []) is ∙ ap (λ l. l ++ cons_option (injected_by a) []) h.families ∙ sym (injected_push p.acts a);
 }
 
@@ -281,10 +281,15 @@ here_is : (c : NodeConfig) (s : ServiceState) → c.here ≡ (new_node c s).here
 unfolding new_node
 here_is c s = refl
 
+limits_of : (c : NodeConfig) (s : ServiceState) (es : List LogEvent) → length es ≤ 50000 → All (KeepsEntry c.version) es → KeepsLimits (record { node = new_node c s; entries = es })
+unfolding new_node
+limits_of c s es few keeps = record { few = few; entries = keeps }
+
 -- a log more
-pub log_reckoned : (links : Cables) (ls : List Logged) (number : ℕ) (c : NodeConfig) (s : ServiceState) (es : List LogEvent) (old new : AuditState) → IsReckoned links ls old → length ls + 1 ≡ number
+pub log_reckoned : (links : Cables) (ls : List Logged) (number : ℕ) (c : NodeConfig) (s : ServiceState) (es : List LogEvent) (old new : AuditState) → IsReckoned links ls old → length ls + 1 ≡ number → number ≤ 16
+    → length es ≤ 50000 → All (KeepsEntry c.version) es
     → Holds new (with_host c.here (with_entries links number 0 (new_node c s) es (with_logs links 0 ls nothing))) → EntriesRead (new_node c s) es → IsReckoned links (ls ++ record { node = new_node c s; entries = es } ∷ []) new
-log_reckoned links ls number c s es old new k is held reads =
+log_reckoned links ls number c s es old new k is most few keeps held reads =
     let l : Logged = record { node = new_node c s; entries = es } in
     let before = with_logs links 0 ls nothing in
     let n : number ≡ 0 + length ls + 1 = omega (arith, is) in
@@ -294,6 +299,8 @@ log_reckoned links ls number c s es old new k is held reads =
           held;
       begin = all_push Begins ls l k.begin (begins c s es);
       read = all_push ReadsAgain ls l k.read reads;
+      few = omega (arith, length-append ls (l ∷ []), is, most);
+      limits = all_push KeepsLimits ls l k.limits (limits_of c s es few keeps);
     }
 
 -- what two facts of a result that is well give

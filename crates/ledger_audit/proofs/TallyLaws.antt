@@ -1,6 +1,6 @@
 -- How the counts of crossings change with their keys.
 use Rattle.std.proofs.Common.{◌≡◌, ℕ, suc, ◌+◌, Bool, true, false, cond, ◌&&◌, if◌then◌else◌, List, [], ◌∷◌, ◌++◌, Option, Some, None, refl, sym, ap, ◌∙◌, arith}
-use Rattle.std.specs.Prelude.{unwrap_or}
+use Rattle.std.specs.Prelude.{min, unwrap_or}
 use Rattle.std.specs.Str.{bytes_eq}
 use Rattle.std.specs.Map.{lookup, KeepsOthers}
 use Rattle.ledger_audit.specs.Crossings.{Crossing, same_end, same_crossing, times}
@@ -69,15 +69,18 @@ times_push c d (x ∷ xs) = ap (λ n. if same_crossing c x then suc n else n) (t
     by false false n = refl
 
 abbrev tally : ℕ → ℕ → SendCount
-tally m n = record { sent = m; accepted = n }
+tally m n = record { sent = min m 4294967295; accepted = min n 4294967295 }
+
+one_more : (n : ℕ) → min (min n 4294967295 + 1) 4294967295 ≡ min (suc n) 4294967295
+one_more n = omega arith
 
 pub tallied_sent : (sent : List Crossing) (d : Crossing) (old new : Tallies) → Tallied sent [] old → Changes one_sent d old new → Tallied (sent ++ d ∷ []) [] new
 tallied_sent sent d old new h k c =
     k c ∙ ap (λ t. if same_crossing c d then one_sent t else t) (h c) ∙ by (same_crossing c d) (times c sent)
-    ∙ (λ i. record { sent = sym (times_push c d sent) i; accepted = 0 })
+    ∙ ap (λ n. tally n 0) (sym (times_push c d sent))
   where
     by : (b : Bool) (n : ℕ) → (if b then one_sent (tally n 0) else tally n 0) ≡ tally (if b then suc n else n) 0
-    by true n = let e : n + 1 ≡ suc n = omega arith in λ i. record { sent = e i; accepted = 0 }
+    by true n = λ i. record { sent = one_more n i; accepted = min 0 4294967295 }
     by false n = refl
 
 pub tallied_seen : (sent seen : List Crossing) (d : Crossing) (old new : Tallies) → Tallied sent seen old → Changes one_accepted d old new → Tallied sent (d ∷ seen) new
@@ -85,7 +88,7 @@ tallied_seen sent seen d old new h k c =
     k c ∙ ap (λ t. if same_crossing c d then one_accepted t else t) (h c) ∙ by (same_crossing c d) (times c sent) (times c seen)
   where
     by : (b : Bool) (m n : ℕ) → (if b then one_accepted (tally m n) else tally m n) ≡ tally m (if b then suc n else n)
-    by true m n = let e : n + 1 ≡ suc n = omega arith in λ i. record { sent = m; accepted = e i }
+    by true m n = λ i. record { sent = min m 4294967295; accepted = one_more n i }
     by false m n = refl
 
 -- nothing is counted at first

@@ -24,12 +24,14 @@ use Rattle.ledger_audit.specs.Runs.{accepts, sends, numbered_arrivals, accepted_
 use Rattle.ledger_audit.specs.Audits.{Logged, all_accepted, all_sent, misfit, granted_sum, hops, evals, left_sum, queued_sum, on_the_way, row_of, AddsUp}
 use Rattle.ledger_audit.proofs.Multisets.{verdict_only, verdict_always}
 use Rattle.ledger_audit.proofs.Balances.{adds_up}
+use Rattle.ledger_audit.proofs.ActLaws.{none_capped}
+use Rattle.ledger_audit.proofs.LimitLaws.{sent_few, accepted_few, granted_few}
 use Rattle.ledger_audit.specs.declared.judging.Over as code
 use Rattle.ledger_audit.specs.declared.reckoning.AuditState.{AuditState}
 use Rattle.ledger_audit.specs.declared.verdict.Verdict.{Verdict}
 use Rattle.ledger_audit.specs.declared.verdict.Verdict.TheVariants.{Yes, No}
-use Rattle.ledger_audit.specs.Tallies.{Tallied}
-use Rattle.ledger_audit.specs.Books.{counts_in, acts_counts}
+use Rattle.ledger_audit.specs.Tallies.{Tallied, AreFew}
+use Rattle.ledger_audit.specs.Books.{capped, counts_in, acts_counts}
 use Rattle.ledger_audit.specs.Pasts.{Past, nothing, with_entry, with_entries, with_log, with_logs, arrivals_of, injected_families, IsReckoned, logged_of}
 use Rattle.ledger_audit.specs.Ledgers.{all_acts, hosts_of, is_from, by_hosts, families_of, ledger_of, verdict_by, verdict_of, IsYes, over_in, Pays, row_in}
 
@@ -88,43 +90,55 @@ module _ (links : Cables) (ls : List Logged) (r : AuditState) (k : IsReckoned li
   accepted_are : arrivals_of r.arrived ≡ all_accepted links 0 ls
   accepted_are = k.holds.accepted ∙ ap (λ p. p.accepted) (whole_is links ls)
 
-  counts_are : (f : Family) → counts_in f r.book ≡ acts_counts f (all_acts ls)
-  counts_are f = k.holds.counts f ∙ ap (λ p. acts_counts f p.acts) (whole_is links ls)
+  few_are : AreFew (all_sent ls) (arrivals_of r.arrived)
+  few_are = (
+    omega (arith, sent_few ls k.limits, k.few),
+    omega (arith, ap length accepted_are, accepted_few links 0 ls k.limits, k.few),
+  )
 
   injected_are : r.injected ≡ injected_families (all_acts ls)
   injected_are = k.holds.families ∙ ap (λ p. injected_families p.acts) (whole_is links ls)
 
   -- the frame that doesn't fit
-  pub misfit_is : (o : Option code.Over) → ((sent : List Crossing) → Tallied sent [] r.tallies → over_in o ≡ first_over sent [] (arrivals_of r.arrived)) → over_in o ≡ misfit links ls
+  pub misfit_is : (o : Option code.Over) → ((sent : List Crossing) → AreFew sent (arrivals_of r.arrived) → Tallied sent [] r.tallies → over_in o ≡ first_over sent [] (arrivals_of r.arrived)) → over_in o ≡ misfit links ls
   unfolding misfit
-  misfit_is o h = h (all_sent ls) sent_are ∙ ap (first_over (all_sent ls) []) accepted_are
+  misfit_is o h = h (all_sent ls) few_are sent_are ∙ ap (first_over (all_sent ls) []) accepted_are
 
   pub fits_adds : misfit links ls ≡ None → (f : Family) → AddsUp f links ls
   unfolding misfit
   fits_adds e f = adds_up f links ls k.begin k.read (λ c. omega (arith, verdict_only (all_sent ls) [] (all_accepted links 0 ls) e (λ d. omega arith) c))
 
-  granted_is : (f : Family) → (counts_in f r.book).granted ≡ granted_sum f ls
-  granted_is f = ap (λ c. c.granted) (counts_are f) ∙ sums_are (act_granted f) ls
+  -- where logs fit, no family paid and left more than it was granted, so no count stood still
+  counts_are : misfit links ls ≡ None → (f : Family) → counts_in f r.book ≡ acts_counts f (all_acts ls)
+  counts_are e f =
+      let g : act_sum (act_granted f) (all_acts ls) ≡ granted_sum f ls = sums_are (act_granted f) ls in
+      let h : act_sum (act_hops f) (all_acts ls) ≡ hops f ls = sums_are (act_hops f) ls in
+      let v : act_sum (act_evals f) (all_acts ls) ≡ evals f ls = sums_are (act_evals f) ls in
+      let l : act_sum (act_left f) (all_acts ls) ≡ left_sum f ls = sums_are (act_left f) ls in
+      k.holds.counts f ∙ ap (λ p. capped (acts_counts f p.acts)) (whole_is links ls)
+      ∙ none_capped (acts_counts f (all_acts ls)) (omega (arith, fits_adds e f, g, h, v, l)) (omega (arith, granted_few f ls k.limits, k.few, g))
 
-  hops_are : (f : Family) → (counts_in f r.book).hops ≡ hops f ls
-  hops_are f = ap (λ c. c.hops) (counts_are f) ∙ sums_are (act_hops f) ls
+  granted_is : misfit links ls ≡ None → (f : Family) → (counts_in f r.book).granted ≡ granted_sum f ls
+  granted_is e f = ap (λ c. c.granted) (counts_are e f) ∙ sums_are (act_granted f) ls
 
-  evals_are : (f : Family) → (counts_in f r.book).evals ≡ evals f ls
-  evals_are f = ap (λ c. c.evals) (counts_are f) ∙ sums_are (act_evals f) ls
+  hops_are : misfit links ls ≡ None → (f : Family) → (counts_in f r.book).hops ≡ hops f ls
+  hops_are e f = ap (λ c. c.hops) (counts_are e f) ∙ sums_are (act_hops f) ls
 
-  left_is : (f : Family) → (counts_in f r.book).left ≡ left_sum f ls
-  left_is f = ap (λ c. c.left) (counts_are f) ∙ sums_are (act_left f) ls
+  evals_are : misfit links ls ≡ None → (f : Family) → (counts_in f r.book).evals ≡ evals f ls
+  evals_are e f = ap (λ c. c.evals) (counts_are e f) ∙ sums_are (act_evals f) ls
 
-  -- where logs fit, no family paid and left more than it was granted
+  left_is : misfit links ls ≡ None → (f : Family) → (counts_in f r.book).left ≡ left_sum f ls
+  left_is e f = ap (λ c. c.left) (counts_are e f) ∙ sums_are (act_left f) ls
+
   pub fits_pays : misfit links ls ≡ None → (f : Family) → Pays (counts_in f r.book)
-  fits_pays e f = omega (arith, fits_adds e f, granted_is f, hops_are f, evals_are f, left_is f)
+  fits_pays e f = omega (arith, fits_adds e f, granted_is e f, hops_are e f, evals_are e f, left_is e f)
 
   live_is : misfit links ls ≡ None → (f : Family)
       → (counts_in f r.book).granted - ((counts_in f r.book).hops + (counts_in f r.book).evals + (counts_in f r.book).left) ≡ queued_sum f ls + on_the_way f links ls
-  live_is e f = omega (arith, fits_adds e f, granted_is f, hops_are f, evals_are f, left_is f)
+  live_is e f = omega (arith, fits_adds e f, granted_is e f, hops_are e f, evals_are e f, left_is e f)
 
   row_is : misfit links ls ≡ None → (f : Family) → row_in r.book f ≡ (f, row_of f links ls)
-  row_is e f = λ i. (f, record { granted = granted_is f i; hops = hops_are f i; evals = evals_are f i; live = live_is e f i; left = left_is f i })
+  row_is e f = λ i. (f, record { granted = granted_is e f i; hops = hops_are e f i; evals = evals_are e f i; live = live_is e f i; left = left_is e f i })
 
   -- and the rows are the ledger
   pub rows_are : misfit links ls ≡ None → map (row_in r.book) (by_hosts (sorted_into [] r.hosts) r.injected) ≡ ledger_of links ls

@@ -1,5 +1,5 @@
 -- What families were granted, paid and left, as the code counts it.
-use Rattle.std.specs.Prelude.{◌≡◌, ◌+◌, if◌then◌else◌, List, Option, Some, None, unwrap_or}
+use Rattle.std.specs.Prelude.{◌≡◌, ◌+◌, min, if◌then◌else◌, List, Option, Some, None, unwrap_or}
 use Rattle.std.specs.Map.{lookup}
 use Rattle.plan_base.specs.declared.ids.Family.{Family}
 use Rattle.node_core_spec.specs.declared.acts.Act.{Act}
@@ -14,9 +14,23 @@ use Rattle.ledger_audit.specs.Keys.{family_of}
 abbrev pub none : Counts
 none = record { granted = 0; hops = 0; evals = 0; left = 0 }
 
--- both in sum
+-- both in sum; a sum stands still at the last value of 64 bits
 abbrev pub plus : Counts → Counts → Counts
-plus a b = record { granted = a.granted + b.granted; hops = a.hops + b.hops; evals = a.evals + b.evals; left = a.left + b.left }
+plus a b = record {
+  granted = min (a.granted + b.granted) 18446744073709551615;
+  hops = min (a.hops + b.hops) 18446744073709551615;
+  evals = min (a.evals + b.evals) 18446744073709551615;
+  left = min (a.left + b.left) 18446744073709551615;
+}
+
+-- counts that stood still at the last value of 64 bits
+abbrev pub capped : Counts → Counts
+capped c = record {
+  granted = min c.granted 18446744073709551615;
+  hops = min c.hops 18446744073709551615;
+  evals = min c.evals 18446744073709551615;
+  left = min c.left 18446744073709551615;
+}
 
 -- the counts of a family among entries
 unfoldable pub counts_of : Family → List (FamilyKey × Counts) → Counts
@@ -41,6 +55,11 @@ act_row (Queued d f bound) = Some (f, record { granted = 0; hops = 1; evals = 0;
 act_row (Ended f o evals rest) = Some (f, record { granted = 0; hops = 0; evals = evals; left = rest })
 act_row (Dropped r f bound) = Some (f, record { granted = 0; hops = 0; evals = 0; left = bound })
 act_row _ = None
+
+-- the counts of a family, with what such a row adds to them
+abbrev pub with_row : Family → Option (Family × Counts) → Counts → Counts
+with_row f None counts = counts
+with_row f (Some x) counts = if is_family f x.0 then plus counts x.1 else counts
 
 -- what an act counts for a family
 abbrev pub act_counts : Family → Act → Counts

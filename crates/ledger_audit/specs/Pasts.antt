@@ -1,12 +1,13 @@
 -- What logs sent, accepted and did so far, and what the code keeps of it.
-use Rattle.std.specs.Prelude.{◌≡◌, ℕ, ◌+◌, if◌then◌else◌, List, [], ◌∷◌, ◌++◌, map, Option, Some, None}
-use Rattle.std.specs.List.{filter_map, AllByRecursion}
+use Rattle.std.specs.Prelude.{◌≡◌, ℕ, ◌+◌, ◌≤◌, if◌then◌else◌, List, [], ◌∷◌, ◌++◌, length, map, Option, Some, None}
+use Rattle.std.specs.List.{filter_map, All, AllByRecursion}
 use Rattle.plan_base.specs.declared.ids.Host.{Host}
 use Rattle.plan_base.specs.declared.ids.Family.{Family}
 use Rattle.network_config.specs.declared.node.Log.{Log}
 use Rattle.network_config.specs.declared.event.Event.{Event}
 use Rattle.network_config.specs.declared.event.Event.TheVariants as event
 use Rattle.network_config.specs.declared.event.LogEvent.{LogEvent}
+use Rattle.network_config.specs.NodeRules.{KeepsEntry}
 use Rattle.packet_frame.specs.declared.frame.PlainStamped.{PlainStamped}
 use Rattle.service_registry_spec.specs.Beginning.{opening_standing, present_without}
 use Rattle.node_core_spec.specs.declared.acts.Act.{Act}
@@ -23,7 +24,7 @@ use Rattle.ledger_audit.specs.declared.reckoning.Arrived.{Arrived}
 use Rattle.ledger_audit.specs.declared.reckoning.AuditState.{AuditState}
 use Rattle.ledger_audit.specs.Keys.{crossing_of}
 use Rattle.ledger_audit.specs.Tallies.{Tallied}
-use Rattle.ledger_audit.specs.Books.{counts_in, acts_counts}
+use Rattle.ledger_audit.specs.Books.{capped, counts_in, acts_counts}
 
 -- a log: its node at the beginning, and its entries
 abbrev pub logged_of : Log → Logged
@@ -117,14 +118,22 @@ pub record Holds (r : AuditState) (p : Past) : Type 0 where
   pub hosts : r.hosts ≡ p.hosts
   pub sent : Tallied p.sent [] r.tallies
   pub accepted : arrivals_of r.arrived ≡ p.accepted
-  pub counts : (f : Family) → counts_in f r.book ≡ acts_counts f p.acts
+  pub counts : (f : Family) → counts_in f r.book ≡ capped (acts_counts f p.acts)
   pub families : r.injected ≡ injected_families p.acts
 
--- the code keeps this of logs, in order, each of which begins with nothing queued and whose frames are read again
+-- a log has at most 50,000 entries, each within the limits of its node's version
+pub record KeepsLimits (l : Logged) : Type 0 where
+  pub few : length l.entries ≤ 50000
+  pub entries : All (KeepsEntry l.node.version) l.entries
+
+-- the code keeps this of at most 16 logs, in order, each of which begins with nothing queued and keeps its limits, and whose frames
+-- are read again
 pub record IsReckoned (links : Cables) (ls : List Logged) (r : AuditState) : Type 0 where
   pub holds : Holds r (with_logs links 0 ls nothing)
   pub begin : AllByRecursion Begins ls
   pub read : AllByRecursion ReadsAgain ls
+  pub few : length ls ≤ 16
+  pub limits : AllByRecursion KeepsLimits ls
 
 -- the code keeps what is to be kept of some logs
 pub record IsReckoning (r : AuditState) : Type 0 where

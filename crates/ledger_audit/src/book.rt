@@ -1,8 +1,8 @@
 //! The counts of each family over all logs.
-ghost use Rattle.std.specs.Prelude.{◌≡◌, OnOk, IfSome};
+ghost use Rattle.std.specs.Prelude.{◌≡◌, OnOk};
 ghost use Rattle.plan_base.specs.declared.ids.Family.{Family as FamilyOf};
 ghost use Rattle.ledger_audit.specs.Books as spec;
-ghost use Rattle.ledger_audit.specs.Books.{counts_in, IsSet, Adds};
+ghost use Rattle.ledger_audit.specs.Books.{counts_in, with_row, IsSet, Adds};
 
 use crate::keys::FamilyKey;
 use indexmap::IndexMap;
@@ -36,20 +36,16 @@ impl Counts {
         }
     }
 
-    /// Both in sum, or `None` where a sum has no place in 64 bits.
-    fn plus(self, more: Counts) -> Option<Counts>
-        ensures { IfSome result (λ c. c ≡ spec.plus self more) }
+    /// Both in sum. A sum stands still at 2^64 - 1, which 16 logs that fit don't reach.
+    fn plus(self, more: Counts) -> Counts
+        ensures { result ≡ spec.plus self more }
     {
-        let granted = self.granted.checked_add(more.granted)?;
-        let hops = self.hops.checked_add(more.hops)?;
-        let evals = self.evals.checked_add(more.evals)?;
-        let left = self.left.checked_add(more.left)?;
-        Some(Counts {
-            granted,
-            hops,
-            evals,
-            left,
-        })
+        Counts {
+            granted: self.granted.saturating_add(more.granted),
+            hops: self.hops.saturating_add(more.hops),
+            evals: self.evals.saturating_add(more.evals),
+            left: self.left.saturating_add(more.left),
+        }
     }
 }
 
@@ -112,23 +108,20 @@ impl FamilyTotals {
         Ok(())
     }
 
-    /// Adds to the counts of a family. A sum that has no place in 64 bits, which no 16 logs reach, is answered as a failed
-    /// allocation.
+    /// Adds to the counts of a family. A sum stands still at 2^64 - 1.
     fn add(&mut self, f: Family, more: Counts) -> Result<(), NoMemory>
         ensures { OnOk result (Adds f more self.old self.new) }
     {
-        let Some(counts) = self.of(f).plus(more) else {
-            return Err(NoMemory);
-        };
+        let counts = self.of(f).plus(more);
         self.set(f, counts)?;
         Ok(())
     }
 
-    /// Adds what an act counts.
+    /// Adds what an act counts. A sum stands still at 2^64 - 1.
     #[tactic(auto, using(crate::proofs::ActLaws::act_added, crate::proofs::ActLaws::act_apart))]
     pub fn act(&mut self, act: &Act) -> Result<(), NoMemory>
         ensures { OnOk result ((f : FamilyOf)
-            → counts_in f self.new ≡ spec.plus (counts_in f self.old) (spec.act_counts f act.now)) }
+            → counts_in f self.new ≡ with_row f (spec.act_row act.now) (counts_in f self.old)) }
     {
         match act_row(act) {
             Some((family, counts)) => self.add(family, counts),

@@ -1,7 +1,7 @@
 //! Finds the first frame that was accepted more often than it was sent.
 ghost use Rattle.std.specs.Prelude.{◌≡◌, List, [], IfOk};
 ghost use Rattle.ledger_audit.specs.Crossings.{Crossing, first_over};
-ghost use Rattle.ledger_audit.specs.Tallies.{Tallied};
+ghost use Rattle.ledger_audit.specs.Tallies.{AreFew, Tallied};
 ghost use Rattle.ledger_audit.specs.Pasts.{arrivals_of};
 ghost use Rattle.ledger_audit.specs.Ledgers.{over_in};
 
@@ -30,7 +30,8 @@ pub fn first_over_of(
     tallies: &mut Tallies,
     arrived: &[Arrived],
 ) -> Result<Option<Over>, NoMemory>
-    ensures { (sent : List Crossing) → Tallied sent [] tallies.old
+    ensures { (sent : List Crossing) → AreFew sent (arrivals_of arrived.now)
+        → Tallied sent [] tallies.old
         → IfOk result (λ over. over_in over ≡ first_over sent [] (arrivals_of arrived.now)) }
 {
     for arrival in arrived {

@@ -385,7 +385,7 @@ fn reckon_node<S: Services>(
 }
 
 /// Makes the steps of a log again, from its node's beginning, and adds what they sent, accepted and did. The number is that
-/// of the log, from 1. Condition: the log keeps its rules.
+/// of the log, from 1 to 16. Condition: the log keeps its rules.
 #[tactic(auto, using(node_log::proofs::Resting::new_rests))]
 pub fn reckon_log(
     alloc: Global,
@@ -395,7 +395,8 @@ pub fn reckon_log(
     reckoning: &mut AuditState,
 ) -> Result<(), NoMemory>
     requires { KeepsLog log.now }
-    ensures { (ls : List Logged) → IsReckoned links.now ls reckoning.old → length ls + 1 ≡ number
+    ensures { (ls : List Logged) → IsReckoned links.now ls reckoning.old
+        → length ls + 1 ≡ number → number ≤ 16
         → OnOk result (IsReckoned links.now (ls ++ logged_of log.now ∷ []) reckoning.new) }
 {
     let services = Registry::new(alloc, log.missing.as_slice());

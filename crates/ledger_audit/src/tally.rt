@@ -1,5 +1,5 @@
 //! How often each frame was sent and accepted.
-ghost use Rattle.std.specs.Prelude.{◌≡◌, IfOk, IfSome, OnOk};
+ghost use Rattle.std.specs.Prelude.{◌≡◌, IfOk, OnOk};
 ghost use Rattle.ledger_audit.specs.Crossings.{Crossing};
 ghost use Rattle.ledger_audit.specs.Keys.{crossing_of};
 ghost use Rattle.ledger_audit.specs.Tallies as spec;
@@ -20,20 +20,24 @@ pub struct SendCount {
 }
 
 impl SendCount {
-    /// Once more sent, or `None` where the count has no place in 32 bits.
-    fn one_sent(self) -> Option<SendCount>
-        ensures { IfSome result (λ t. t ≡ spec.one_sent self) }
+    /// Once more sent. The count stands still at 2^32 - 1, which 16 logs don't reach.
+    fn one_sent(self) -> SendCount
+        ensures { result ≡ spec.one_sent self }
     {
-        let sent = self.sent.checked_add(1)?;
-        Some(SendCount { sent, ..self })
+        SendCount {
+            sent: self.sent.saturating_add(1),
+            ..self
+        }
     }
 
-    /// Once more accepted, or `None` where the count has no place in 32 bits.
-    fn one_accepted(self) -> Option<SendCount>
-        ensures { IfSome result (λ t. t ≡ spec.one_accepted self) }
+    /// Once more accepted. The count stands still at 2^32 - 1, which 16 logs don't reach.
+    fn one_accepted(self) -> SendCount
+        ensures { result ≡ spec.one_accepted self }
     {
-        let accepted = self.accepted.checked_add(1)?;
-        Some(SendCount { accepted, ..self })
+        SendCount {
+            accepted: self.accepted.saturating_add(1),
+            ..self
+        }
     }
 }
 
@@ -74,29 +78,23 @@ impl Tallies {
         Ok(())
     }
 
-    /// Counts a frame as sent. A count that has no place in 32 bits, which no 16 logs reach, is answered as a failed
-    /// allocation.
+    /// Counts a frame as sent. The count stands still at 2^32 - 1.
     pub fn send(&mut self, key: CrossingKey) -> Result<(), NoMemory>
         ensures { OnOk result (Changes spec.one_sent (crossing_of key) self.old self.new) }
     {
-        let Some(new) = self.of(&key).one_sent() else {
-            return Err(NoMemory);
-        };
+        let new = self.of(&key).one_sent();
         self.set(key, new)?;
         Ok(())
     }
 
-    /// Counts a frame as accepted, and answers its counts. A count that has no place in 32 bits, which no 16 logs reach, is
-    /// answered as a failed allocation.
+    /// Counts a frame as accepted, and answers its counts. The count stands still at 2^32 - 1.
     pub fn accept(&mut self, key: CrossingKey) -> Result<SendCount, NoMemory>
         ensures tally { IfOk result
             (λ t. t ≡ spec.one_accepted (tally_in (crossing_of key) self.old)) }
         ensures after { OnOk result
             (Changes spec.one_accepted (crossing_of key) self.old self.new) }
     {
-        let Some(new) = self.of(&key).one_accepted() else {
-            return Err(NoMemory);
-        };
+        let new = self.of(&key).one_accepted();
         self.set(key, new)?;
         Ok(new)
     }

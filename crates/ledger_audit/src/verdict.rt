@@ -7,7 +7,7 @@ ghost use Rattle.network_config.specs.NodeRules.{KeepsLog};
 ghost use Rattle.net_world_spec.specs.World.{Cables};
 ghost use Rattle.ledger_audit.specs.Crossings.{Crossing, first_over};
 ghost use Rattle.ledger_audit.specs.Audits.{Logged, AddsUp};
-ghost use Rattle.ledger_audit.specs.Tallies.{Tallied};
+ghost use Rattle.ledger_audit.specs.Tallies.{AreFew, Tallied};
 ghost use Rattle.ledger_audit.specs.Books.{counts_in};
 ghost use Rattle.ledger_audit.specs.Pasts.{IsReckoned, IsReckoning, arrivals_of, logged_of};
 ghost use Rattle.ledger_audit.specs.Ledgers as spec;
@@ -133,7 +133,8 @@ fn misfit_in(
     tallies: &mut Tallies,
     arrived: &Items<Arrived>,
 ) -> Result<Option<Over>, NoMemory>
-    ensures { (sent : List Crossing) → Tallied sent [] tallies.old
+    ensures { (sent : List Crossing) → AreFew sent (arrivals_of arrived.now)
+        → Tallied sent [] tallies.old
         → IfOk result (λ over. over_in over ≡ first_over sent [] (arrivals_of arrived.now)) }
 {
     first_over_of(alloc, tallies, arrived.as_slice())

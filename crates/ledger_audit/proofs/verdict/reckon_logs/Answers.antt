@@ -20,7 +20,8 @@ loop-log-preserved c =
     record {
       number = n;
       reckoned = next_log c.args.links.now c.args.logs.now i l c.reckon_log.new.reckoning c.loop-log-test.true c.log-item.is
-          (c.in_ok-reckon_log.ensures (map logged_of (take i c.args.logs.now)) c.loop-log.invariant.reckoned (log_number c.args.logs.now i (c.loop-log.number + 1) c.loop-log-test.true n));
+          (c.in_ok-reckon_log.ensures (map logged_of (take i c.args.logs.now)) c.loop-log.invariant.reckoned (log_number c.args.logs.now i (c.loop-log.number + 1) c.loop-log-test.true n)
+          (omega (arith, n, c.loop-log-test.true, c.requires.few)));
     }
 
 pub returns : goal.returns

@@ -46,7 +46,8 @@ loop-name-preserved g c =
       number = next;
       along = along_next c.args.links.now c.args.names.now l.name-index (l.number + 1) c.name-item.result (state c.args.files.now) (state l.files) (state c.take_log.new.files) l.reckoning
           l.invariant.along c.loop-name-test.true c.name-item.is
-          next c.in_ok-log.log c.reckon_log.new.reckoning (takes_named _ _ _ _ _ _ _ _ c.as_slice.ensures c.as_str.ensures c.in_ok-log.ensures.takes) c.in-Ok.ensures;
+          next c.in_ok-log.log c.reckon_log.new.reckoning (takes_named _ _ _ _ _ _ _ _ c.as_slice.ensures c.as_str.ensures c.in_ok-log.ensures.takes)
+          (λ ls k n. c.in-Ok.ensures ls k n (omega (arith, next, c.loop-name-test.true, c.requires.few)));
     }
 
 pub returns : goal.returns

@@ -6,4 +6,4 @@ use Rattle.ledger_audit.proofs.tally.Tallies.send.Goals as goal
 
 pub returns : goal.returns
 returns c =
-    set_moves one_sent (crossing_of c.args.key) c.in-Some.new c.args.self.now c.set.new.self c.in_ok-set.ensures (c.in-Some.ensures ∙ ap one_sent c.of.ensures)
+    set_moves one_sent (crossing_of c.args.key) c.one_sent-new.result c.args.self.now c.set.new.self c.in_ok-set.ensures (c.one_sent-new.ensures ∙ ap one_sent c.of.ensures)
