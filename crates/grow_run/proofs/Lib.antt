@@ -1,4 +1,6 @@
 pub mod Arguments
+pub mod PingTyping
+pub mod PingText
 pub mod Drawing
 pub mod Growing
 pub mod RingRules

@@ -1,3 +1,4 @@
+pub mod Programs
 pub mod Pings
 pub mod Events
 pub mod Draws

@@ -6,6 +6,7 @@ ghost use Rattle.plan_base.specs.declared.stamp.Version.TheVariants.{One};
 ghost use Rattle.grow_run.specs.Grow as grow;
 ghost use Rattle.net_world.specs.Stands.{WorldStands};
 ghost use Rattle.grow_run.specs.Pings as spec;
+ghost use Rattle.grow_run.specs.Programs.{ping_program};
 ghost use Rattle.grow_run.specs.Events.{choice_fits, drawn_event};
 
 use crate::choice::RandomEvent;
@@ -25,9 +26,10 @@ const PING_BOUND: u32 = 20;
 /// The hosts of the network. Each of them ticks once before anything is drawn.
 const HOSTS: u32 = 8;
 
-/// The event that was drawn.
+/// The event that was drawn. Condition: the code is a ping's.
 fn event_of(alloc: Global, code: &Checked, choice: RandomEvent) -> Result<WorldEvent, NoMemory>
-    requires { choice_fits choice }
+    requires code { code.now ≡ ping_program }
+    requires choice { choice_fits choice }
     ensures event { IfOk result (λ e. e ≡ grow.event_of (spec.ping code.now) choice) }
     ensures fits { IfOk result (event_fits One) }
 {
@@ -43,13 +45,14 @@ fn event_of(alloc: Global, code: &Checked, choice: RandomEvent) -> Result<WorldE
     }
 }
 
-/// The event that is drawn next.
+/// The event that is drawn next. Condition: the code is a ping's.
 fn drawn_event<S: Services>(
     alloc: Global,
     code: &Checked,
     world: &World<S>,
     words: &mut Lcg64Xsh32,
 ) -> Result<WorldEvent, NoMemory>
+    requires { code.now ≡ ping_program }
     ensures event { (w : WorldState) → WorldStands S.stands world.now w
         → IfOk result (λ e. (e, words.new) ≡ drawn_event (spec.ping code.now) words.old w) }
     ensures fits { IfOk result (event_fits One) }
@@ -59,12 +62,14 @@ fn drawn_event<S: Services>(
 }
 
 /// The next event of a network: first each host ticks once, in order, and then what is drawn happens.
+/// Condition: the code is a ping's.
 pub fn next_event<S: Services>(
     alloc: Global,
     code: &Checked,
     world: &World<S>,
     words: &mut Lcg64Xsh32,
 ) -> Result<WorldEvent, NoMemory>
+    requires { code.now ≡ ping_program }
     ensures event { (w : WorldState) → WorldStands S.stands world.now w
         → IfOk result (λ e. (e, words.new) ≡ grow.next_event (spec.ping code.now) words.old w) }
     ensures fits { IfOk result (event_fits One) }

@@ -11,6 +11,7 @@ ghost use Rattle.grow_run.specs.Grow as grow;
 ghost use Rattle.grow_run.specs.Growths.{IsAtOpening, CanMake, MakesEvent, HasMade};
 ghost use Rattle.grow_run.specs.Summaries.{summary_of, grown_text};
 ghost use Rattle.grow_run.specs.Pings as spec;
+ghost use Rattle.grow_run.specs.Programs.{ping_program};
 
 use crate::draws::begin;
 use crate::events::next_event;
@@ -92,8 +93,10 @@ impl<S: Services> GrowingNetwork<S> {
         Ok(())
     }
 
-    /// Makes this many events. Conditions: they are at most 50,000, and nothing has happened in the network.
+    /// Makes this many events. Conditions: the code is a ping's, they are at most 50,000, and nothing has happened in the
+    /// network.
     pub fn grow(&mut self, alloc: Global, code: &Checked, events: u32) -> Result<(), NoMemory>
+        requires code { code.now ≡ ping_program }
         requires few { events ≤ 50000 }
         requires fresh { IsAtOpening S.stands self.old }
         ensures { OnOk result (HasMade (spec.ping code.now) events self.old.words self.new) }

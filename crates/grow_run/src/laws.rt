@@ -1,5 +1,5 @@
-//! Laws: the summary is that of the history, and the ring keeps the rules of a network.
-ghost use Rattle.std.specs.Prelude.{◌≡◌, ℕ, List};
+//! Laws: the summary is that of the history, the ring keeps the rules of a network, and the text of the ping is its program.
+ghost use Rattle.std.specs.Prelude.{◌≡◌, ℕ, List, Ok};
 ghost use Rattle.plan_base.specs.declared.ids.Family.{Family};
 ghost use Rattle.bound_ledger.specs.Rows.{FamilyRow, OneEach};
 ghost use Rattle.net_world_spec.specs.declared.lines.Entry.{Entry};
@@ -7,7 +7,10 @@ ghost use Rattle.net_world_spec.specs.World.{WorldState};
 ghost use Rattle.net_world_spec.specs.Counts.{Balanced};
 ghost use Rattle.bound_ledger.specs.Stands.{Stands};
 ghost use Rattle.network_config.specs.Rules.{KeepsNetwork};
+ghost use Rattle.program_text.specs.Texts.{program_of};
 ghost use Rattle.grow_run.specs.Grow.{ring};
+ghost use Rattle.grow_run.specs.Pings.{ping_text};
+ghost use Rattle.grow_run.specs.Programs.{ping_program};
 ghost use Rattle.grow_run.specs.Summaries.{summary_of, row_sums, summary_text, grown_text};
 
 /// The summary with the sums of rows that stand for a history is that of the history.
@@ -20,4 +23,10 @@ pub fn summaries_are_counts()
 /// The ring keeps the rules of a network.
 pub fn ring_keeps()
     ensures { KeepsNetwork ring }
+{}
+
+/// The text of a ping's program is that program.
+#[tactic(auto, using(crate::proofs::PingText::ping_says))]
+pub fn ping_is_read()
+    ensures { program_of ping_text ≡ Ok ping_program }
 {}

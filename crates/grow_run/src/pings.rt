@@ -3,15 +3,17 @@ ghost use Rattle.std.specs.Prelude.{◌≡◌, ◌≤◌, ◌∷◌, [], length,
 ghost use Rattle.std.specs.List.{list_all};
 ghost use Rattle.plan_base.specs.declared.tree.Value.TheVariants as value;
 ghost use Rattle.plan_base.specs.WellFormed.{well_formed_value, value_has_types};
+ghost use Rattle.plan_types_spec.specs.Typing.{IsTypedChunk};
 ghost use Rattle.checked_chunks.specs.Kept.{IsCheckedChunk};
 ghost use Rattle.program_text.specs.Texts.{program_of};
 ghost use Rattle.grow_run.specs.Pings as spec;
+ghost use Rattle.grow_run.specs.Programs.{ping_program};
 
 use checked_chunks::{Checked, CheckedChunk};
 use containers::Items;
 use plan_base::{Host, Name, NoMemory, Value, Values};
-use plan_types_chunks::chunk_of;
-use program_text::read_program;
+use plan_types_chunks::{ChunkFault, chunk_of};
+use program_text::{TextFault, read_program};
 use std::alloc::Global;
 
 /// The text of a ping's program.
@@ -24,12 +26,16 @@ fn ping_text() -> &'static [u8]
 }
 
 /// The program of a ping.
+#[tactic(auto, using(crate::proofs::PingText::ping_says))]
 pub fn ping_program(alloc: Global) -> Result<Checked, NoMemory>
-    ensures { IfOk result (λ code. program_of spec.ping_text ≡ Ok code) }
+    ensures text { IfOk result (λ code. program_of spec.ping_text ≡ Ok code) }
+    ensures tree { IfOk result (λ code. code ≡ ping_program) }
 {
-    match read_program(alloc, ping_text()).ok() {
-        Some(code) => Ok(code),
-        None => Err(NoMemory),
+    match read_program(alloc, ping_text()) {
+        Ok(code) => Ok(code),
+        Err(TextFault::NoMemory) => Err(NoMemory),
+        Err(TextFault::Lex(_)) | Err(TextFault::Parse(_)) => unreachable!(),
+        Err(TextFault::Ty(_, _)) => unreachable!(),
     }
 }
 
@@ -46,16 +52,39 @@ fn host_args(alloc: Global, from: Host, to: Host) -> Result<Values, NoMemory>
     Ok(args)
 }
 
-/// A ping from one host to another.
-#[tactic(auto, unfolding(plan_base::specs::Words::is_name, plan_base::specs::Words::is_word, plan_base::specs::Words::is_reserved))]
+/// A chunk that is typed. Condition: it is.
+fn typed_chunk(
+    alloc: Global,
+    code: &Checked,
+    entry: &Name,
+    args: Values,
+) -> Result<CheckedChunk, NoMemory>
+    requires formed { IsTrue (list_all well_formed_value args) }
+    requires full { IsTrue (list_all value_has_types args) }
+    requires typed { IsTypedChunk (record { code = code.now; entry = entry.now; args = args }) }
+    ensures chunk { IfOk result (λ chunk. chunk ≡ record {
+      code = code.now;
+      entry = entry.now;
+      args = args;
+    }) }
+    ensures checked { IfOk result IsCheckedChunk }
+{
+    match chunk_of(alloc, code, entry, args) {
+        Ok(chunk) => Ok(chunk),
+        Err(ChunkFault::NoMemory) => Err(NoMemory),
+        Err(ChunkFault::Ill(_)) => unreachable!(),
+        Err(ChunkFault::TooLarge) => unreachable!(),
+    }
+}
+
+/// A ping from one host to another. Condition: the code is a ping's.
+#[tactic(auto, using(crate::proofs::PingTyping::ping_typed), unfolding(plan_base::specs::Words::is_name, plan_base::specs::Words::is_word, plan_base::specs::Words::is_reserved))]
 pub fn ping(alloc: Global, code: &Checked, from: Host, to: Host) -> Result<CheckedChunk, NoMemory>
+    requires { code.now ≡ ping_program }
     ensures chunk { IfOk result (λ chunk. chunk ≡ spec.ping code.now from to) }
     ensures checked { IfOk result IsCheckedChunk }
 {
     let entry = Name::of(alloc, b"ping")?;
     let args = host_args(alloc, from, to)?;
-    match chunk_of(alloc, code, &entry, args).ok() {
-        Some(chunk) => Ok(chunk),
-        None => Err(NoMemory),
-    }
+    typed_chunk(alloc, code, &entry, args)
 }

@@ -5,8 +5,8 @@ use Rattle.grow_run.specs.Pings.{ping}
 use Rattle.grow_run.proofs.Drawing.{choice_is, drawn_is}
 use Rattle.grow_run.proofs.events.drawn_event.Goals as goal
 
-pub event_of-requires : goal.event_of-requires
-event_of-requires g c = choice_is c.lowest.result c.highest.result c.args.words.now c.choose-choice.result c.choose-choice.new.words c.choose-choice.ensures
+pub event_of-requires-clause-choice : goal.event_of-requires-clause-choice
+event_of-requires-clause-choice g c = choice_is c.lowest.result c.highest.result c.args.words.now c.choose-choice.result c.choose-choice.new.words c.choose-choice.ensures
 
 pub returns-clause-event : goal.returns-clause-event
 returns-clause-event g c = λ w h.

@@ -21,5 +21,5 @@ returns g c =
     let same = ap (λ words. history_of (grown_events (ping code) c.args.events words (opening ring)) (opening ring)) c.in_ok-growth.ensures.words in
     let fits = subst (λ words. EventsFit One (grown_events (ping code) c.args.events words (opening ring))) c.in_ok-growth.ensures.words c.in_ok-grow.ensures.fits in
     if_ok (λ text. text ≡ grown_text c.args.seed c.args.events h w) (λ text. OfGrown c.args.seed c.args.events (λ whole. text ≡ whole)) c.text.result
-    (λ text is. record { code = code; reads = c.in_ok-code.ensures; is = is ∙ output_is c.args.seed c.args.events code })
+    (λ text is. record { code = code; reads = c.in_ok-code.ensures.text; is = is ∙ output_is c.args.seed c.args.events code })
     (c.text.ensures h w (subst (λ x. Stands x c.grow.new.self.ledger) same c.in_ok-grow.ensures.ledger) (c.in_ok-grow.ensures.summary ∙ ap summary_of same) (λ f. opening_balances f ring es ring_keeps fits))
