@@ -12,13 +12,14 @@ use plan_printer::print_value;
 use service_api::{Ctx, Note, Router, Services};
 use std::alloc::Global;
 
-const PROGRAM: &[u8] =
+/// A program that counts and greets.
+pub const PROGRAM: &[u8] =
     b"svc count : () -> int\nsvc greet : (string) -> string\nfun f() : (int * string) = (count(), greet(\"ann\"))\n";
 
 const OTHER: &[u8] = b"svc count : () -> string\nfun f() : string = count()\n";
 
-// Around a visit at host 1, without neighbours.
-fn around(alloc: Global) -> Ctx
+/// Around a visit at host 1, without neighbours.
+pub fn around(alloc: Global) -> Ctx
     ensures purse { result.purse ≡ 5 }
     ensures source { result.source ≡ record { 0 = 1 } }
     ensures near { length result.neighbours ≤ 8 }
@@ -33,8 +34,8 @@ fn around(alloc: Global) -> Ctx
     }
 }
 
-// The packet of a text's function `f` with a bound of 5.
-fn packet(alloc: Global, text: &[u8]) -> Option<CheckedPacket>
+/// The packet of a text's function `f` with a bound of 5.
+pub fn packet(alloc: Global, text: &[u8]) -> Option<CheckedPacket>
     requires { length text.now ≤ 65536 }
     ensures bound { IfSome result (λ p. p.bound ≡ 5) }
     ensures source { IfSome result (λ p. p.family.source ≡ record { 0 = 1 }) }

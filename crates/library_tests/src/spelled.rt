@@ -1,7 +1,8 @@
 // Spellings: where the reading of one stops, how large what was read is, and that its copy is equal to it.
 
 use chunk_codec::{
-    SpellFault, get_chunk, get_name, get_type, get_value, put_name, put_type, put_value,
+    SpellFault, get_chunk, get_name, get_program, get_type, get_value, put_name, put_type,
+    put_value,
 };
 use plan_base::{Chunk, Family, Host, Limit, Name, Packet, Ty, Value};
 use plan_base_copy::TryClone;
@@ -36,6 +37,23 @@ fn chunk_stops(alloc: Global, bytes: &[u8], at: u32) -> bool {
 #[test]
 fn what_follows_a_chunk_is_left(rt: HostRuntime) {
     assert!(rt; chunk_stops(rt.alloc(), CHUNK, 11));
+}
+
+// Whether so many bytes of these are a program of one function.
+fn program_stops(alloc: Global, bytes: &[u8], at: u32) -> bool {
+    if bytes.len() >= 4_000_000 {
+        return false;
+    }
+    let mut cursor = Cursor::over(bytes);
+    match get_program(alloc, &mut cursor) {
+        Ok(program) => program.funs.len() == 1 && cursor.at() == at,
+        Err(_) => false,
+    }
+}
+
+#[test]
+fn what_follows_a_program_is_left(rt: HostRuntime) {
+    assert!(rt; program_stops(rt.alloc(), CHUNK, 8));
 }
 
 fn chunk_has(alloc: Global, bytes: &[u8], weight: u64, nesting: u32) -> bool {

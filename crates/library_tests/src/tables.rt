@@ -23,6 +23,8 @@ static PAIR: [(i64, u64); 2] = [(1, 1), (2, 1)];
 
 static TURNED: [i64; 2] = [2, 1];
 
+static ALL: [i64; 5] = [1, 2, 3, 4, 5];
+
 fn name(alloc: Global) -> Option<Text> {
     Vec::from_slice(alloc, b"t").ok().map(Text::of)
 }
@@ -64,6 +66,32 @@ fn expires_by(alloc: Global, name: &Text) -> bool {
 fn expires(alloc: Global, name: Option<Text>) -> bool {
     match name {
         Some(name) => expires_by(alloc, &name),
+        None => false,
+    }
+}
+
+// Whether the first key has its number before tick 3 alone.
+fn has_first(alloc: Global, tables: &Tables, name: &Text) -> bool {
+    tables.get(alloc, name, 1, &Ty::Int, 2).is_ok()
+        && tables.get(alloc, name, 1, &Ty::Int, 3).err() == Some(TableFault::NotFound)
+}
+
+fn copy_has_all(alloc: Global, tables: &Tables, name: &Text) -> bool {
+    match tables.copy(alloc) {
+        Ok(same) => has_keys(&same, &ALL) && has_first(alloc, &same, name),
+        Err(_) => false,
+    }
+}
+
+fn is_copied_by(alloc: Global, name: &Text) -> bool {
+    let mut tables = Tables::new(alloc);
+    put_each(alloc, &mut tables, name, &ROWS) && copy_has_all(alloc, &tables, name)
+}
+
+// Whether a copy of a table has each key, and what is read of it under the first.
+fn is_copied(alloc: Global, name: Option<Text>) -> bool {
+    match name {
+        Some(name) => is_copied_by(alloc, &name),
         None => false,
     }
 }
@@ -164,6 +192,11 @@ fn a_row_has_a_type_and_a_life(rt: HostRuntime) {
 #[test]
 fn an_overlay_keeps_the_order_of_puts(rt: HostRuntime) {
     assert!(rt; keeps_order(rt.alloc(), name(rt.alloc())));
+}
+
+#[test]
+fn a_copy_of_a_table_has_its_rows(rt: HostRuntime) {
+    assert!(rt; is_copied(rt.alloc(), name(rt.alloc())));
 }
 
 #[test]
