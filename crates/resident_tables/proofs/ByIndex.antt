@@ -84,14 +84,6 @@ module _ {R : Type 0} (key : R → Key) where
   pub index_removed : (xs : List R) (order : List ℕ) (j : ℕ) → IsIndex (map key xs) order → j < length order → IsIndex (map key (remove xs (slice_index order j))) (map (place_moved_up (slice_index order j)) (remove order j))
   index_removed xs order j ix h = rw (keys_remove xs (slice_index order j)) (index_less (map key xs) order j ix h)
 
-  -- an item's key stands in the index with that item's place
-  pub same_removed : (xs : List R) (order : List ℕ) (j p : ℕ) (x : R) → IsUnique key xs → IsIndex (map key xs) order → j < length order → ◌≡◌ {A = Key} (ranked_at (map key xs) order j) (key x)
-      → p < length xs → x ≡ get_or xs p x → remove xs (slice_index order j) ≡ remove xs p
-  same_removed xs order j p x u ix h e w r = sym (without_found (key x) xs order j u ix h e) ∙ without_at key (key x) xs p x u w (ap key (sym r))
-
-  pub present : (xs : List R) (order : List ℕ) (i p : ℕ) (x : R) → IsIndex (map key xs) order → Splits (map key xs) order (key x) i i → p < length xs → x ≡ get_or xs p x → ⊥
-  present xs order i p x ix s w r = splits_absent (map key xs) order (key x) i p ix s (let n = length-map xs key in omega arith) (sym (key_read xs p x w) ∙ ap key (sym r))
-
   -- ---- as the code reads and writes
 
   pub spot_here : (xs ys : List R) (order o : List ℕ) (k : Key) (r : Result ℕ ℕ) → ys ≡ xs → o ≡ order → IsSpot (map key ys) o k r → IsSpot (map key xs) order k r

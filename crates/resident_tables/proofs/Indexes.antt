@@ -1,15 +1,18 @@
 -- The search in an index, and an index after a key more and a key less.
-use Rattle.std.proofs.Common.{◌≡◌, ◌≢◌, inl, inr, ℕ, ◌+◌, ◌-◌, ◌<◌, ◌≤◌, List, [], ◌∷◌, ◌++◌, length, map, refl, sym, ap, ◌∙◌, subst, arith}
-use Rattle.std.proofs.lemmas.Bool.{cases_lt}
+use Rattle.std.proofs.Common.{◌≡◌, ◌≢◌, inl, inr, ℕ, zero, suc, ◌+◌, ◌-◌, ◌<◌, ◌≤◌, Bool, true, List, [], ◌∷◌, ◌++◌, length, get_or, map, refl, sym, ap, ◌∙◌, subst, arith}
+use Rattle.std.proofs.lemmas.Bool.{cases_lt, ltb-true, lt-ltb}
 use Rattle.std.proofs.lemmas.Bool.Decides.{nat_tests}
 use Rattle.std.proofs.lemmas.List.{length-append, length-map, get_or_append_left, get_or-append-add, get_or-map}
 use Rattle.std.proofs.lemmas.List.Edits.{length-insert, get_or-insert_below, get_or-insert_at, get_or-insert_above, length-remove, get_or-remove_below, get_or-remove_above}
+use Rattle.std.proofs.lemmas.List.Elements.{filter_passes}
+use Rattle.std.proofs.lemmas.List.Kept.{AllPairs-filter}
 use Rattle.std.specs.Prelude.{slice_index, nat_lt, if◌then◌else◌}
-use Rattle.std.specs.List.{insert, remove}
+use Rattle.std.specs.List.{AllPairs, filter, insert, remove}
 use Rattle.std.specs.declared.cmp.Ordering.TheVariants.{Less, Greater}
 use Rattle.containers.specs.Keys.{Key}
 use Rattle.resident_tables.specs.Order.{key_cmp}
 use Rattle.resident_tables.specs.Index.{no_key, key_at, ranked_at, IsIndex, Splits, place_moved_up}
+use Rattle.resident_tables.proofs.Lists.{true_or_false}
 use Rattle.resident_tables.proofs.Orders.{key_cmp_trans, key_cmp_turned, less_differs}
 
 -- ---- the search
@@ -271,4 +274,101 @@ module _ (ks : List Key) (order : List ℕ) (at : ℕ) (ix : IsIndex ks order) (
     within = λ j l. let w = within_less j l in omega arith;
     sorted = sorted_less;
     complete = λ p l. stays_in p (omega arith);
+  }
+
+-- ---- keys fewer, with marks that say of each place where its key stands then
+
+-- of numbers that differ, one stands at one place
+module _ (xs : List ℕ) (n at : ℕ) (h : at < length xs) (e : slice_index xs at ≡ n) (differ : (i j : ℕ) → i < j → j < length xs → slice_index xs i ≢ slice_index xs j) where
+  elsewhere : (i : ℕ) → i < length xs → i ≢ at → slice_index xs i ≢ n
+  elsewhere i l o f = elim (cases_lt i at) [
+    | inl m ↦ differ i at m h (f ∙ sym e)
+    | inr g ↦ let m : at < i = elim (cases_lt at i) [ inl k ↦ k | inr k ↦ absurd (o (omega arith)) ] in differ at i m l (e ∙ sym f)
+  ]
+
+  rest_below : ((j : ℕ) → j < length xs → slice_index xs j < n + 1) → (j : ℕ) → j < length (remove xs at) → slice_index (remove xs at) j < n
+  rest_below w j l =
+      let k = before_within at j (length xs) h (let r = length-remove xs at h in omega arith) in
+      let b = w (before at j) k in
+      let o = elsewhere (before at j) k (before_other at j) in
+      rw (removed_at xs at j h) (elim (cases_lt (slice_index xs (before at j)) n) [ inl m ↦ m | inr m ↦ absurd (o (omega arith)) ])
+
+  rest_differ : (i j : ℕ) → i < j → j < length (remove xs at) → slice_index (remove xs at) i ≢ slice_index (remove xs at) j
+  rest_differ i j m l =
+      let k = before_within at j (length xs) h (let r = length-remove xs at h in omega arith) in
+      rw (removed_at xs at i h, removed_at xs at j h) (differ (before at i) (before at j) (before_rises at i j m) k)
+
+  rest_holds : (q i : ℕ) → q < n → i < length xs → slice_index xs i ≡ q → (j : ℕ) × (j < length (remove xs at)) × (slice_index (remove xs at) j ≡ q)
+  rest_holds q i m l f =
+      let o : i ≢ at = λ g. let s : q ≡ n = sym f ∙ ap (slice_index xs) g ∙ e in absurd (omega arith) in
+      let b = before_all at i o in
+      (b.0, let k = b.2 (length xs) h l in let r = length-remove xs at h in omega arith, removed_at xs at b.0 h ∙ ap (slice_index xs) b.1 ∙ f)
+
+-- numbers below n that differ, of which none lacks, are n
+full : (n : ℕ) (xs : List ℕ) → ((j : ℕ) → j < length xs → slice_index xs j < n) → ((i j : ℕ) → i < j → j < length xs → slice_index xs i ≢ slice_index xs j)
+    → ((q : ℕ) → q < n → (j : ℕ) × (j < length xs) × (slice_index xs j ≡ q)) → length xs ≡ n
+full zero [] w d c = refl
+full zero (x ∷ xs) w d c = absurd (let h = w 0 (omega arith) in omega arith)
+full (suc n) xs w d c =
+    let at = c n (omega arith) in
+    let less = full n (remove xs at.0) (rest_below xs n at.0 at.1 at.2 d (λ j h. let b = w j h in omega arith)) (rest_differ xs n at.0 at.1 at.2 d)
+    (λ q h. let k = c q (omega arith) in rest_holds xs n at.0 at.1 at.2 d q k.0 h k.1 k.2) in
+    let r = length-remove xs at.0 at.1 in
+    omega arith
+
+still_there : (t : ℕ → Bool) (xs : List ℕ) (q k : ℕ) → k < length xs → slice_index xs k ≡ q → t q ≡ true → (j : ℕ) × (j < length (filter t xs)) × (slice_index (filter t xs) j ≡ q)
+still_there t [] q k l e h = absurd (omega arith)
+still_there t (x ∷ xs) q zero l e h = let f : t x ≡ true = ap t e ∙ h in rw f (0, omega arith, e)
+still_there t (x ∷ xs) q (suc k) l e h = let r = still_there t xs q k (omega arith) e h in elim (true_or_false (t x)) [
+  | inl f ↦ rw f (suc r.0, let m = r.1 in omega arith, r.2)
+  | inr f ↦ rw f r
+]
+
+-- the marks say where the keys stand that there are afterwards
+pub record IsMove (ks new : List Key) (marks : List ℕ) : Type 0 where
+  pub same : (p : ℕ) → p < length ks → slice_index marks p < length new → ◌≡◌ {A = Key} (key_at new (slice_index marks p)) (key_at ks p)
+  pub all : (q : ℕ) → q < length new → (p : ℕ) × (p < length ks) × (slice_index marks p ≡ q)
+
+module _ (ks new : List Key) (marks order : List ℕ) (ix : IsIndex ks order) (m : IsMove ks new marks) where
+  abbrev Stays : ℕ → Bool
+  Stays q = nat_lt q (length new)
+
+  abbrev sent : List ℕ
+  sent = map (slice_index marks) order
+
+  abbrev kept : List ℕ
+  kept = filter Stays sent
+
+  abbrev Rises : ℕ → ℕ → Type 0
+  Rises q r = q < length new → r < length new → key_cmp (key_at new q) (key_at new r) ≡ Less
+
+  ranked_sent : (j d : ℕ) → j < length order → get_or sent j d < length new → ◌≡◌ {A = Key} (key_at new (get_or sent j d)) (ranked_at ks order j)
+  ranked_sent j d h l =
+      let e = get_or-map (slice_index marks) order j 0 d h in
+      ap (key_at new) e ∙ m.same (slice_index order j) (ix.within j h) (subst (λ q. q < length new) e l)
+
+  sent_rises : AllPairs Rises sent
+  sent_rises i j d h l q r =
+      let k : j < length order = (let n = length-map order (slice_index marks) in omega arith) in
+      rw (ranked_sent i d (omega arith) q, ranked_sent j d k r) (ix.sorted i j h k)
+
+  kept_within : (j : ℕ) → j < length kept → slice_index kept j < length new
+  kept_within j h = ltb-true (slice_index kept j) (length new) (filter_passes Stays sent j 0 h)
+
+  kept_sorted : (i j : ℕ) → i < j → j < length kept → key_cmp (ranked_at new kept i) (ranked_at new kept j) ≡ Less
+  kept_sorted i j h l = AllPairs-filter Rises Stays sent sent_rises i j 0 h l (kept_within i (omega arith)) (kept_within j l)
+
+  kept_holds : (q : ℕ) → q < length new → (j : ℕ) × (j < length kept) × (slice_index kept j ≡ q)
+  kept_holds q h =
+      let p = m.all q h in
+      let i = ix.complete p.0 p.1 in
+      still_there Stays sent q i.0 (let l = i.1 in let n = length-map order (slice_index marks) in omega arith)
+      (get_or-map (slice_index marks) order i.0 0 0 i.1 ∙ ap (slice_index marks) i.2 ∙ p.2) (lt-ltb q (length new) h)
+
+  pub index_kept : IsIndex new (filter (λ q. nat_lt q (length new)) (map (slice_index marks) order))
+  index_kept = record {
+    same = full (length new) kept kept_within (λ i j h l e. less_differs (ranked_at new kept i) (ranked_at new kept j) (kept_sorted i j h l) (ap (key_at new) e)) kept_holds;
+    within = kept_within;
+    sorted = kept_sorted;
+    complete = kept_holds;
   }

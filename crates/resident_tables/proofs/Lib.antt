@@ -9,3 +9,4 @@ pub mod Steps
 pub mod Over
 pub mod Expiries
 pub mod Limits
+pub mod Marked

@@ -1,5 +1,5 @@
 -- The limits of rows after a tick and after a commit.
-use Rattle.std.proofs.Common.{◌≡◌, ℕ, ◌≤◌, Bool, true, false, List, [], ◌∷◌, length, Option, Some, None, min, refl, sym, ap, ◌∙◌, subst, arith}
+use Rattle.std.proofs.Common.{◌≡◌, inl, inr, ℕ, ◌<◌, ◌≤◌, true, false, List, [], ◌∷◌, length, Option, Some, None, min, refl, sym, ap, ◌∙◌, subst, arith}
 use Rattle.std.specs.Prelude.{nat_le}
 use Rattle.std.proofs.lemmas.Bool.{leb-true}
 use Rattle.std.proofs.lemmas.Bool.Decides.{nat_tests}
@@ -10,19 +10,17 @@ use Rattle.service_api.specs.Rows.{row_size, rows_size, is_live, living, fits}
 use Rattle.resident_tables.specs.declared.counts.Counts.{Counts}
 use Rattle.resident_tables.specs.Counted.{counts_of, within, bytes_after}
 use Rattle.resident_tables.specs.Layers.{Layer, over, put_all, without_all, IsOver, IsCounted}
+use Rattle.resident_tables.proofs.Lists.{true_or_false}
 use Rattle.resident_tables.proofs.Steps.{kept_first, gone_first}
 
 -- ---- a tick
 
-either : (b : Bool) → (P : Type 0) → (b ≡ true → P) → (b ≡ false → P) → P
-either true P f g = f refl
-either false P f g = g refl
-
-living_less : (now : ℕ) (xs : List Row) → (length (living now xs) ≤ length xs) × (rows_size (living now xs) ≤ rows_size xs)
+pub living_less : (now : ℕ) (xs : List Row) → (length (living now xs) ≤ length xs) × (rows_size (living now xs) ≤ rows_size xs)
 living_less now [] = (omega arith, omega arith)
-living_less now (x ∷ xs) = let ih = living_less now xs in let s = sum_by-cons row_size x xs in either (is_live now x) ((length (living now (x ∷ xs)) ≤ length (x ∷ xs)) × (rows_size (living now (x ∷ xs)) ≤ rows_size (x ∷ xs)))
-    (λ e. rw (kept_first now x xs e) (let a = ih.0 in omega arith, let b = ih.1 in let t = sum_by-cons row_size x (living now xs) in omega arith))
-    (λ e. rw (gone_first now x xs e) (let a = ih.0 in omega arith, let b = ih.1 in omega arith))
+living_less now (x ∷ xs) = let ih = living_less now xs in let s = sum_by-cons row_size x xs in elim (true_or_false (is_live now x)) [
+  | inl e ↦ rw (kept_first now x xs e) (let a = ih.0 in omega arith, let b = ih.1 in let t = sum_by-cons row_size x (living now xs) in omega arith)
+  | inr e ↦ rw (gone_first now x xs e) (let a = ih.0 in omega arith, let b = ih.1 in omega arith)
+]
 
 le_within : (n m : ℕ) (l : ℕ) → n ≤ m → nat_le m l ≡ true → nat_le n l ≡ true
 le_within n m l h k = grind (arith, nat_tests)
@@ -33,6 +31,9 @@ living_fits now xs h =
     and_both (nat_le (length (living now xs)) 1024) (nat_le (rows_size (living now xs)) 1048576)
     (le_within (length (living now xs)) (length xs) 1024 l.0 (and_left (nat_le (length xs) 1024) (nat_le (rows_size xs) 1048576) h))
     (le_within (rows_size (living now xs)) (rows_size xs) 1048576 l.1 (and_right (nat_le (length xs) 1024) (nat_le (rows_size xs) 1048576) h))
+
+pub few_rows : (xs : List Row) → fits xs ≡ true → length xs < 4294967296
+few_rows xs h = let b = leb-true (length xs) 1024 (and_left (nat_le (length xs) 1024) (nat_le (rows_size xs) 1048576) h) in omega arith
 
 pub whole_total : (xs : List Row) (n : ℕ) → fits xs ≡ true → n ≡ min (rows_size xs) 18446744073709551615 → n ≡ rows_size xs
 whole_total xs n h e = let b = leb-true (rows_size xs) 1048576 (and_right (nat_le (length xs) 1024) (nat_le (rows_size xs) 1048576) h) in omega arith

@@ -1,10 +1,14 @@
 -- Look-ups by key after a put and a removal, and what these are where the key's place is known.
-use Rattle.std.proofs.Common.{◌≡◌, inl, inr, ℕ, zero, suc, ◌<◌, List, [], ◌∷◌, ◌++◌, length, get_or, Some, None, refl, sym, ap, ◌∙◌, subst, arith}
+use Rattle.std.proofs.Common.{◌≡◌, ◌⊎◌, inl, inr, ℕ, zero, suc, ◌<◌, Bool, true, false, List, [], ◌∷◌, ◌++◌, length, get_or, Some, None, refl, sym, ap, ◌∙◌, subst, arith}
 use Rattle.std.proofs.Math.ListN.{set}
-use Rattle.std.specs.List.{remove}
+use Rattle.std.specs.List.{remove, filter}
 use Rattle.containers.proofs.Options.{none-some}
 use Rattle.containers.specs.Keys.{Key, first_of_key, put, without, IsUnique}
 use Rattle.resident_tables.proofs.Orders.{same_key_true, same_key_false, same_or_not}
+
+pub true_or_false : (b : Bool) → (b ≡ true) ⊎ (b ≡ false)
+true_or_false true = inl refl
+true_or_false false = inr refl
 
 module _ {R : Type 0} (key : R → Key) where
   -- ---- one step, where the first item has the key and where it hasn't
@@ -108,6 +112,20 @@ module _ {R : Type 0} (key : R → Key) where
   unique_without k (x ∷ xs) u = elim (same_or_not (key x) k) [
     | inl e ↦ rw (without_here k x xs e) (unique_without k xs u.1)
     | inr n ↦ rw (without_on k x xs n) (still_none (key x) k xs u.0, unique_without k xs u.1)
+  ]
+
+  none_kept : (t : R → Bool) (k : Key) (xs : List R) → first_of_key key k xs ≡ None → first_of_key key k (filter t xs) ≡ None
+  none_kept t k [] h = refl
+  none_kept t k (x ∷ xs) h = elim (true_or_false (t x)) [
+    | inl e ↦ rw e (not_found k x (filter t xs) (not_first k x xs h) (none_kept t k xs (not_later k x xs h)))
+    | inr e ↦ rw e (none_kept t k xs (not_later k x xs h))
+  ]
+
+  pub unique_kept : (t : R → Bool) (xs : List R) → IsUnique key xs → IsUnique key (filter t xs)
+  unique_kept t [] u = tt
+  unique_kept t (x ∷ xs) u = elim (true_or_false (t x)) [
+    | inl e ↦ rw e (none_kept t (key x) xs u.0, unique_kept t xs u.1)
+    | inr e ↦ rw e (unique_kept t xs u.1)
   ]
 
   -- ---- where the place of the key is known

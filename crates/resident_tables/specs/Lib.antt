@@ -7,3 +7,4 @@ pub mod Tables
 pub mod Expiries
 pub mod Layers
 pub mod PartRows
+pub mod Passes

@@ -10,6 +10,7 @@ mod moves;
 mod next;
 mod overlay;
 mod parts;
+mod passes;
 mod probe;
 mod search;
 mod tables;

@@ -1,13 +1,15 @@
 //! A list of items with keys, with an index by key.
 ghost use Rattle.std.specs.Prelude.{◌≡◌, ◌+◌, ◌<◌, ◌≤◌, [], length, reverse, OnOk, IfOk, IsTrue, ◌↔◌};
-ghost use Rattle.std.specs.List.{remove};
 ghost use Rattle.std.specs.Option.{option_copied};
 ghost use Rattle.containers.specs.Keys.{IsUnique, first_of_key, put, without};
+ghost use Rattle.service_api.specs.Rows.{living};
 ghost use Rattle.resident_tables.specs.Moved.{all_put};
 
 use crate::edits::{put_place, swap_in, take_out};
+use crate::passes;
 use crate::search::{look_up, search};
 use containers::HasKey;
+use service_api::Row;
 use std::alloc::{AllocError, Global};
 use std::marker::Model;
 
@@ -171,15 +173,16 @@ impl<T: HasKey + Drop> KeyedList<T> {
             take_out(&mut self.items, &mut self.order, j);
         }
     }
+}
 
-    /// Drops the item at place `i`; those behind it move up. Condition: `i` is below the length. Takes no memory.
-    pub fn remove_at(&mut self, i: usize)
-        requires { i < length self.old.items }
-        ensures items { self.new.items ≡ remove self.old.items i }
+impl KeyedList<Row> {
+    /// Drops the rows that aren't there any more at the tick `now`; those behind them move up. Condition: there are
+    /// fewer than 2^32. Takes no memory, and time for each row once.
+    pub(crate) fn drop_expired(&mut self, now: u64)
+        requires { length self.old.items < 4294967296 }
+        ensures rows { self.new.items ≡ living now self.old.items }
         ensures spare { self.old.spare ≤ self.new.spare }
     {
-        if let Ok(j) = search(self.items.as_slice(), self.order.as_slice(), &self.items[i]) {
-            take_out(&mut self.items, &mut self.order, j);
-        }
+        passes::drop_expired(&mut self.items, &mut self.order, now);
     }
 }

@@ -1,6 +1,6 @@
-//! Moves of rows: puts, removals, expiry and copies.
+//! Moves of rows: puts, removals and copies, and what all rows say of bytes and ticks.
 ghost use Rattle.std.specs.Prelude.{◌≡◌, ◌≤◌, [], ◌∷◌, ◌++◌, min, IfOk, OnOk, OnErr};
-ghost use Rattle.service_api.specs.Rows.{put_row, without_row, living, rows_size};
+ghost use Rattle.service_api.specs.Rows.{put_row, without_row, rows_size};
 ghost use Rattle.resident_tables.specs.Expiries.{least_expiry};
 ghost use Rattle.resident_tables.specs.Layers.{without_all};
 ghost use Rattle.resident_tables.specs.PartRows.{part_row};
@@ -67,20 +67,6 @@ pub fn drop_gone(rows: &mut KeyedList<Row>, gone: &[Gone])
     while let [g, later @ ..] = rest {
         rows.remove(g);
         rest = later;
-    }
-}
-
-/// Drops the rows that aren't there any more at the tick `now`. Takes no memory.
-pub fn drop_expired(rows: &mut KeyedList<Row>, now: u64)
-    ensures rows { rows.new.items ≡ living now rows.old.items }
-    ensures spare { rows.old.spare ≤ rows.new.spare }
-{
-    let mut i = rows.len();
-    while i > 0 {
-        i -= 1;
-        if !rows.as_slice()[i].is_live(now) {
-            rows.remove_at(i);
-        }
     }
 }
 

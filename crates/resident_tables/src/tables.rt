@@ -11,7 +11,7 @@ ghost use Rattle.resident_tables.specs.Tables.{row_of, IsPut, IsGot};
 use crate::counts::{Counts, bytes_after};
 use crate::fault::TableFault;
 use crate::list::KeyedList;
-use crate::moves::{copy_rows, drop_expired, least_expiry, put_parts, total_size};
+use crate::moves::{copy_rows, least_expiry, put_parts, total_size};
 use crate::next::take_key;
 use crate::overlay::Overlay;
 use crate::parts::Parts;
@@ -200,7 +200,7 @@ impl Tables {
         if now < self.earliest {
             return;
         }
-        drop_expired(&mut self.rows, now);
+        self.rows.drop_expired(now);
         self.bytes = total_size(self.rows.as_slice());
         self.earliest = least_expiry(self.rows.as_slice(), u64::MAX);
     }
