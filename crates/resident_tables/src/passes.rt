@@ -1,6 +1,6 @@
 //! Passes over all rows and their index, as rows go. An entry of the index has two halves of 32 bits: below, the place
 //! of a row; above, while rows go, the mark of the row whose place is the entry's own: where it will stand. So the rows
-//! that stay are told their places without memory.
+//! that stay find their places without memory.
 ghost use Rattle.std.specs.Prelude.{◌≡◌, ◌<◌, ◌≤◌, length, map, filter, slice_index, nat_lt, All};
 ghost use Rattle.std.specs.Vec.{vec_len, vec_capacity};
 ghost use Rattle.containers.specs.Keys.{IsUnique};
