@@ -7,3 +7,5 @@ pub mod Holdings
 pub mod Entries
 pub mod Arguments
 pub mod Shares
+pub mod PartTyping
+pub mod PartText

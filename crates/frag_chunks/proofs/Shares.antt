@@ -1,6 +1,6 @@
 -- The parts in order, and the sum of their bounds.
 use Rattle.std.proofs.Common.{◌≡◌, ℕ, zero, suc, ◌+◌, ◌-◌, ◌*◌, ◌/◌, ◌%◌, ◌≤◌, ◌<◌, Bool, true, false, if◌then◌else◌, List, [], ◌∷◌, ◌++◌, length, take, drop, refl, sym, ap, ◌∙◌, arith, append_assoc}
-use Rattle.std.specs.Prelude.{min, nat_lt, All, Ok, ℤ}
+use Rattle.std.specs.Prelude.{min, nat_lt, All, Ok, Some, None, ℤ}
 use Rattle.std.proofs.lemmas.List.Elements.{All-nil, All-cons}
 use Rattle.std.proofs.lemmas.List.{append-nil, take_all, length-drop}
 use Rattle.std.proofs.lemmas.Nat.{div-add-mod'}
@@ -8,7 +8,7 @@ use Rattle.std.proofs.lemmas.Nat.{mod_below}
 use Rattle.std.proofs.lemmas.Bool.Decides.{nat_tests}
 use Rattle.plan_base.specs.declared.ids.Host.{Host}
 use Rattle.plan_base.specs.declared.tree.Program.{Program}
-use Rattle.plan_meaning.specs.Meaning.{bound_of}
+use Rattle.plan_meaning.specs.Meaning.{is_paid, bound_of}
 use Rattle.program_text.specs.Texts.{program_of}
 use Rattle.frag_chunks.specs.declared.cutting.PartId.{PartId}
 use Rattle.frag_chunks.specs.declared.cutting.Part.{Part}
@@ -63,6 +63,14 @@ bounds_all code n a b m = whole (parts_in (length b)) (omega (arith, m.some))
 pub bounds_small : (n : ℕ) (ps : List Part) → bounds ps ≡ n → n ≤ 65535 → All HasBound ps
 bounds_small n [] e h = All-nil HasBound
 bounds_small n (p ∷ ps) e h = All-cons HasBound p ps (omega (arith, e, h)) (bounds_small (bounds ps) ps refl (omega (arith, e, h)))
+
+-- a bound that is paid is the one of its number
+pub bound_is : (n : ℤ) (holds m : ℕ) → Some m ≡ (if is_paid n holds then Some (bound_of n) else None) → m ≡ bound_of n
+bound_is n holds m e = by (is_paid n holds) e
+  where
+    by : (t : Bool) → Some m ≡ (if t then Some (bound_of n) else None) → m ≡ bound_of n
+    by true e = cc
+    by false e = absurd cc
 
 -- the program that was read is the one that the text says
 pub parts_are : (code : Program) (n : ℤ) (dest : Host) (port : ℕ) (key : ℤ) (b : List ℕ) → program_of part_text ≡ Ok code → cut_of code (bound_of n) (address dest port key) b ≡ parts_for n dest port key b

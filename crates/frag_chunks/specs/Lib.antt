@@ -1,3 +1,4 @@
+pub mod Programs
 pub mod Parts
 pub mod Gathers
 pub mod Messages

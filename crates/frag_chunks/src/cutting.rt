@@ -1,14 +1,18 @@
 //! Cuts a message into parts, and makes the chunk and the bound of each.
-ghost use Rattle.std.specs.Prelude.{◌≡◌, ◌*◌, ◌≤ℤ◌, ◌<◌, ◌≤◌, length, pos, IfOk, OnOk, OnErr, Ok, Err, ◌↔◌, false, All};
+ghost use Rattle.std.specs.Prelude.{◌≡◌, ◌*◌, ◌≤ℤ◌, ◌<◌, ◌≤◌, length, pos, IfOk, OnOk, OnErr, Ok, Err, ◌↔◌, false, All, IsTrue};
+ghost use Rattle.std.specs.List.{list_all};
+ghost use Rattle.plan_base.specs.WellFormed.{well_formed_value, value_has_types};
+ghost use Rattle.plan_types_spec.specs.Typing.{IsTypedChunk};
 ghost use Rattle.plan_meaning.specs.Meaning.{is_paid, bound_of};
 ghost use Rattle.program_text.specs.Texts.{program_of};
 ghost use Rattle.frag_chunks.specs.Parts as spec;
+ghost use Rattle.frag_chunks.specs.Programs.{part_program};
 
 use checked_chunks::{Checked, CheckedChunk};
 use containers::Items;
 use plan_base::{Bytes, Host, Name, NoMemory, Value, Values};
-use plan_types_chunks::chunk_of;
-use program_text::read_program;
+use plan_types_chunks::{ChunkFault, chunk_of};
+use program_text::{TextFault, read_program};
 use remote_calls::{NoBound, Purse};
 use std::alloc::{AllocError, Global};
 
@@ -75,13 +79,17 @@ fn part_text() -> &'static [u8]
     b"svc thisHostIs : (host) -> bool\nsvc getRB : () -> int\nsvc deliver : (int, (int * int * int * blob)) -> unit\nfun part(dest : host, port : int, key : int, index : int, count : int, data : blob) : unit =\n  if thisHostIs(dest) then deliver(port, (key, index, count, data))\n  else OnRemote(|part|(dest, port, key, index, count, data), dest, getRB(), defaultRoute)\n"
 }
 
-/// The program of a part.
+/// The program of a part, read from its text, which is that program's.
+#[tactic(auto, using(crate::proofs::PartText::part_says))]
 fn part_program(alloc: Global) -> Result<Checked, NoMemory>
-    ensures { IfOk result (λ code. program_of spec.part_text ≡ Ok code) }
+    ensures text { IfOk result (λ code. program_of spec.part_text ≡ Ok code) }
+    ensures tree { IfOk result (λ code. code ≡ part_program) }
 {
     match read_program(alloc, part_text()) {
         Ok(code) => Ok(code),
-        Err(_) => Err(NoMemory),
+        Err(TextFault::NoMemory) => Err(NoMemory),
+        Err(TextFault::Lex(_)) | Err(TextFault::Parse(_)) => unreachable!(),
+        Err(TextFault::Ty(_, _)) => unreachable!(),
     }
 }
 
@@ -119,8 +127,32 @@ fn part_args(
     Ok(args)
 }
 
-/// The chunk of a part.
-#[tactic(auto, using(crate::proofs::Arguments::args_formed, crate::proofs::Arguments::args_full), unfolding(plan_base::specs::Words::is_name, plan_base::specs::Words::is_word, plan_base::specs::Words::is_reserved))]
+/// A chunk that is typed. Condition: it is.
+fn typed_chunk(
+    alloc: Global,
+    code: &Checked,
+    entry: &Name,
+    args: Values,
+) -> Result<CheckedChunk, NoMemory>
+    requires formed { IsTrue (list_all well_formed_value args) }
+    requires full { IsTrue (list_all value_has_types args) }
+    requires typed { IsTypedChunk (record { code = code.now; entry = entry.now; args = args }) }
+    ensures { IfOk result (λ chunk. chunk ≡ record {
+      code = code.now;
+      entry = entry.now;
+      args = args;
+    }) }
+{
+    match chunk_of(alloc, code, entry, args) {
+        Ok(chunk) => Ok(chunk),
+        Err(ChunkFault::NoMemory) => Err(NoMemory),
+        Err(ChunkFault::Ill(_)) => unreachable!(),
+        Err(ChunkFault::TooLarge) => unreachable!(),
+    }
+}
+
+/// The chunk of a part. Condition: the code is a part's.
+#[tactic(auto, using(crate::proofs::Arguments::args_formed, crate::proofs::Arguments::args_full, crate::proofs::PartTyping::part_typed), unfolding(plan_base::specs::Words::is_name, plan_base::specs::Words::is_word, plan_base::specs::Words::is_reserved))]
 fn part_chunk(
     alloc: Global,
     code: &Checked,
@@ -129,15 +161,13 @@ fn part_chunk(
     count: u32,
     piece: &[u8],
 ) -> Result<CheckedChunk, NoMemory>
-    requires { length piece.now ≤ 8192 }
+    requires code { code.now ≡ part_program }
+    requires short { length piece.now ≤ 8192 }
     ensures { IfOk result (λ chunk. chunk ≡ spec.part_chunk code.now to.now index count piece.now) }
 {
     let entry = Name::of(alloc, b"part")?;
     let args = part_args(alloc, to, index, count, piece)?;
-    match chunk_of(alloc, code, &entry, args) {
-        Ok(chunk) => Ok(chunk),
-        Err(_) => Err(NoMemory),
-    }
+    typed_chunk(alloc, code, &entry, args)
 }
 
 /// The bytes of the part with this index.
@@ -165,7 +195,7 @@ fn share(bound: u32, count: u32, index: u32) -> u32
     bound / count + more
 }
 
-/// The part with this index.
+/// The part with this index. Condition: the code is a part's.
 fn one_part(
     alloc: Global,
     code: &Checked,
@@ -175,6 +205,7 @@ fn one_part(
     count: u32,
     index: u32,
 ) -> Result<Part, NoMemory>
+    requires code { code.now ≡ part_program }
     requires small { bound ≤ 65535 }
     requires within { index < count }
     requires some { 8192 * index ≤ length bytes.now }
@@ -194,7 +225,7 @@ fn count_of(bytes: &[u8]) -> u32
     ((bytes.len() + (MOST_PART_BYTES - 1)) / MOST_PART_BYTES) as u32
 }
 
-/// All parts of a message.
+/// All parts of a message. Condition: the code is a part's.
 #[tactic(auto, using(crate::proofs::Shares::part_step, crate::proofs::Shares::part_end), unfolding(crate::specs::Parts::cut_of))]
 fn parts_of(
     alloc: Global,
@@ -203,6 +234,7 @@ fn parts_of(
     to: &PartId,
     bytes: &[u8],
 ) -> Result<Parts, NoMemory>
+    requires code { code.now ≡ part_program }
     requires message { spec.IsMessage bytes.now }
     requires small { bound ≤ 65535 }
     ensures { IfOk result (λ parts. parts ≡ spec.cut_of code.now bound to.now bytes.now) }

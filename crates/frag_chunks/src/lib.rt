@@ -9,4 +9,4 @@ mod laws;
 
 pub use cutting::{CutFault, Part, PartId, Parts, cut};
 pub use gather::{Added, Gather, Held};
-pub use laws::messages_are_gathered;
+pub use laws::{messages_are_gathered, part_is_read};
