@@ -7,9 +7,9 @@ import sys
 import typing
 
 ROOT = pathlib.Path(__file__).resolve().parent.parent
-# the programs that a build makes, and the crate at the end of the longest chain that it goes through
+# the programs that a build makes, and the crates that it begins with, with those below them
 PROGRAM, CHART = "planet", "trace_chart"
-LONGEST_CHAIN_TO = "plan_eval"
+LOWEST = ["plan_base_copy", "plan_base_size", "plan_types_spec"]
 BUILT = ROOT / "crates" / PROGRAM / "out" / PROGRAM
 
 
