@@ -1,5 +1,6 @@
-mod First
 mod Greater
-mod Idle
-mod Leaving
 mod Visits
+mod Walks
+mod Spotting
+mod Turning
+mod Starting

@@ -1,7 +1,8 @@
 -- How a visit ends, by what its entry stands for.
-use Rattle.std.proofs.Common.{◌≡◌, ◌≢◌, ℕ, ◌+◌, ◌≤◌, [], length, All, Result, Ok, Err, IfOk, OnOk, Some, slice_get, option_and_then, refl, sym, ap, ◌∙◌, subst, arith}
+use Rattle.std.proofs.Common.{◌≡◌, ◌≢◌, ℕ, ◌+◌, ◌≤◌, List, [], length, All, Result, Ok, Err, IfOk, OnOk, Some, slice_get, option_and_then, refl, sym, ap, ◌∙◌, subst, arith}
 use Rattle.std.proofs.Math.Nat.{not-suc-le-zero}
 use Rattle.plan_base.specs.declared.ids.Family.{Family}
+use Rattle.plan_base.specs.declared.memory.NoMemory.{NoMemory as MemoryFault}
 use Rattle.plan_base.specs.declared.tree.Exn.{Exn}
 use Rattle.plan_base.specs.declared.tree.Chunk.{Chunk}
 use Rattle.plan_base.specs.declared.tree.Value.{Value}
@@ -26,6 +27,11 @@ use Rattle.plan_meaning.specs.Meaning.{meaning, visited_chunk}
 use Rattle.plan_meaning.specs.Safe.{IsSafe, AreGoodNotes, AreGoodPackets, IsGoodState, Holds, IsRight}
 use Rattle.plan_meaning.specs.Visit.{IsVisit, Ends, IsGoodEnd, NoteHasTypes, allowance, begun_state, ended_visit, spent_visit, bounds}
 use Rattle.plan_meaning.specs.Laws.{left_by, total}
+use Rattle.plan_eval_state.specs.declared.progress.Progress.{Progress}
+use Rattle.plan_eval_state.specs.declared.run.Run.{Run}
+use Rattle.plan_eval_state.specs.Flow.{now}
+use Rattle.plan_eval.specs.Start.{IsStart, begun_own}
+use Rattle.plan_eval.specs.Turns.{Ends as RunEnds, IsRightEnd}
 use Rattle.plan_meaning.proofs.Even.{visit_balance}
 use Rattle.plan_meaning.proofs.Full.{full_value}
 use Rattle.plan_meaning.proofs.Sound.{visit_soundness}
@@ -189,3 +195,34 @@ module _ (k : Chunk) (ctx around : Ctx) (family : Family) (old : ServiceState) (
       let f = subst (λ (y : EvalStop). y ≢ NoMemory → (visited_chunk meaning k (joined_state o old)).after ≡ stopped y s) w m in
       let e = from_start (stopped WorkSpent s) h (f (λ (y : WorkSpent ≡ NoMemory). cc)) in
       subst (λ (y : Visit). IsVisit allowance k ctx family old y s.services) (sym (q ∙ ap (spent_visit allowance) (sym p))) (visit_spent k ctx family old s e)
+
+-- ---- a visit as the code begins it
+
+module _ (k0 k : Chunk) (ctx : Ctx) (f0 family : Family) (old : ServiceState) (run : Run) (same : k0 ≡ k) (family_is : f0 ≡ family) (start : IsStart k0 (begun_own ctx f0) run) where
+  own_is : run.state ≡ begun_own ctx family
+  own_is = start.state_is ∙ ap (begun_own ctx) family_is
+
+  pub start_safe : IsGoodChunk k → IsGood old → length ctx.neighbours ≤ 8 → IsSafe (visited_chunk meaning k0 (now run old)).asks
+  start_safe t g n = rw (same, own_is) (safe_from k ctx ctx family old (begun_own ctx family) (refl, refl) t g n)
+
+  start_ends : (pre : List Value) (p : Progress) (new : Run) (m : ServiceState) → RunEnds pre (visited_chunk meaning k0 (now run old)) p new m
+      → RunEnds pre (visited_chunk meaning k (begun_state allowance ctx family old)) p new m
+  start_ends pre p new m h = rw (same, own_is) at h
+
+  pub start_right : (pre : List Value) (p : Progress) (new : Run) (m : ServiceState) → IsGoodChunk k → IsGood old → length ctx.neighbours ≤ 8
+      → RunEnds pre (visited_chunk meaning k0 (now run old)) p new m → IsRightEnd p new
+  start_right pre p new m t g n h = record {
+    pre = pre;
+    want = visited_chunk meaning k (begun_state allowance ctx family old);
+    services = m;
+    ends = start_ends pre p new m h;
+    right = λ s wrong. never_from k ctx ctx family old (begun_own ctx family) (refl, refl) t g n Wrong s refl (λ other. wrong);
+  }
+
+  -- what it ends with is the visit of the chunk
+  pub start_visits : (r : Result Visit MemoryFault) (bound : ℕ) (pre : List Value) (p : Progress) (new : Run) (m : ServiceState) → ctx.purse ≡ bound
+      → RunEnds pre (visited_chunk meaning k0 (now run old)) p new m
+      → IfOk r (λ v. (k : Chunk) (ctx : Ctx) (family : Family) (old n : ServiceState) (pre : List Value) → ctx.purse ≡ bound
+      → RunEnds pre (visited_chunk meaning k (begun_state allowance ctx family old)) p new n → IsVisit allowance k ctx family old v n)
+      → IfOk r (λ v. IsVisit allowance k ctx family old v m)
+  start_visits r bound pre p new m purse h visits = ok_map (λ v f. f k ctx family old m pre purse (start_ends pre p new m h)) r visits

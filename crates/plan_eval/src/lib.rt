@@ -2,9 +2,10 @@
 #![tactic(auto)]
 
 mod allowances;
-mod machine;
+mod place;
+mod start;
 mod task;
-mod top_code;
+mod turns;
 mod visiting;
 
 pub use allowances::greater_allowances;

@@ -1,26 +1,28 @@
 //! The visit of a packet.
-ghost use Rattle.std.specs.Prelude.{◌≡◌, ◌≢◌, ◌↔◌, ◌+◌, ◌≤◌, ◌∷◌, [], ℕ, length, All, IfOk, OnOk, IsSome, Some, min};
+ghost use Rattle.std.specs.Prelude.{◌≡◌, ◌≢◌, ◌↔◌, ◌+◌, ◌≤◌, List, ℕ, length, All, IfOk, OnOk, IsSome, Some, min};
+ghost use Rattle.plan_base.specs.declared.ids.Family.{Family as AFamily};
+ghost use Rattle.plan_base.specs.declared.tree.Chunk.{Chunk as AChunk};
 ghost use Rattle.plan_base.specs.declared.tree.Fun.{Fun as AFun};
-ghost use Rattle.plan_types_spec.specs.TypingOrder.{fun_of};
-ghost use Rattle.service_api.specs.Services.{AreGoodRows, IsGoodChunk};
+ghost use Rattle.plan_base.specs.declared.tree.Value.{Value as AValue};
 ghost use Rattle.plan_base.specs.Sizes.{code_size};
-ghost use Rattle.plan_meaning.specs.Visit.{IsVisit, IsGoodEnd, NoteHasTypes, allowance, bounds, spent_visit};
+ghost use Rattle.plan_types_spec.specs.TypingOrder.{fun_of};
+ghost use Rattle.service_api.specs.declared.ctx.Ctx.{Ctx as ACtx};
+ghost use Rattle.service_api.specs.Services.{AreGoodRows, ServiceState};
+ghost use Rattle.plan_meaning.specs.Visit.{IsVisit, IsGoodEnd, NoteHasTypes, allowance, begun_state, bounds, spent_visit};
 ghost use Rattle.plan_meaning.specs.declared.outcome.Outcome.TheVariants as outcome;
-ghost use Rattle.plan_meaning.specs.State.{joined_state};
 ghost use Rattle.plan_meaning.specs.Meaning.{meaning, visited_chunk};
-ghost use Rattle.plan_meaning.specs.Safe.{IsSafe, AreGoodNotes, AreGoodPackets};
+ghost use Rattle.plan_meaning.specs.Safe.{AreGoodNotes, AreGoodPackets};
 ghost use Rattle.plan_meaning.specs.Laws.{VisitEnds, VisitsAlike, NoneSuffices};
-ghost use Rattle.visit_state.specs.Meets.{Meets};
 ghost use Rattle.plan_eval.specs.Given.{GivesAlone};
+ghost use Rattle.plan_eval.specs.Start.{IsStart, begun_own};
+ghost use Rattle.plan_eval.specs.Turns.{Ends, IsRightEnd};
 
-use crate::machine::run_from;
+use crate::start::{first_run, run_entry, taken};
 use checked_chunks::CheckedPacket;
 use containers::Items;
-use eval_flow::{ProgramSize, enters};
-use eval_steps::Codes;
-use plan_base::{Chunk, Family, NoMemory, Value};
+use plan_base::{Chunk, Family, NoMemory};
+use plan_eval_state::{Progress, Run};
 use plan_meaning::{EvalStop, Outcome, Visit};
-use plan_types_spec::place_of;
 use service_api::{Ctx, Services};
 use std::alloc::Global;
 use visit_state::{ALLOWANCE, EvalState};
@@ -39,69 +41,34 @@ fn visit_without_effect(alloc: Global, bound: u32) -> Visit
     }
 }
 
-/// The program with which a visit starts.
-fn first_codes(alloc: Global, chunk: &Chunk) -> Result<Codes, NoMemory>
-    ensures { IfOk result (λ codes. codes ≡ chunk.now.code ∷ []) }
-{
-    let mut codes = Vec::with_capacity(alloc, 1)?;
-    codes.push_reserved(chunk.code.share()?);
-    Ok(Items::from_vec(codes))
-}
-
-/// Runs a chunk from its entry to its end.
-fn run_chunk<S: Services>(
-    alloc: Global,
-    chunk: &Chunk,
-    size: u64,
-    state: &mut EvalState,
-    svc: &mut S,
-) -> Result<Value, EvalStop>
-    requires size { size ≡ min (code_size chunk.now.code) 18446744073709551615 }
-    requires open { IsSome (S.stands svc.old).begun }
-    requires safe { IsSafe (visited_chunk meaning chunk.now
-        (joined_state state.old (S.stands svc.old))).asks }
-    ensures meets { Meets (visited_chunk meaning chunk.now
-        (joined_state state.old (S.stands svc.old))) result
-        (joined_state state.new (S.stands svc.new)) }
-    ensures offer { (S.stands svc.new).offer ≡ (S.stands svc.old).offer }
-    ensures begun { (S.stands svc.new).begun ≡ (S.stands svc.old).begun }
-{
-    let Some(fun) = place_of(&chunk.entry, chunk.code.get().funs.as_slice()) else {
-        return Err(EvalStop::Wrong);
-    };
-    if !enters(&chunk.code, fun, &chunk.args) {
-        return Err(EvalStop::Wrong);
-    }
-    let codes = first_codes(alloc, chunk)?;
-    let first = ProgramSize { number: 0, size };
-    run_from(alloc, codes, first, chunk, fun, state, svc)
-}
-
-/// What the visit of a chunk ends with.
-fn visit_chunk<S: Services>(
+/// A visit as it begins in these surroundings.
+fn begun(
     alloc: Global,
     chunk: &Chunk,
     size: u64,
     family: Family,
-    bound: u32,
-    svc: &mut S,
     ctx: &Ctx,
-) -> Result<Visit, NoMemory>
+) -> Result<Run, NoMemory>
     requires size { size ≡ min (code_size chunk.now.code) 18446744073709551615 }
-    requires good { IsGoodChunk chunk.now }
-    requires bound { ctx.now.purse ≡ bound }
-    requires small { bound ≤ 65535 }
+    requires purse { ctx.now.purse ≤ 65535 }
     requires near { length ctx.now.neighbours ≤ 8 }
-    requires rows { AreGoodRows (S.stands svc.old).rows }
-    requires open { IsSome (S.stands svc.old).begun }
-    ensures visits { IfOk result (λ r. IsVisit allowance chunk.now ctx.entry.now family
-        (S.stands svc.old) r (S.stands svc.new)) }
-    ensures offer { (S.stands svc.new).offer ≡ (S.stands svc.old).offer }
-    ensures begun { (S.stands svc.new).begun ≡ (S.stands svc.old).begun }
+    ensures { IfOk result (λ run. IsStart chunk.now (begun_own ctx.entry.now family) run) }
 {
     let around = ctx.copy(alloc)?;
-    let mut state = EvalState::new(alloc, around, family, ALLOWANCE);
-    match run_chunk(alloc, chunk, size, &mut state, svc) {
+    let state = EvalState::new(alloc, around, family, ALLOWANCE);
+    first_run(alloc, chunk, size, state)
+}
+
+/// What a visit ends with that came so far.
+fn visited(alloc: Global, run: Run, came: Progress, bound: u32) -> Result<Visit, NoMemory>
+    requires right { IsRightEnd came run }
+    ensures { IfOk result (λ r. (k : AChunk) (ctx : ACtx) (family : AFamily) (old n : ServiceState)
+        (pre : List AValue) → ctx.purse ≡ bound → Ends pre (visited_chunk meaning k
+        (begun_state allowance ctx family old)) came run n
+        → IsVisit allowance k ctx family old r n) }
+{
+    let (state, given) = taken(run, came);
+    match given {
         Ok(v) => Ok(state.into_visit(Outcome::Value(v))),
         Err(EvalStop::Raised(x)) => Ok(state.into_visit(Outcome::Raised(x))),
         Err(EvalStop::WorkSpent) => {
@@ -114,44 +81,6 @@ fn visit_chunk<S: Services>(
         }
         Err(EvalStop::Wrong) => unreachable!(),
     }
-}
-
-/// What the visit of a chunk ends with, and what holds of it by the laws of the meaning.
-fn visit_by_laws<S: Services>(
-    alloc: Global,
-    chunk: &Chunk,
-    size: u64,
-    family: Family,
-    bound: u32,
-    svc: &mut S,
-    ctx: &Ctx,
-) -> Result<Visit, NoMemory>
-    requires size { size ≡ min (code_size chunk.now.code) 18446744073709551615 }
-    requires good { IsGoodChunk chunk.now }
-    requires bound { ctx.now.purse ≡ bound }
-    requires small { bound ≤ 65535 }
-    requires near { length ctx.now.neighbours ≤ 8 }
-    requires rows { AreGoodRows (S.stands svc.old).rows }
-    requires open { IsSome (S.stands svc.old).begun }
-    ensures visits { IfOk result (λ r. IsVisit allowance chunk.now ctx.entry.now family
-        (S.stands svc.old) r (S.stands svc.new)) }
-    ensures value { IfOk result (λ r. (d : AFun) → fun_of chunk.now.code chunk.now.entry ≡ Some d →
-        IsGoodEnd d.result r.outcome) }
-    ensures notes { IfOk result (λ r. AreGoodNotes r.notes) }
-    ensures note_types { IfOk result (λ r. All NoteHasTypes r.notes) }
-    ensures sends { IfOk result (λ r. AreGoodPackets r.outbox) }
-    ensures balance { IfOk result (λ r. r.evals + r.left + bounds r.outbox ≡ bound) }
-    ensures kept { OnOk result (AreGoodRows (S.stands svc.new).rows) }
-    ensures ends { VisitEnds chunk.now ctx.entry.now family (S.stands svc.old) }
-    ensures alike { VisitsAlike chunk.now ctx.entry.now family (S.stands svc.old) }
-    ensures greater { IfOk result (λ r. r.outcome ≢ outcome.WorkSpent → (w : ℕ) → allowance ≤ w
-        → GivesAlone w chunk.now ctx.entry.now family (S.stands svc.old) r (S.stands svc.new)) }
-    ensures spent { IfOk result (λ r. (r.outcome ≡ outcome.WorkSpent) ↔ NoneSuffices allowance
-        chunk.now ctx.entry.now family (S.stands svc.old)) }
-    ensures offer { (S.stands svc.new).offer ≡ (S.stands svc.old).offer }
-    ensures begun { (S.stands svc.new).begun ≡ (S.stands svc.old).begun }
-{
-    visit_chunk(alloc, chunk, size, family, bound, svc, ctx)
 }
 
 /// What the visit of a packet ends with. It recurses over expressions, calls and evals on the native stack, at most 256 levels
@@ -196,14 +125,11 @@ pub fn visit<S: Services>(
     ensures begun { (S.stands svc.new).begun ≡ (S.stands svc.old).begun }
     ensures still { IsSome (S.stands svc.new).begun }
 {
-    let size = p.chunk().program_size();
-    visit_by_laws(
-        alloc,
-        p.chunk().chunk(),
-        size,
-        p.family(),
-        p.bound(),
-        svc,
-        ctx,
-    )
+    let chunk = p.chunk();
+    let size = chunk.program_size();
+    let chunk = chunk.chunk();
+    let bound = p.bound();
+    let mut run = begun(alloc, chunk, size, p.family(), ctx)?;
+    let came = run_entry(alloc, &mut run, chunk, size, svc);
+    visited(alloc, run, came, bound)
 }

@@ -1,4 +1,0 @@
-pub mod Stack
-pub mod Leads
-pub mod Nexts
-pub mod Forms

@@ -1,0 +1,13 @@
+pub mod Running
+pub mod Pending
+pub mod Waiting
+pub mod Wheres
+pub mod Making
+pub mod Beginning
+pub mod Branching
+pub mod Entering
+pub mod Catching
+pub mod Trying
+pub mod Evaling
+pub mod Folding
+pub mod Operating

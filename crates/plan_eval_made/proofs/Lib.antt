@@ -1,0 +1,12 @@
+pub mod Standing
+pub mod Named
+pub mod Weighing
+pub mod Rows
+pub mod Ended
+pub mod Made
+pub mod Consing
+pub mod Clauses
+pub mod Entering
+pub mod Items
+pub mod Counted
+pub mod Sending
