@@ -93,8 +93,7 @@ impl Ledger {
         ensures same { self.new ≡ self.old }
         ensures row { option_map (λ p. p.1) result ≡ row_of f self.old }
         ensures place { IfSome result (λ p. slice_get self.new p.0 ≡ Some (f, p.1)) }
-        ensures within { IfSome result (λ p. p.0 < length self.new) }
-        ensures balanced { IfSome result (λ p. InBalance p.1) }
+        ensures fits { IfSome result (λ p. (p.0 < length self.new) × InBalance p.1) }
     {
         let (place, row) = place_of(&self.rows, self.last, f)?;
         self.last = place;

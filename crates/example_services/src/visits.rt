@@ -1,12 +1,12 @@
 //! A visit of a packet at a node that has no links.
-ghost use Rattle.std.specs.Prelude.{◌≡◌, ◌≤◌, ◌+◌, length, IfOk, OnOk, OnErr, IsSome, IsTrue};
-ghost use Rattle.service_api.specs.Services.{AreGoodRows};
+ghost use Rattle.std.specs.Prelude.{◌≡◌, ◌≤◌, ◌+◌, length, IfOk, OnOk, OnErr, IsTrue};
 ghost use Rattle.plan_meaning.specs.Visit.{bounds};
-ghost use Rattle.node_core_parts.specs.Turns.{IsResting, closed_services};
+ghost use Rattle.node_core_parts.specs.Turns.{IsResting};
+ghost use Rattle.node_core_parts.specs.Visiting.{IsAround, IsOpened, StaysOpen};
 ghost use Rattle.example_services.specs.Visits.{IsMade, IsVisited};
 
 use checked_chunks::CheckedPacket;
-use node_core_parts::is_spent;
+use node_core_parts::{close, is_spent};
 use plan_base::NoMemory;
 use plan_eval::visit;
 use plan_meaning::Visit;
@@ -21,35 +21,17 @@ fn make<S: Services>(
     ctx: &Ctx,
     packet: &CheckedPacket,
 ) -> Result<Visit, NoMemory>
-    requires bound { ctx.now.purse ≡ packet.now.bound }
-    requires source { ctx.now.source ≡ packet.now.family.source }
-    requires near { length ctx.now.neighbours ≤ 8 }
-    requires rows { AreGoodRows (S.stands services.old).rows }
-    requires open { IsSome (S.stands services.old).begun }
+    requires own { IsAround ctx.now packet.now }
+    requires open { IsOpened (S.stands services.old) }
     ensures made { IfOk result (λ r. IsMade packet.now ctx.entry.now (S.stands services.old) r
         (S.stands services.new)) }
     ensures balance { IfOk result (λ r. r.evals + r.left + bounds r.outbox ≡ packet.now.bound) }
     ensures ready { OnOk result (IsTrue (S.stands services.new).ready) }
-    ensures offer { (S.stands services.new).offer ≡ (S.stands services.old).offer }
-    ensures begun { (S.stands services.new).begun ≡ (S.stands services.old).begun }
-    ensures still { IsSome (S.stands services.new).begun }
+    ensures stays { StaysOpen (S.stands services.old) (S.stands services.new) }
 {
     let made = visit(alloc, packet, services, ctx)?;
     services.ready(alloc)?;
     Ok(made)
-}
-
-/// Makes the changes of a visit stand, or undoes them where its work was spent. Takes no memory.
-fn close<S: Services>(services: &mut S, is_spent: bool)
-    requires open { IsSome (S.stands services.old).begun }
-    requires ready { IsTrue (S.stands services.old).ready }
-    ensures { S.stands services.new ≡ closed_services is_spent (S.stands services.old) }
-{
-    if is_spent {
-        services.abandon();
-    } else {
-        services.keep();
-    }
 }
 
 /// Visits a packet with these services, whichever they are. What the visit changed stands then, unless its work was spent.

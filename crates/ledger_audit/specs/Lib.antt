@@ -2,6 +2,7 @@ pub mod Keys
 pub mod Tallies
 pub mod Books
 pub mod Pasts
+pub mod Reckonings
 pub mod Ledgers
 pub mod Texts
 pub mod Order

@@ -4,13 +4,12 @@ ghost use Rattle.std.specs.List.{All, list_any};
 ghost use Rattle.network_config.specs.NodeRules.{KeepsEntry, KeepsNodeEvent, KeepsLog};
 ghost use Rattle.network_config.specs.declared.event.LogEvent.TheVariants.{Step};
 ghost use Rattle.node_core_spec.specs.State.{NodeState};
-ghost use Rattle.node_core_spec.specs.Node.{node_step};
 ghost use Rattle.node_core.specs.Stands.{version_of, NodeStands};
-ghost use Rattle.node_log.specs.Runs.{node_by};
 ghost use Rattle.net_world_spec.specs.World.{Cables};
 ghost use Rattle.ledger_audit.specs.Runs as runs;
 ghost use Rattle.ledger_audit.specs.Audits.{Logged};
-ghost use Rattle.ledger_audit.specs.Spelling.{FrameReads, EntryReads, EntriesRead};
+ghost use Rattle.ledger_audit.specs.Spelling.{FrameReads, EntriesRead};
+ghost use Rattle.ledger_audit.specs.Reckonings.{ReckonsEntry};
 ghost use Rattle.ledger_audit.specs.Pasts as spec;
 ghost use Rattle.ledger_audit.specs.Pasts.{Past, Holds, IsReckoned, TakenReads, logged_of};
 
@@ -178,7 +177,8 @@ fn reckon_sent(
     ensures reads { OnOk result (FrameReads (Some frame.now)) }
 {
     let end = LinkEnd { host: here, dev };
-    let key = CrossingKey::of(alloc, Some(end), frame.bytes())?;
+    let bytes = frame.to_bytes(alloc)?;
+    let key = CrossingKey::of(alloc, Some(end), bytes.as_slice())?;
     reckoning.tallies.send(key)?;
     Ok(())
 }
@@ -273,15 +273,8 @@ fn reckon_event<S: Services>(
     reckoning: &mut AuditState,
 ) -> Result<(), NoMemory>
     requires { KeepsNodeEvent (version_of node.old) event.now }
-    ensures same { version_of node.new ≡ version_of node.old }
-    ensures holds { (s : NodeState) → NodeStands S.stands node.old s
-        → (p : Past) → Holds reckoning.old p
-        → OnOk result
-        (Holds reckoning.new (spec.with_entry links.now mark.log mark.event s (Step event.now) p)) }
-    ensures reads { (s : NodeState) → NodeStands S.stands node.old s
-        → OnOk result (EntryReads s (Step event.now)) }
-    ensures after { (s : NodeState) → NodeStands S.stands node.old s
-        → OnOk result (NodeStands S.stands node.new (node_step s event.now).node) }
+    ensures { ReckonsEntry S.stands links.now mark (Step event.now) node.old node.new
+        reckoning.old reckoning.new result }
 {
     let here = node.here();
     let acts = node.step(alloc, event)?;
@@ -300,15 +293,8 @@ fn reckon_entry<S: Services>(
     reckoning: &mut AuditState,
 ) -> Result<(), NoMemory>
     requires { KeepsEntry (version_of node.old) entry.now }
-    ensures same { version_of node.new ≡ version_of node.old }
-    ensures holds { (s : NodeState) → NodeStands S.stands node.old s
-        → (p : Past) → Holds reckoning.old p
-        → OnOk result
-        (Holds reckoning.new (spec.with_entry links.now mark.log mark.event s entry.now p)) }
-    ensures reads { (s : NodeState) → NodeStands S.stands node.old s
-        → OnOk result (EntryReads s entry.now) }
-    ensures after { (s : NodeState) → NodeStands S.stands node.old s
-        → OnOk result (NodeStands S.stands node.new (node_by s entry.now)) }
+    ensures { ReckonsEntry S.stands links.now mark entry.now node.old node.new
+        reckoning.old reckoning.new result }
 {
     match entry {
         LogEvent::Step(event) => reckon_event(alloc, links, mark, node, event, reckoning),

@@ -1,4 +1,5 @@
 pub mod EventLaws
+pub mod HappenLaws
 pub mod OpeningLaws
 pub mod RunLaws
 pub mod StandLaws

@@ -29,6 +29,8 @@ use Rattle.net_world_spec.proofs.Handings.{opening_leaves, opening_balances}
 use Rattle.net_world_spec.proofs.Giving.{opening_bounded, opening_grants}
 use Rattle.net_world_spec.proofs.Opening.{opening_version, opening_sound}
 use Rattle.net_world_spec.proofs.Visits.{run_ends}
+use Rattle.net_world_spec.proofs.Wires.{opening_once, opening_leads}
+use Rattle.net_world_spec.proofs.Reaching.{run_keeps_routes}
 use Rattle.bound_ledger.specs.Counting.{LinesFit, Leaves}
 use Rattle.bound_ledger.specs.Stands.{Stands}
 use Rattle.trace_text.specs.Printed.{printed_row, all_printed}
@@ -38,6 +40,7 @@ use Rattle.net_world.specs.declared.network.Network.{Network}
 use Rattle.net_world.specs.Stands.{WorldStands}
 use Rattle.net_world.specs.Running.{AllLeave, IsCountable}
 use Rattle.net_world.specs.Printing.{IsWaiting, Stops}
+use Rattle.net_world.specs.Keeping.{KeepsRun}
 use Rattle.net_world.specs.declared.runs.RunFault.{RunFault}
 use Rattle.net_world.specs.declared.runs.RunFault.TheVariants.{WriteFault, NoMemory}
 
@@ -316,3 +319,16 @@ module _ (frames : Bool) (es : List WorldEvent) (w : WorldState) (a b c d : Sink
   pub whole_run : Writes a b (codes "planet trace 1\n") → Writes b c (entries_text frames (history_of es w)) → Writes c d (ledger_text (history_of es w) (world_after es w)) → Writes a d (run_text frames es w)
   unfolding lines
   whole_run h l k = writes_as a d _ (run_text frames es w) whole_is (writes_both a c d (header ++ lines) (ledger_text (history_of es w) (world_after es w)) (writes_both a b c header lines h l) k)
+
+-- what every run keeps
+pub run_keeps : (s : Schedule) → KeepsRules s → KeepsRun s
+run_keeps s h = record {
+  balance = prefix_balances s h;
+  bounded = prefix_bounded s h;
+  granted = prefix_granted s h;
+  once = λ k n. opening_once n s.topology (take k s.events);
+  leads = λ k. opening_leads s.topology (take k s.events);
+  sound = prefix_sound s h;
+  visits = prefix_ends s h;
+  routes = λ k b. run_keeps_routes s.topology (take k s.events) h.network b;
+}

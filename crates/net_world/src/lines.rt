@@ -12,8 +12,8 @@ use net_world_spec::{Delivery, Line, Lines};
 use node_core::Version;
 use node_core_parts::read_as;
 use node_core_spec::ActList;
-use packet_frame::{EncodedFrame, Frame, FrameFault};
-use plan_base::{Bytes, Host, NoMemory};
+use packet_frame::{EncodedFrame, Frame, FrameBytes, FrameFault};
+use plan_base::{Host, NoMemory};
 use std::alloc::Global;
 
 /// No lines.
@@ -82,28 +82,13 @@ pub fn forged_lines(
     }
 }
 
-/// The bytes of a frame.
-fn bytes_of(alloc: Global, frame: &EncodedFrame) -> Result<Bytes, NoMemory>
-    ensures { IfOk result (λ bytes. bytes ≡ stamped_bytes frame.now) }
-{
-    let mut bytes = Bytes::new(alloc);
-    bytes.add_all(frame.bytes())?;
-    Ok(bytes)
-}
-
 /// Lines, and then that of a frame that goes onto the wire.
-fn with_wire(
-    alloc: Global,
-    before: Lines,
-    number: u32,
-    frame: &EncodedFrame,
-) -> Result<Lines, NoMemory>
+fn with_wire(before: Lines, number: u32, frame: &EncodedFrame) -> Result<Lines, NoMemory>
     ensures { IfOk result
         (λ lines. lines ≡ before ++ line.Wire number (stamped_bytes frame.now) ∷ []) }
 {
     let mut lines = before;
-    let bytes = bytes_of(alloc, frame)?;
-    lines.add(Line::Wire(number, bytes))?;
+    lines.add(Line::Wire(number, FrameBytes::of(frame)?))?;
     Ok(lines)
 }
 
@@ -119,7 +104,7 @@ pub fn sent_lines(
         ≡ spec.lines_at host acts ++ line.Wire number (stamped_bytes frame.now) ∷ []) }
 {
     let before = with_acts(no_lines(alloc), host, acts)?;
-    with_wire(alloc, before, number, frame)
+    with_wire(before, number, frame)
 }
 
 /// The line of a frame that is handed to its receiving end.

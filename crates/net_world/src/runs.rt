@@ -1,5 +1,5 @@
 //! Runs a schedule: makes its events, counts them, and writes their lines.
-ghost use Rattle.std.specs.Prelude.{◌≡◌, ◌++◌, ◌+◌, ◌<◌, ◌-◌, ◌^◌, [], List, codes, map, OnOk};
+ghost use Rattle.std.specs.Prelude.{◌≡◌, ◌++◌, [], List, codes, OnOk};
 ghost use Rattle.plan_base.specs.declared.ids.Family.{Family as FamilyOf};
 ghost use Rattle.network_config.specs.Rules.{KeepsRules};
 ghost use Rattle.net_world_spec.specs.World as spec;
@@ -11,8 +11,8 @@ ghost use Rattle.bound_ledger.specs.Rows.{OneEach};
 ghost use Rattle.trace_text.specs.Printed.{printed_row, all_printed};
 ghost use Rattle.net_world.specs.Stands.{WorldStands};
 ghost use Rattle.net_world_spec.specs.Counts.{Balanced};
-ghost use Rattle.net_world_spec.specs.Sound.{event_fits};
-ghost use Rattle.net_world.specs.Running.{AllLeave, CanRun, IsCountable};
+ghost use Rattle.net_world.specs.Running.{CanRun};
+ghost use Rattle.net_world.specs.Happening.{CanCount, Counts};
 ghost use Rattle.net_world.specs.Printing.{Prints, WaitsFor, PutsPiece};
 ghost use Rattle.net_world.specs.Keeping.{KeepsRun};
 
@@ -47,17 +47,10 @@ fn make_event<S: Services>(
     event: WorldEvent,
     text: &mut Bytes,
 ) -> Result<(), NoMemory>
-    requires fits { event_fits world.old.version event }
-    requires few { world.old.made < 2 ^ 32 - 2 }
-    requires counts { IsCountable S.stands world.old event ledger.old }
+    requires { CanCount S.stands world.old event ledger.old }
     ensures text { (w : WorldState) → WorldStands S.stands world.old w
         → OnOk result (text.new ≡ text.old ++ entries_text frames (spec.entries w event)) }
-    ensures world { (w : WorldState) → WorldStands S.stands world.old w
-        → OnOk result (WorldStands S.stands world.new (spec.happens w event).world) }
-    ensures ledger { (w : WorldState) (h : List EntryOf) → WorldStands S.stands world.old w
-        → AllLeave h w event → Stands h ledger.old
-        → OnOk result (Stands (h ++ spec.entries w event) ledger.new) }
-    ensures made { OnOk result (world.new.made ≡ world.old.made + 1) }
+    ensures counts { Counts S.stands event world.old world.new ledger.old ledger.new result }
 {
     let number = world.event_count() + 1;
     let late = world.is_late(&event);
@@ -92,18 +85,11 @@ fn run_event<S: Services, K: Sink>(
     text: Bytes,
     out: &mut K,
 ) -> Result<Bytes, RunFault>
-    requires fits { event_fits world.old.version event }
-    requires few { world.old.made < 2 ^ 32 - 2 }
-    requires counts { IsCountable S.stands world.old event ledger.old }
+    requires { CanCount S.stands world.old event ledger.old }
     ensures waits { (w : WorldState) → WorldStands S.stands world.old w
         → WaitsFor (text ++ entries_text frames (spec.entries w event))
         (K.state out.old) (K.state out.new) result }
-    ensures world { (w : WorldState) → WorldStands S.stands world.old w
-        → OnOk result (WorldStands S.stands world.new (spec.happens w event).world) }
-    ensures ledger { (w : WorldState) (h : List EntryOf) → WorldStands S.stands world.old w
-        → AllLeave h w event → Stands h ledger.old
-        → OnOk result (Stands (h ++ spec.entries w event) ledger.new) }
-    ensures made { OnOk result (world.new.made ≡ world.old.made + 1) }
+    ensures counts { Counts S.stands event world.old world.new ledger.old ledger.new result }
 {
     let mut waiting = text;
     let Ok(()) = make_event(alloc, world, ledger, frames, event, &mut waiting) else {
@@ -255,33 +241,13 @@ fn write_run<S: Services, K: Sink>(
     }
 }
 
-#[tactic(auto, using(node_io::proofs::SinkLaws::prefix_none))]
-/// Runs a schedule and writes its trace and its ledger.
-fn run_schedule<S: Services + Drop, K: Sink>(
-    alloc: Global,
-    schedule: Schedule,
-    services: Items<S>,
-    out: &mut K,
-) -> Result<(), RunFault>
-    requires rules { KeepsRules schedule }
-    requires services { map S.stands services
-        ≡ map spec.opening_services schedule.topology.hosts }
-    ensures { Prints
-        (run_text schedule.frames schedule.events (opening schedule.topology))
-        (K.state out.old) (K.state out.new) result }
-{
-    let Ok(mut world) = World::new(alloc, &schedule.topology, services) else {
-        return Err(RunFault::NoMemory);
-    };
-    write_run(alloc, schedule, &mut world, out)
-}
-
 /// Runs a schedule and writes its trace and its ledger to `out`; no event's lines are kept. After each prefix of its
 /// events: each family is in balance, is bounded and granted; each frame's number went once, and each frame on the
 /// wire leads over its link; the network keeps what every network keeps; the visits of the event behind it are never
 /// without a case, and would end by themselves; and as long as no packet and no advert came
 /// from outside, the law of routes holds.
 /// `services`: one for each host, in the order of hosts. Condition: the schedule keeps its rules.
+#[tactic(auto, using(node_io::proofs::SinkLaws::prefix_none))]
 pub fn run<S: Services + Drop, K: Sink>(
     alloc: Global,
     schedule: Schedule,
@@ -294,5 +260,8 @@ pub fn run<S: Services + Drop, K: Sink>(
         (K.state out.old) (K.state out.new) result }
     ensures keeps { KeepsRun schedule }
 {
-    run_schedule(alloc, schedule, services, out)
+    let Ok(mut world) = World::new(alloc, &schedule.topology, services) else {
+        return Err(RunFault::NoMemory);
+    };
+    write_run(alloc, schedule, &mut world, out)
 }

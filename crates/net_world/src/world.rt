@@ -1,16 +1,12 @@
 //! A network of nodes, with each event as a public call.
-ghost use Rattle.std.specs.Prelude.{◌≡◌, ◌+◌, ◌-◌, ◌<◌, ◌^◌, map, IfOk, OnOk, All};
-ghost use Rattle.plan_base.specs.declared.ids.Family.{Family};
+ghost use Rattle.std.specs.Prelude.{◌≡◌, ◌-◌, ◌<◌, ◌^◌, map, IfOk};
 ghost use Rattle.network_config.specs.Rules.{KeepsNetwork};
 ghost use Rattle.net_world_spec.specs.World as spec;
-ghost use Rattle.net_world_spec.specs.World.{WorldState};
-ghost use Rattle.net_world_spec.specs.Counts.{late_in, EventInBalance};
-ghost use Rattle.net_world_spec.specs.Sound.{IsSound, event_within, event_typed};
-ghost use Rattle.net_world_spec.specs.Visits.{EndsWell, event_visits};
-ghost use Rattle.net_world_spec.specs.Roads.{BringsNone};
-ghost use Rattle.net_world_spec.specs.Routes.{Reached, KeepsRoutes};
+ghost use Rattle.net_world_spec.specs.Counts.{late_in};
+ghost use Rattle.net_world_spec.specs.Sound.{event_within, event_typed};
 ghost use Rattle.net_world_spec.specs.Numbers as numbers;
-ghost use Rattle.net_world.specs.Stands.{WorldStands, IsHappened};
+ghost use Rattle.net_world.specs.Stands.{WorldStands};
+ghost use Rattle.net_world.specs.Happening.{Happens};
 
 use crate::network::Network;
 use containers::Items;
@@ -110,17 +106,7 @@ impl<S: Services> World<S> {
     pub fn step(&mut self, alloc: Global, event: WorldEvent) -> Result<Lines, NoMemory>
         requires fits { event_within self.old.version event }
         requires few { self.old.made < 2 ^ 32 - 2 }
-        ensures ok { (w : WorldState) → WorldStands S.stands self.old w
-            → IfOk result (λ lines. IsHappened S.stands (spec.happens w event) lines self.new) }
-        ensures made { OnOk result (self.new.made ≡ self.old.made + 1) }
-        ensures balance { (f : Family) (w : WorldState) → IsSound w
-            → EventInBalance f (late_in w.wire event) w (spec.happens w event) }
-        ensures sound { (w : WorldState) → w.version ≡ self.old.version → IsSound w
-            → IsSound (spec.happens w event).world }
-        ensures visits { (w : WorldState) → w.version ≡ self.old.version → IsSound w
-            → All EndsWell (event_visits w event) }
-        ensures routes { (w : WorldState) → Reached w → BringsNone w.version event
-            → KeepsRoutes w (spec.happens w event) }
+        ensures { Happens S.stands event self.old result self.new }
     {
         keep_types(&event);
         let lines = self.network.act(alloc, event)?;

@@ -1,8 +1,8 @@
 //! The lines of a trace, and what stands on the wire.
 use containers::Items;
 use node_core_spec::{Act, What};
-use packet_frame::EncodedFrame;
-use plan_base::{Bytes, Dev, Family, Host};
+use packet_frame::{EncodedFrame, FrameBytes};
+use plan_base::{Dev, Family, Host};
 
 /// A list of lines.
 pub type Lines = Items<Line>;
@@ -15,7 +15,7 @@ pub enum Line {
     /// Bytes that were never on the wire arrive at this host as a packet of this family with this bound.
     Forged(Host, Family, u32),
     /// A frame was put on the wire under this number, with these bytes.
-    Wire(u32, Bytes),
+    Wire(u32, FrameBytes),
     /// The frame with this number was taken off the wire.
     Off(u32),
     /// The frame with this number was handed to its receiving end, and stayed on the wire.

@@ -19,7 +19,7 @@ use Rattle.packet_frame.specs.declared.frame.PlainFrame.{PlainFrame}
 use Rattle.packet_frame.specs.declared.frame.PlainStamped.{PlainStamped}
 use Rattle.packet_frame.specs.Stamped.{AcceptsBy}
 use Rattle.packet_frame.proofs.Versions.{accepted_by}
-use Rattle.packet_frame.specs.Spelled.{what_of, MayCarry, version_of}
+use Rattle.packet_frame.specs.Spelled.{what_of, MayCarry, MayLeave, version_of}
 use Rattle.service_api.specs.declared.ctx.Ctx.{Ctx}
 use Rattle.service_api.specs.declared.router.RouteRow.{RouteRow}
 use Rattle.service_api.specs.Services.{ServiceState, begun_now}
@@ -35,8 +35,9 @@ use Rattle.node_core_spec.specs.Node.{NodeStep, next_serial, injected_packet, vi
 use Rattle.node_core_spec.specs.Node.{with_seen, frame_step, only_acts, stamped_as, stamped_step, arrived_read, arrive_step}
 use Rattle.node_core_spec.specs.Fits.{IsMarked}
 use Rattle.node_core_spec.proofs.Staying.{frame_stays}
-use Rattle.node_core_parts.proofs.ReadingLaws.{goes_on}
-use Rattle.node_core.specs.Stands.{NodeStands, IsStep, mark_on}
+use Rattle.node_core.specs.Stands.{NodeStands, IsStep, Steps, mark_on}
+use Rattle.node_core.specs.Stands.{version_of as node_version}
+use Rattle.packet_frame.specs.Decoding.{read_by}
 use Rattle.node_core_parts.specs.Visiting.{own_family, own_packet, around_at}
 use Rattle.node_core_parts.specs.Carried.{MayBear, MayGoOn}
 use Rattle.node_core_parts.specs.Heard.{TellsAll}
@@ -204,16 +205,47 @@ module _ {S : Type 0} (stands : S → ServiceState) where
   unfolding stamped_step
   stamped_so s d x t acts new e h = subst (λ u. IsStep stands (stamped_as s d x u) acts new) e h
 
-  pub fresh_result : (s : NodeState) (d : Dev) (x : PlainStamped) (r : Result Acts NoMemory) (new : Node S) → Fresh ≡ takes_as s.seen d x.stamp
-      → (takes_as s.seen d x.stamp ≡ Fresh → IfOk r (λ acts. IsStep stands (stamped_as s d x Fresh) acts new)) → IfOk r (λ acts. IsStep stands (stamped_step s d x) acts new)
-  fresh_result s d x (Ok acts) new e h = stamped_so s d x Fresh acts new e (h (sym e))
-  fresh_result s d x (Err f) new e h = h (sym e)
+  -- a fresh frame was taken in
+  pub fresh_steps : (d : Dev) (x : PlainStamped) (acts : Acts) (old mid new : Node S) → ((s : NodeState) → NodeStands stands old s → takes_as s.seen d x.stamp ≡ Fresh)
+      → Steps stands (λ s. frame_step s d x.frame) old (Ok acts) mid
+      → ((t : NodeState) → NodeStands stands mid t → takes_as t.seen d x.stamp ≡ Fresh → NodeStands stands new (with_seen (seen_then t.seen d x.stamp) t))
+      → node_version new ≡ node_version mid → Steps stands (λ s. stamped_step s d x) old (Ok acts) new
+  fresh_steps d x acts old mid new f h k v = record {
+    ok = λ s n. stamped_so s d x Fresh acts new (sym (f s n)) (freshly s d x acts mid new (h.ok s n) k (f s n));
+    err = λ s n. tt;
+    same = v ∙ h.same;
+  }
 
-  pub stale_result : (s : NodeState) (d : Dev) (x : PlainStamped) (t : Took) (r : Result Acts NoMemory) (old : Node S) → NodeStands stands old s → t ≡ takes_as s.seen d x.stamp
+  stale_result : (s : NodeState) (d : Dev) (x : PlainStamped) (t : Took) (r : Result Acts NoMemory) (old : Node S) → NodeStands stands old s → t ≡ takes_as s.seen d x.stamp
       → stamped_as s d x t ≡ only_acts (Arrived d) (Stale t (what_of x.frame)) s → IfOk r (λ acts. acts.list ≡ Arrived d ∷ Stale t (what_of x.frame) ∷ []) → IfOk r (λ acts. acts.frame ≡ None)
       → IfOk r (λ acts. IsStep stands (stamped_step s d x) acts old)
   stale_result s d x t (Ok acts) old n q e l f = stamped_so s d x t acts old q (subst (λ step. IsStep stands step acts old) (sym e) (record { list = l; frame = f; node = n }))
   stale_result s d x t (Err k) old n q e l f = l
+
+  still_stands : (r : Result Acts NoMemory) (old : Node S) (s : NodeState) → NodeStands stands old s → OnErr r (NodeStands stands old s)
+  still_stands (Ok acts) old s n = tt
+  still_stands (Err k) old s n = n
+
+  -- a stale one was left
+  pub stale_steps : (d : Dev) (x : PlainStamped) (t : Took) (r : Result Acts NoMemory) (old : Node S) → ((s : NodeState) → NodeStands stands old s → t ≡ takes_as s.seen d x.stamp)
+      → ((s : NodeState) → stamped_as s d x t ≡ only_acts (Arrived d) (Stale t (what_of x.frame)) s) → IfOk r (λ acts. acts.list ≡ Arrived d ∷ Stale t (what_of x.frame) ∷ [])
+      → IfOk r (λ acts. acts.frame ≡ None) → Steps stands (λ s. stamped_step s d x) old r old
+  stale_steps d x t r old q e l f = record {
+    ok = λ s n. stale_result s d x t r old n (q s n) (e s) l f;
+    err = λ s n. still_stands r old s n;
+    same = refl;
+  }
+
+  -- bytes that are read arrive as their frame
+  pub read_arrives : (d : Dev) (bytes : List ℕ) (x : PlainStamped) (old mid new : Node S) (r : Result Acts NoMemory) → read_by old.version bytes ≡ Ok x
+      → ((s : NodeState) → NodeStands stands old s → NodeStands stands mid s) → node_version mid ≡ node_version old
+      → Steps stands (λ s. stamped_step s d x) mid r new → Steps stands (λ s. arrive_step s d bytes) old r new
+  unfolding arrive_step
+  read_arrives d bytes x old mid new r e k v h = record {
+    ok = λ s n. subst (λ (step : NodeStep). IfOk r (λ acts. IsStep stands step acts new)) (sym (ap (arrived_read s d) (ap (λ u. read_by u bytes) (sym n.version) ∙ e))) (h.ok s (k s n));
+    err = λ s n. h.err s (k s n);
+    same = h.same ∙ v;
+  }
 
 -- the version whose frames bear this
 marked_version : (v : Version) (o : Option Stamp) → IsMarked v o → version_of o ≡ v
@@ -233,7 +265,7 @@ module _ {S : Type 0} (stands : S → ServiceState) (d : Dev) (new : Node S) (r 
       → IfOk r (λ acts. IsStep stands (arrive_step s d bytes) acts new) → IfOk r (λ acts. IsStep stands (stamped_step s d x) acts new)
   bytes_arrive bytes x s h m done = subst (λ (step : NodeStep). IfOk r (λ acts. IsStep stands step acts new)) (by_bytes bytes x s d h m) done
 
-  -- and so does what is cached with them
+  -- and so does the frame itself
   pub frame_arrives : (x y : PlainStamped) (s : NodeState) → y.stamp ≡ x.stamp → y.frame ≡ x.frame
       → IfOk r (λ acts. IsStep stands (stamped_step s d y) acts new) → IfOk r (λ acts. IsStep stands (stamped_step s d x) acts new)
   frame_arrives x y s e f done =
@@ -259,15 +291,21 @@ pub none_named : (v : Version) (c : Chunk) (o : Option Name) → o ≡ None → 
 none_named One c o e = e
 none_named Two c o e = none_handles c o e
 
--- what is cached with the bytes of a frame may go on from a node that reads these
-pub beside_goes_on : (v : Version) (boot : ℕ) (bytes : List ℕ) (x : PlainStamped) (y : PlainFrame) → AcceptsBy (version_of x.stamp) bytes x → v ≡ version_of x.stamp → y ≡ x.frame → MayGoOn (mark_of v boot) y
-beside_goes_on v boot bytes x y h e f = subst (MayGoOn (mark_of v boot)) (sym f) (goes_on v boot bytes x.stamp x.frame (subst (λ u. AcceptsBy u bytes x) (sym e) h))
+-- what may leave a node may go on from one of its version
+left_goes_on : (boot : ℕ) (o : Option Stamp) (x : PlainFrame) → MayLeave o x → MayGoOn (mark_of (version_of o) boot) x
+left_goes_on boot None (PlainFrame.Packet p) h = h
+left_goes_on boot (Some s) (PlainFrame.Packet p) h = tt
+left_goes_on boot o (PlainFrame.Advert a) h = tt
+left_goes_on boot o (PlainFrame.Ask bound chunk) h = tt
+
+pub frame_goes_on : (v : Version) (boot : ℕ) (x : PlainStamped) (y : PlainFrame) → MayLeave x.stamp x.frame → v ≡ version_of x.stamp → y ≡ x.frame → MayGoOn (mark_of v boot) y
+frame_goes_on v boot x y h e f = subst (MayGoOn (mark_of v boot)) (sym f) (subst (λ u. MayGoOn (mark_of u boot) x.frame) (sym e) (left_goes_on boot x.stamp x.frame h))
 
 -- a stamp is one that frames of its version may bear
 own_bears : (o : Option Stamp) → MayBear (version_of o) o
 own_bears None = refl
 own_bears (Some t) = tt
 
--- and so it is for the stamp beside the bytes
-pub beside_bears : (v : Version) (x : PlainStamped) (o : Option Stamp) → v ≡ version_of x.stamp → o ≡ x.stamp → MayBear v o
-beside_bears v x o e f = subst (λ u. MayBear u o) (sym (e ∙ ap version_of (sym f))) (own_bears o)
+-- and so it is for the stamp of a frame
+pub frame_bears : (v : Version) (x : PlainStamped) (o : Option Stamp) → v ≡ version_of x.stamp → o ≡ x.stamp → MayBear v o
+frame_bears v x o e f = subst (λ u. MayBear u o) (sym (e ∙ ap version_of (sym f))) (own_bears o)

@@ -1,5 +1,6 @@
 -- Which state of the definition a node stands for.
-use Rattle.std.specs.Prelude.{◌≡◌, Option}
+use Rattle.std.specs.Prelude.{◌≡◌, Option, Result, IfOk, OnErr}
+use Rattle.plan_base.specs.declared.memory.NoMemory.{NoMemory}
 use Rattle.plan_base.specs.declared.stamp.Stamp.{Stamp}
 use Rattle.plan_base.specs.declared.stamp.Version.{Version}
 use Rattle.packet_frame.specs.declared.frame.PlainFrame.{PlainFrame}
@@ -39,6 +40,20 @@ pub record IsStep {S : Type 0} (stands : S → ServiceState) (step : NodeStep) (
   pub list : acts.list ≡ step.acts
   pub frame : acts.frame ≡ step.frame
   pub node : NodeStands stands new step.node
+
+-- what a call comes to that makes this step of a node: the step as it is defined for each state for which the node stands; where
+-- an allocation fails, the node stands for what it stood for; and its version stays
+pub record Steps {S : Type 0} (stands : S → ServiceState) (step : NodeState → NodeStep) (old : Node S) (r : Result Acts NoMemory) (new : Node S) : Type 0 where
+  pub ok : (s : NodeState) → NodeStands stands old s → IfOk r (λ acts. IsStep stands (step s) acts new)
+  pub err : (s : NodeState) → NodeStands stands old s → OnErr r (NodeStands stands new s)
+  pub same : version_of new ≡ version_of old
+
+-- the same for a step that is made at some states alone
+pub record StepsWhere {S : Type 0} (stands : S → ServiceState) (may : NodeState → Type 0) (step : NodeState → NodeStep) (old : Node S)
+    (r : Result Acts NoMemory) (new : Node S) : Type 0 where
+  pub ok : (s : NodeState) → NodeStands stands old s → may s → IfOk r (λ acts. IsStep stands (step s) acts new)
+  pub err : (s : NodeState) → NodeStands stands old s → OnErr r (NodeStands stands new s)
+  pub same : version_of new ≡ version_of old
 
 -- a frame with this stamp, or with none
 abbrev pub with_stamp : Option Stamp → PlainFrame → PlainStamped

@@ -1,14 +1,12 @@
 //! The services of a node between its visits, and the visits that they answer.
-ghost use Rattle.std.specs.Prelude.{◌≡◌, ◌≤◌, ◌++◌, length, IfOk, OnOk, OnErr, IsSome, IsTrue};
-ghost use Rattle.service_api.specs.Services.{AreGoodRows, ServiceState, begun_now, made_ready, unexpired_services};
-ghost use Rattle.node_core_spec.specs.Visits.{visit_of, services_after};
-ghost use Rattle.node_core_spec.specs.Node as spec;
-ghost use Rattle.packet_frame.specs.Spelled.{MayCarry};
-ghost use Rattle.plan_eval_settle.specs.Settles as settles;
-ghost use Rattle.node_core_parts.specs.Turns.{IsOpen, IsResting, closed_services};
+ghost use Rattle.std.specs.Prelude.{◌≡◌, IfOk};
+ghost use Rattle.service_api.specs.Services.{unexpired_services};
+ghost use Rattle.node_core_parts.specs.Turns.{IsResting};
+ghost use Rattle.node_core_parts.specs.Visiting.{IsAround, IsOpened, StaysOpen};
+ghost use Rattle.node_core.specs.Turning.{MayVisit, IsSettled, IsTurn, TurnsPacket};
 
 use checked_chunks::CheckedPacket;
-use node_core_parts::{Turn, is_spent, turn_of};
+use node_core_parts::{Turn, close, is_spent, turn_of};
 use node_core_spec::{ActList, TxQueue};
 use plan_base::{NoMemory, Stamp};
 use plan_eval::visit;
@@ -51,20 +49,11 @@ fn settled_of<S: Services>(
     ctx: &Ctx,
     packet: &CheckedPacket,
 ) -> Result<(Settled, u32, bool), NoMemory>
-    requires bound { ctx.now.purse ≡ packet.now.bound }
-    requires source { ctx.now.source ≡ packet.now.family.source }
-    requires near { length ctx.now.neighbours ≤ 8 }
-    requires rows { AreGoodRows (S.stands services.old).rows }
-    requires open { IsSome (S.stands services.old).begun }
-    ensures settled { IfOk result (λ made. made.0 ≡ settles.visit_settled packet.now
-        ctx.entry.now (visit_of ctx.entry.now (S.stands services.old) packet.now)) }
-    ensures left { IfOk result (λ made. made.1 ≡
-        (visit_of ctx.entry.now (S.stands services.old) packet.now).left) }
-    ensures closing { IfOk result (λ made. (now : ServiceState) → now ≡
-        made_ready (S.stands services.new) → closed_services made.2 now ≡
-        services_after ctx.entry.now (S.stands services.old) packet.now) }
-    ensures offer { (S.stands services.new).offer ≡ (S.stands services.old).offer }
-    ensures begun { (S.stands services.new).begun ≡ (S.stands services.old).begun }
+    requires own { IsAround ctx.now packet.now }
+    requires open { IsOpened (S.stands services.old) }
+    ensures made { IfOk result (IsSettled ctx.entry.now packet.now
+        (S.stands services.old) (S.stands services.new)) }
+    ensures stays { StaysOpen (S.stands services.old) (S.stands services.new) }
 {
     let made = visit(alloc, packet, services, ctx)?;
     let is_spent = is_spent(&made.outcome);
@@ -85,21 +74,11 @@ fn open_turn<S: Services>(
     packet: &CheckedPacket,
     before: ActList,
 ) -> Result<Turn, NoMemory>
-    requires bound { ctx.now.purse ≡ packet.now.bound }
-    requires source { ctx.now.source ≡ packet.now.family.source }
-    requires carried { MayCarry mark packet.now.handler }
-    requires near { length ctx.now.neighbours ≤ 8 }
-    requires rows { AreGoodRows (S.stands services.old).rows }
-    requires open { IsSome (S.stands services.old).begun }
-    ensures turn { IfOk result (λ turn. IsOpen mark before packet.now
-        (visit_of ctx.entry.now (S.stands services.old) packet.now).left
-        (settles.visit_settled packet.now ctx.entry.now
-        (visit_of ctx.entry.now (S.stands services.old) packet.now)) turn) }
-    ensures closing { IfOk result (λ turn. closed_services turn.is_spent (S.stands services.new) ≡
-        services_after ctx.entry.now (S.stands services.old) packet.now) }
-    ensures ready { OnOk result (IsTrue (S.stands services.new).ready) }
-    ensures offer { (S.stands services.new).offer ≡ (S.stands services.old).offer }
-    ensures begun { (S.stands services.new).begun ≡ (S.stands services.old).begun }
+    requires visit { MayVisit mark ctx.now packet.now }
+    requires open { IsOpened (S.stands services.old) }
+    ensures turn { IfOk result (IsTurn mark ctx.entry.now packet.now before
+        (S.stands services.old) (S.stands services.new)) }
+    ensures stays { StaysOpen (S.stands services.old) (S.stands services.new) }
 {
     let (settled, left, is_spent) = settled_of(alloc, services, ctx, packet)?;
     let (acts, sends) = turn_of(alloc, mark, packet.family(), left, settled, before)?;
@@ -109,62 +88,6 @@ fn open_turn<S: Services>(
         sends,
         is_spent,
     })
-}
-
-/// Makes the changes of a visit stand, or undoes them where its work was spent. Takes no memory.
-fn close<S: Services>(services: &mut S, is_spent: bool)
-    requires open { IsSome (S.stands services.old).begun }
-    requires ready { IsTrue (S.stands services.old).ready }
-    ensures { S.stands services.new ≡ closed_services is_spent (S.stands services.old) }
-{
-    if is_spent {
-        services.abandon();
-    } else {
-        services.keep();
-    }
-}
-
-/// The visit of a packet, after some acts: its acts, with its sends queued. Where an allocation fails, the
-/// lanes and the services stay.
-#[tactic(auto, unfolding(node_core_spec::specs::Node::visit_acts), using(node_core_parts::proofs::TurnLaws::undone, node_core_parts::proofs::TurnLaws::rests_closed, node_core_parts::proofs::TurnLaws::rests_abandoned))]
-fn visit_turn<S: Services>(
-    alloc: Global,
-    services: &mut S,
-    ctx: &Ctx,
-    mark: Option<Stamp>,
-    lanes: &mut [TxQueue],
-    before: ActList,
-    packet: &CheckedPacket,
-) -> Result<ActList, NoMemory>
-    requires bound { ctx.now.purse ≡ packet.now.bound }
-    requires source { ctx.now.source ≡ packet.now.family.source }
-    requires carried { MayCarry mark packet.now.handler }
-    requires near { length ctx.now.neighbours ≤ 8 }
-    requires rests { IsResting (S.stands services.old) }
-    ensures acts { IfOk result (λ acts. acts ≡ before ++ spec.visit_acts mark lanes.old packet.now
-        (visit_of ctx.entry.now (begun_now (S.stands services.old)) packet.now).left
-        (settles.visit_settled packet.now ctx.entry.now
-        (visit_of ctx.entry.now (begun_now (S.stands services.old)) packet.now))) }
-    ensures lanes { OnOk result (lanes.new ≡ spec.sends_queues lanes.old
-        (spec.visit_sends mark (settles.visit_settled packet.now ctx.entry.now
-        (visit_of ctx.entry.now (begun_now (S.stands services.old)) packet.now)).visit)) }
-    ensures services { OnOk result (S.stands services.new ≡ services_after ctx.entry.now
-        (begun_now (S.stands services.old)) packet.now) }
-    ensures same { OnErr result (lanes.new ≡ lanes.old) }
-    ensures undone { OnErr result (S.stands services.new ≡ S.stands services.old) }
-    ensures rests { IsResting (S.stands services.new) }
-{
-    services.begin(alloc)?;
-    match open_turn(alloc, services, ctx, mark, packet, before) {
-        Ok(turn) => {
-            close(services, turn.is_spent);
-            Ok(turn.end(lanes))
-        }
-        Err(refused) => {
-            services.abandon();
-            Err(refused)
-        }
-    }
 }
 
 impl<S: Services> QuiescentServices<S> {
@@ -178,6 +101,7 @@ impl<S: Services> QuiescentServices<S> {
 
     /// The visit of a packet, after some acts: its acts, with its sends queued. Where an allocation fails, the
     /// lanes and the services stay.
+    #[tactic(auto, unfolding(node_core_spec::specs::Node::visit_acts), using(node_core_parts::proofs::TurnLaws::undone, node_core_parts::proofs::TurnLaws::rests_closed, node_core_parts::proofs::TurnLaws::rests_abandoned))]
     pub fn turn(
         &mut self,
         alloc: Global,
@@ -187,23 +111,21 @@ impl<S: Services> QuiescentServices<S> {
         before: ActList,
         packet: &CheckedPacket,
     ) -> Result<ActList, NoMemory>
-        requires bound { ctx.now.purse ≡ packet.now.bound }
-        requires source { ctx.now.source ≡ packet.now.family.source }
-        requires carried { MayCarry mark packet.now.handler }
-        requires near { length ctx.now.neighbours ≤ 8 }
-        ensures acts { IfOk result (λ acts. acts ≡ before ++ spec.visit_acts mark lanes.old
-            packet.now (visit_of ctx.entry.now (begun_now (S.stands self.old)) packet.now).left
-            (settles.visit_settled packet.now ctx.entry.now
-            (visit_of ctx.entry.now (begun_now (S.stands self.old)) packet.now))) }
-        ensures lanes { OnOk result (lanes.new ≡ spec.sends_queues lanes.old
-            (spec.visit_sends mark (settles.visit_settled packet.now ctx.entry.now
-            (visit_of ctx.entry.now (begun_now (S.stands self.old)) packet.now)).visit)) }
-        ensures services { OnOk result (S.stands self.new ≡ services_after ctx.entry.now
-            (begun_now (S.stands self.old)) packet.now) }
-        ensures same { OnErr result (lanes.new ≡ lanes.old) }
-        ensures undone { OnErr result (S.stands self.new ≡ S.stands self.old) }
+        requires { MayVisit mark ctx.now packet.now }
+        ensures { TurnsPacket mark ctx.entry.now packet.now before
+            (S.stands self.old) (S.stands self.new) lanes.old lanes.new result }
     {
-        visit_turn(alloc, &mut self.services, ctx, mark, lanes, before, packet)
+        self.services.begin(alloc)?;
+        match open_turn(alloc, &mut self.services, ctx, mark, packet, before) {
+            Ok(turn) => {
+                close(&mut self.services, turn.is_spent);
+                Ok(turn.end(lanes))
+            }
+            Err(refused) => {
+                self.services.abandon();
+                Err(refused)
+            }
+        }
     }
 
     /// Takes the rows away that have expired at `now`. Takes no memory.

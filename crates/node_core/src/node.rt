@@ -1,5 +1,5 @@
 //! The node: what each event does to its routes, tables, queues and windows.
-ghost use Rattle.std.specs.Prelude.{◌≡◌, ◌≤◌, ◌<◌, IfOk, OnErr, [], ◌∷◌, slice_get, None};
+ghost use Rattle.std.specs.Prelude.{◌≡◌, ◌≤◌, ◌<◌, IfOk, [], ◌∷◌, slice_get, None};
 ghost use Rattle.node_core_spec.specs.State.{NodeState, new_node, leads_to, routing_of};
 ghost use Rattle.node_core_spec.specs.declared.acts.Act.TheVariants as act;
 ghost use Rattle.node_core_spec.specs.Node as spec;
@@ -11,13 +11,11 @@ ghost use Rattle.packet_frame.specs.Spelled.{MayCarry};
 ghost use Rattle.node_core_spec.specs.Counts.{came, stale, StepBalances};
 ghost use Rattle.node_core_spec.specs.Fits.{ConfigFits, NodeFits, IsMarked, comes_fit, comes_within};
 ghost use Rattle.node_core_parts.specs.Queued.{queued_at};
-ghost use Rattle.node_core_parts.specs.Heard.{TellsAll};
-ghost use Rattle.packet_frame.specs.Stamped.{stamped_plain};
 ghost use Rattle.packet_frame.specs.Typed.{plain_of};
 ghost use Rattle.dv_routing.specs.Routing.{all_routes};
 ghost use Rattle.service_api.specs.Routes.{hop};
 ghost use Rattle.node_core_parts.specs.Turns.{IsResting};
-ghost use Rattle.node_core.specs.Stands.{NodeStands, IsStep, version_of, mark_on, with_stamp};
+ghost use Rattle.node_core.specs.Stands.{NodeStands, Steps, StepsWhere, version_of, mark_on, with_stamp};
 ghost use Rattle.node_core_parts.specs.Carried.{MayBear, MayGoOn, asks_within};
 
 use crate::idle_services::QuiescentServices;
@@ -35,7 +33,7 @@ use packet_frame::{EncodedFrame, Frame, Stamped};
 use plan_base::{Dev, Host, Name, NoMemory, Stamp, Version};
 use plan_base_copy::copy_handler;
 use replay_window::{Took, Window};
-use service_api::{Advert, Ctx, Hop, Router, Services};
+use service_api::{Advert, Ctx, Hop, Services};
 use std::alloc::Global;
 
 /// A node: its host, its version, the moment at which it began, its neighbours by device, its routes, its services, for each
@@ -71,6 +69,17 @@ impl<S: Services + Drop> Drop for Node<S> {
             known: _known,
         } = self;
     }
+}
+
+/// The step of a stale frame, which does nothing.
+fn stale_step(alloc: Global, dev: Dev, took: Took, frame: &Frame) -> Result<Acts, NoMemory>
+    ensures list { IfOk result (λ acts. acts.list ≡ act.Arrived dev ∷ act.Stale took
+        (spelled.what_of (plain_of frame.now)) ∷ []) }
+    ensures frame { IfOk result (λ acts. acts.frame ≡ None) }
+{
+    let room = two_room(alloc)?;
+    let stale = Act::Stale(took, what_of(frame));
+    Ok(only_acts(room, Act::Arrived(dev), stale))
 }
 
 impl<S: Services + Drop> Node<S> {
@@ -149,7 +158,9 @@ impl<S: Services> Node<S> {
         }
     }
 
-    /// The settled visit of a packet, after some acts. Condition: under version 1 it has no handler.
+    /// The settled visit of a packet, after some acts: the routes and the neighbours are handed out for it, and given back.
+    /// Condition: under version 1 the packet has no handler.
+    #[tactic(auto, unfolding(node_core_spec::specs::Node::visit_step))]
     fn visit(
         &mut self,
         alloc: Global,
@@ -157,36 +168,11 @@ impl<S: Services> Node<S> {
         packet: &CheckedPacket,
     ) -> Result<Acts, NoMemory>
         requires carried { MayCarry (mark_on self.old) packet.now.handler }
-        ensures ok { (s : NodeState) → NodeStands S.stands self.old s → IfOk result
-            (λ acts. IsStep S.stands (spec.visit_step before s packet.now) acts self.new) }
-        ensures err { (s : NodeState) → NodeStands S.stands self.old s → OnErr result
-            (NodeStands S.stands self.new s) }
-        ensures same { version_of self.new ≡ version_of self.old }
+        ensures steps { Steps S.stands (λ s. spec.visit_step before s packet.now)
+            self.old result self.new }
         ensures serial { self.new.serial ≡ self.old.serial }
     {
         let rows = self.routes.take_router(alloc)?;
-        self.visit_with(alloc, before, packet, rows)
-    }
-
-    /// The settled visit of a packet, after some acts, with the routes that were handed out. Conditions: under version 1 the
-    /// packet has no handler, and the routes are those of the node.
-    #[tactic(auto, unfolding(node_core_spec::specs::Node::visit_step))]
-    fn visit_with(
-        &mut self,
-        alloc: Global,
-        before: ActList,
-        packet: &CheckedPacket,
-        rows: Router,
-    ) -> Result<Acts, NoMemory>
-        requires carried { MayCarry (mark_on self.old) packet.now.handler }
-        requires rows { TellsAll self.old.routes rows }
-        ensures ok { (s : NodeState) → NodeStands S.stands self.old s → IfOk result
-            (λ acts. IsStep S.stands (spec.visit_step before s packet.now) acts self.new) }
-        ensures err { (s : NodeState) → NodeStands S.stands self.old s → OnErr result
-            (NodeStands S.stands self.new s) }
-        ensures same { version_of self.new ≡ version_of self.old }
-        ensures serial { self.new.serial ≡ self.old.serial }
-    {
         let mark = self.mark();
         let links = self.neighbours.take(alloc);
         let ctx = around(self.here, self.time, packet, links, rows);
@@ -216,12 +202,8 @@ impl<S: Services> Node<S> {
     ) -> Result<Acts, NoMemory>
         requires left { self.old.serial < 18446744073709551615 }
         requires carried { MayCarry (mark_on self.old) packet.now.handler }
-        ensures ok { (s : NodeState) → NodeStands S.stands self.old s → IfOk result
-            (λ acts. IsStep S.stands (spec.visit_step before (spec.next_serial s) packet.now)
-            acts self.new) }
-        ensures err { (s : NodeState) → NodeStands S.stands self.old s → OnErr result
-            (NodeStands S.stands self.new s) }
-        ensures same { version_of self.new ≡ version_of self.old }
+        ensures { Steps S.stands (λ s. spec.visit_step before (spec.next_serial s) packet.now)
+            self.old result self.new }
     {
         let acts = self.visit(alloc, before, packet)?;
         self.serial += 1;
@@ -242,12 +224,8 @@ impl<S: Services> Node<S> {
         requires left { self.old.serial < 18446744073709551615 }
         requires small { bound ≤ 65535 }
         requires handler { MayName (version_of self.old) chunk handler }
-        ensures ok { (s : NodeState) → NodeStands S.stands self.old s → IfOk result
-            (λ acts. IsStep S.stands (spec.inject_step before s chunk bound handler)
-            acts self.new) }
-        ensures err { (s : NodeState) → NodeStands S.stands self.old s → OnErr result
-            (NodeStands S.stands self.new s) }
-        ensures same { version_of self.new ≡ version_of self.old }
+        ensures { Steps S.stands (λ s. spec.inject_step before s chunk bound handler)
+            self.old result self.new }
     {
         let packet = own_packet(alloc, self.here, self.serial, chunk, bound, handler)?;
         let injected = Act::Injected(own_family(self.here, self.serial), bound);
@@ -267,12 +245,8 @@ impl<S: Services> Node<S> {
     ) -> Result<Acts, NoMemory>
         requires small { bound ≤ 65535 }
         requires handler { MayName (version_of self.old) chunk handler }
-        ensures ok { (s : NodeState) → NodeStands S.stands self.old s → IfOk result
-            (λ acts. IsStep S.stands (spec.inject_step before s chunk bound handler)
-            acts self.new) }
-        ensures err { (s : NodeState) → NodeStands S.stands self.old s → OnErr result
-            (NodeStands S.stands self.new s) }
-        ensures same { version_of self.new ≡ version_of self.old }
+        ensures { Steps S.stands (λ s. spec.inject_step before s chunk bound handler)
+            self.old result self.new }
     {
         if self.serial == u64::MAX {
             let list = with_act(before, Act::SerialsSpent)?;
@@ -292,12 +266,8 @@ impl<S: Services> Node<S> {
     ) -> Result<Acts, NoMemory>
         requires small { bound ≤ 65535 }
         requires handler { MayName (version_of self.old) chunk handler }
-        ensures ok { (s : NodeState) → NodeStands S.stands self.old s → IfOk result
-            (λ acts. IsStep S.stands (spec.inject_step [] s chunk bound handler)
-            acts self.new) }
-        ensures err { (s : NodeState) → NodeStands S.stands self.old s → OnErr result
-            (NodeStands S.stands self.new s) }
-        ensures same { version_of self.new ≡ version_of self.old }
+        ensures { Steps S.stands (λ s. spec.inject_step [] s chunk bound handler)
+            self.old result self.new }
     {
         let before = Items::from_vec(acts_room(alloc)?);
         self.admit(alloc, before, chunk, bound, handler)
@@ -312,13 +282,9 @@ impl<S: Services> Node<S> {
         over: Dev,
     ) -> Result<Acts, NoMemory>
         requires carried { MayCarry (mark_on self.old) packet.now.handler }
-        ensures ok { (s : NodeState) → NodeStands S.stands self.old s → IfOk result
-            (λ acts. IsStep S.stands (spec.onward s dev
+        ensures { Steps S.stands (λ s. spec.onward s dev
             (spec.packet_sending (spec.mark s) (record { dev = over; packet = packet.now })))
-            acts self.new) }
-        ensures err { (s : NodeState) → NodeStands S.stands self.old s → OnErr result
-            (NodeStands S.stands self.new s) }
-        ensures same { version_of self.new ≡ version_of self.old }
+            self.old result self.new }
     {
         let mut list = Vec::with_capacity(alloc, 2)?;
         let mark = self.mark();
@@ -342,11 +308,8 @@ impl<S: Services> Node<S> {
         hop: Hop,
     ) -> Result<Acts, NoMemory>
         requires carried { MayCarry (mark_on self.old) packet.now.handler }
-        ensures ok { (s : NodeState) → NodeStands S.stands self.old s → IfOk result
-            (λ acts. IsStep S.stands (spec.forward_by s dev packet.now hop) acts self.new) }
-        ensures err { (s : NodeState) → NodeStands S.stands self.old s → OnErr result
-            (NodeStands S.stands self.new s) }
-        ensures same { version_of self.new ≡ version_of self.old }
+        ensures { Steps S.stands (λ s. spec.forward_by s dev packet.now hop)
+            self.old result self.new }
     {
         let reason = match hop {
             Hop::To(_, over) => return self.send_on(alloc, dev, packet, over),
@@ -372,11 +335,8 @@ impl<S: Services> Node<S> {
     #[tactic(auto, unfolding(node_core_spec::specs::Node::forward_step))]
     fn forward(&mut self, alloc: Global, dev: Dev, packet: &CheckedPacket) -> Result<Acts, NoMemory>
         requires carried { MayCarry (mark_on self.old) packet.now.handler }
-        ensures ok { (s : NodeState) → NodeStands S.stands self.old s → IfOk result
-            (λ acts. IsStep S.stands (spec.forward_step s dev packet.now) acts self.new) }
-        ensures err { (s : NodeState) → NodeStands S.stands self.old s → OnErr result
-            (NodeStands S.stands self.new s) }
-        ensures same { version_of self.new ≡ version_of self.old }
+        ensures { Steps S.stands (λ s. spec.forward_step s dev packet.now)
+            self.old result self.new }
     {
         if packet.bound() == 0 {
             let room = two_room(alloc)?;
@@ -391,11 +351,8 @@ impl<S: Services> Node<S> {
     #[tactic(auto, unfolding(node_core_spec::specs::Node::packet_step))]
     fn take_in(&mut self, alloc: Global, dev: Dev, packet: &CheckedPacket) -> Result<Acts, NoMemory>
         requires carried { MayCarry (mark_on self.old) packet.now.handler }
-        ensures ok { (s : NodeState) → NodeStands S.stands self.old s → IfOk result
-            (λ acts. IsStep S.stands (spec.packet_step s dev packet.now) acts self.new) }
-        ensures err { (s : NodeState) → NodeStands S.stands self.old s → OnErr result
-            (NodeStands S.stands self.new s) }
-        ensures same { version_of self.new ≡ version_of self.old }
+        ensures { Steps S.stands (λ s. spec.packet_step s dev packet.now)
+            self.old result self.new }
     {
         if packet.dest().0 != self.here.0 {
             return self.forward(alloc, dev, packet);
@@ -424,11 +381,8 @@ impl<S: Services> Node<S> {
     /// An advert arrives: it is heard where it comes from the neighbour on its device.
     #[tactic(auto, unfolding(node_core_spec::specs::Node::advert_step))]
     fn hear(&mut self, alloc: Global, dev: Dev, advert: &Advert) -> Result<Acts, NoMemory>
-        ensures ok { (s : NodeState) → NodeStands S.stands self.old s → IfOk result
-            (λ acts. IsStep S.stands (spec.advert_step s dev advert.now) acts self.new) }
-        ensures err { (s : NodeState) → NodeStands S.stands self.old s → OnErr result
-            (NodeStands S.stands self.new s) }
-        ensures same { version_of self.new ≡ version_of self.old }
+        ensures { Steps S.stands (λ s. spec.advert_step s dev advert.now)
+            self.old result self.new }
     {
         let room = two_room(alloc)?;
         if !self.knows(dev, advert.host) {
@@ -441,11 +395,8 @@ impl<S: Services> Node<S> {
     /// A frame arrives. Condition: under version 1 a packet has no handler.
     fn arrive_frame(&mut self, alloc: Global, dev: Dev, frame: &Frame) -> Result<Acts, NoMemory>
         requires { MayGoOn (mark_on self.old) (plain_of frame.now) }
-        ensures ok { (s : NodeState) → NodeStands S.stands self.old s → IfOk result
-            (λ acts. IsStep S.stands (spec.frame_step s dev (plain_of frame.now)) acts self.new) }
-        ensures err { (s : NodeState) → NodeStands S.stands self.old s → OnErr result
-            (NodeStands S.stands self.new s) }
-        ensures same { version_of self.new ≡ version_of self.old }
+        ensures { Steps S.stands (λ s. spec.frame_step s dev (plain_of frame.now))
+            self.old result self.new }
     {
         match frame {
             Frame::Packet(packet) => self.take_in(alloc, dev, packet),
@@ -485,48 +436,8 @@ impl<S: Services> Node<S> {
         note(&mut self.windows, dev, stamp);
     }
 
-    /// A fresh frame arrives, and its stamp is taken. Conditions: under version 1 it has none, and a packet has no handler.
-    fn arrive_fresh(
-        &mut self,
-        alloc: Global,
-        dev: Dev,
-        stamp: Option<Stamp>,
-        frame: &Frame,
-    ) -> Result<Acts, NoMemory>
-        requires borne { MayBear (version_of self.old) stamp }
-        requires carried { MayGoOn (mark_on self.old) (plain_of frame.now) }
-        ensures ok { (s : NodeState) → NodeStands S.stands self.old s → spec.takes_as s.seen dev
-            stamp ≡ FreshOne → IfOk result (λ acts. IsStep S.stands
-            (spec.stamped_as s dev (with_stamp stamp (plain_of frame.now)) FreshOne)
-            acts self.new) }
-        ensures err { (s : NodeState) → NodeStands S.stands self.old s → OnErr result
-            (NodeStands S.stands self.new s) }
-        ensures same { version_of self.new ≡ version_of self.old }
-    {
-        let acts = self.arrive_frame(alloc, dev, frame)?;
-        self.note(dev, stamp);
-        Ok(acts)
-    }
-
-    /// A stale frame arrives.
-    fn arrive_stale(
-        &self,
-        alloc: Global,
-        dev: Dev,
-        took: Took,
-        frame: &Frame,
-    ) -> Result<Acts, NoMemory>
-        ensures list { IfOk result (λ acts. acts.list ≡ act.Arrived dev ∷ act.Stale took
-            (spelled.what_of (plain_of frame.now)) ∷ []) }
-        ensures frame { IfOk result (λ acts. acts.frame ≡ None) }
-    {
-        let room = two_room(alloc)?;
-        let stale = Act::Stale(took, what_of(frame));
-        Ok(only_acts(room, Act::Arrived(dev), stale))
-    }
-
-    /// A frame with its stamp arrives: it is stale where its stamp isn't fresh on its device. Conditions: under version 1 it has
-    /// none, and a packet has no handler.
+    /// A frame with its stamp arrives: it is stale where its stamp isn't fresh on its device, and else its stamp is taken.
+    /// Conditions: under version 1 it has none, and a packet has no handler.
     #[tactic(auto, unfolding(node_core_spec::specs::Node::stamped_step))]
     fn arrive_stamped(
         &mut self,
@@ -537,17 +448,18 @@ impl<S: Services> Node<S> {
     ) -> Result<Acts, NoMemory>
         requires borne { MayBear (version_of self.old) stamp }
         requires carried { MayGoOn (mark_on self.old) (plain_of frame.now) }
-        ensures ok { (s : NodeState) → NodeStands S.stands self.old s → IfOk result
-            (λ acts. IsStep S.stands (spec.stamped_step s dev
-            (with_stamp stamp (plain_of frame.now))) acts self.new) }
-        ensures err { (s : NodeState) → NodeStands S.stands self.old s → OnErr result
-            (NodeStands S.stands self.new s) }
-        ensures same { version_of self.new ≡ version_of self.old }
+        ensures { Steps S.stands
+            (λ s. spec.stamped_step s dev (with_stamp stamp (plain_of frame.now)))
+            self.old result self.new }
     {
         match self.judge(dev, stamp) {
-            Took::Fresh => self.arrive_fresh(alloc, dev, stamp, frame),
-            Took::Repeated => self.arrive_stale(alloc, dev, Took::Repeated, frame),
-            Took::TooOld => self.arrive_stale(alloc, dev, Took::TooOld, frame),
+            Took::Fresh => {
+                let acts = self.arrive_frame(alloc, dev, frame)?;
+                self.note(dev, stamp);
+                Ok(acts)
+            }
+            Took::Repeated => stale_step(alloc, dev, Took::Repeated, frame),
+            Took::TooOld => stale_step(alloc, dev, Took::TooOld, frame),
         }
     }
 
@@ -563,33 +475,17 @@ impl<S: Services> Node<S> {
         }
     }
 
-    /// A frame that was read arrives, and its program is kept. Conditions: under version 1 it has no stamp, and a packet has no
-    /// handler.
-    fn arrive_read(&mut self, alloc: Global, dev: Dev, stamped: &Stamped) -> Result<Acts, NoMemory>
-        requires borne { MayBear (version_of self.old) stamped.now.stamp }
-        requires carried { MayGoOn (mark_on self.old) (plain_of stamped.now.frame) }
-        ensures ok { (s : NodeState) → NodeStands S.stands self.old s → IfOk result
-            (λ acts. IsStep S.stands (spec.stamped_step s dev (stamped_plain stamped.now))
-            acts self.new) }
-        ensures err { (s : NodeState) → NodeStands S.stands self.old s → OnErr result
-            (NodeStands S.stands self.new s) }
-        ensures same { version_of self.new ≡ version_of self.old }
-    {
-        self.remember(&stamped.frame);
-        self.arrive_stamped(alloc, dev, stamped.stamp, &stamped.frame)
-    }
-
-    /// The step of bytes that arrive over a device.
+    /// The step of bytes that arrive over a device. The program of a frame that is read is kept.
     #[tactic(auto, unfolding(node_core_spec::specs::Node::arrive_step))]
     pub fn arrive(&mut self, alloc: Global, dev: Dev, bytes: &[u8]) -> Result<Acts, NoMemory>
-        ensures ok { (s : NodeState) → NodeStands S.stands self.old s → IfOk result
-            (λ acts. IsStep S.stands (spec.arrive_step s dev bytes.now) acts self.new) }
-        ensures err { (s : NodeState) → NodeStands S.stands self.old s → OnErr result
-            (NodeStands S.stands self.new s) }
-        ensures same { version_of self.new ≡ version_of self.old }
+        ensures { Steps S.stands (λ s. spec.arrive_step s dev bytes.now)
+            self.old result self.new }
     {
         match read_as(alloc, bytes, self.version, self.known.as_ref()) {
-            Ok(stamped) => self.arrive_read(alloc, dev, &stamped),
+            Ok(stamped) => {
+                self.remember(&stamped.frame);
+                self.arrive_stamped(alloc, dev, stamped.stamp, &stamped.frame)
+            }
             Err(fault) => {
                 let refusal = refusal_of(fault)?;
                 let room = two_room(alloc)?;
@@ -598,26 +494,24 @@ impl<S: Services> Node<S> {
         }
     }
 
-    /// The step of a frame that arrives over a device from a node of the same version: as it is cached with its bytes, and by these
-    /// where it doesn't.
+    /// The step of a frame that arrives over a device from a node of the same version. It isn't spelled, but for a node of
+    /// another version.
     pub fn arrive_spelled(
         &mut self,
         alloc: Global,
         dev: Dev,
         frame: &EncodedFrame,
     ) -> Result<Acts, NoMemory>
-        ensures ok { (s : NodeState) → NodeStands S.stands self.old s → IsMarked s.version
-            frame.now.stamp → IfOk result (λ acts. IsStep S.stands
-            (spec.stamped_step s dev frame.now) acts self.new) }
-        ensures err { (s : NodeState) → NodeStands S.stands self.old s → OnErr result
-            (NodeStands S.stands self.new s) }
-        ensures same { version_of self.new ≡ version_of self.old }
+        ensures { StepsWhere S.stands (λ s. IsMarked s.version frame.now.stamp)
+            (λ s. spec.stamped_step s dev frame.now) self.old result self.new }
     {
-        let bytes = frame.bytes();
         let stamp = frame.stamp();
         match frame.frame(self.version) {
             Some(own) => self.arrive_stamped(alloc, dev, stamp, own),
-            None => self.arrive(alloc, dev, bytes),
+            None => {
+                let bytes = frame.to_bytes(alloc)?;
+                self.arrive(alloc, dev, bytes.as_slice())
+            }
         }
     }
 
@@ -625,11 +519,8 @@ impl<S: Services> Node<S> {
     #[tactic(auto, using(crate::proofs::StepLaws::none_named))]
     fn ask_frame(&mut self, alloc: Global, frame: Frame) -> Result<Acts, NoMemory>
         requires { asks_within (plain_of frame) }
-        ensures ok { (s : NodeState) → NodeStands S.stands self.old s → IfOk result
-            (λ acts. IsStep S.stands (spec.asked_plain s (plain_of frame)) acts self.new) }
-        ensures err { (s : NodeState) → NodeStands S.stands self.old s → OnErr result
-            (NodeStands S.stands self.new s) }
-        ensures same { version_of self.new ≡ version_of self.old }
+        ensures { Steps S.stands (λ s. spec.asked_plain s (plain_of frame))
+            self.old result self.new }
     {
         match frame {
             Frame::Ask(bound, chunk) => {
@@ -646,12 +537,8 @@ impl<S: Services> Node<S> {
     /// What the owner asked was read, and its program is kept.
     fn ask_read(&mut self, alloc: Global, stamped: Stamped) -> Result<Acts, NoMemory>
         requires { asks_within (plain_of stamped.frame) }
-        ensures ok { (s : NodeState) → NodeStands S.stands self.old s → IfOk result
-            (λ acts. IsStep S.stands (spec.asked_plain s (plain_of stamped.frame))
-            acts self.new) }
-        ensures err { (s : NodeState) → NodeStands S.stands self.old s → OnErr result
-            (NodeStands S.stands self.new s) }
-        ensures same { version_of self.new ≡ version_of self.old }
+        ensures { Steps S.stands (λ s. spec.asked_plain s (plain_of stamped.frame))
+            self.old result self.new }
     {
         self.remember(&stamped.frame);
         self.ask_frame(alloc, stamped.frame)
@@ -660,11 +547,8 @@ impl<S: Services> Node<S> {
     /// Bytes arrive from the owner: an ask is an injection.
     #[tactic(auto, unfolding(node_core_spec::specs::Node::control_step))]
     fn control(&mut self, alloc: Global, bytes: &[u8]) -> Result<Acts, NoMemory>
-        ensures ok { (s : NodeState) → NodeStands S.stands self.old s → IfOk result
-            (λ acts. IsStep S.stands (spec.control_step s bytes.now) acts self.new) }
-        ensures err { (s : NodeState) → NodeStands S.stands self.old s → OnErr result
-            (NodeStands S.stands self.new s) }
-        ensures same { version_of self.new ≡ version_of self.old }
+        ensures { Steps S.stands (λ s. spec.control_step s bytes.now)
+            self.old result self.new }
     {
         match read_as(alloc, bytes, self.version, self.known.as_ref()) {
             Ok(stamped) => self.ask_read(alloc, stamped),
@@ -683,18 +567,14 @@ impl<S: Services> Node<S> {
             (λ sends. sends ≡ spec.tick_sends s) }
     {
         let advert = self.routes.advert(alloc)?;
-        let sends = advert_sendings(alloc, self.mark(), &advert, self.neighbours.as_slice())?;
+        let sends = advert_sendings(alloc, self.mark(), advert, self.neighbours.as_slice())?;
         Ok(sends)
     }
 
     /// The step of a tick: rows that have expired go, and the advert is queued for each neighbour.
     #[tactic(auto, unfolding(node_core_spec::specs::Node::tick_step))]
     pub fn tick(&mut self, alloc: Global) -> Result<Acts, NoMemory>
-        ensures ok { (s : NodeState) → NodeStands S.stands self.old s → IfOk result
-            (λ acts. IsStep S.stands (spec.tick_step s) acts self.new) }
-        ensures err { (s : NodeState) → NodeStands S.stands self.old s → OnErr result
-            (NodeStands S.stands self.new s) }
-        ensures same { version_of self.new ≡ version_of self.old }
+        ensures { Steps S.stands spec.tick_step self.old result self.new }
     {
         let now = next_tick(self.time);
         let sends = self.adverts(alloc)?;
@@ -711,11 +591,8 @@ impl<S: Services> Node<S> {
     /// The step that takes the first frame of a device.
     #[tactic(auto, unfolding(node_core_spec::specs::Node::take_step))]
     pub fn take(&mut self, alloc: Global, dev: Dev) -> Result<Acts, NoMemory>
-        ensures ok { (s : NodeState) → NodeStands S.stands self.old s → IfOk result
-            (λ acts. IsStep S.stands (spec.take_step s dev) acts self.new) }
-        ensures err { (s : NodeState) → NodeStands S.stands self.old s → OnErr result
-            (NodeStands S.stands self.new s) }
-        ensures same { version_of self.new ≡ version_of self.old }
+        ensures { Steps S.stands (λ s. spec.take_step s dev)
+            self.old result self.new }
     {
         let room = Vec::with_capacity(alloc, 1)?;
         let at = dev.0 as usize;
@@ -737,26 +614,25 @@ impl<S: Services> Node<S> {
     ) -> Result<Acts, NoMemory>
         requires small { bound ≤ 65535 }
         requires handler { MayName (version_of self.old) chunk.now handler.now }
-        ensures ok { (s : NodeState) → NodeStands S.stands self.old s → IfOk result
-            (λ acts. IsStep S.stands (spec.inject_step [] s chunk.now bound handler.now)
-            acts self.new) }
-        ensures err { (s : NodeState) → NodeStands S.stands self.old s → OnErr result
-            (NodeStands S.stands self.new s) }
-        ensures same { version_of self.new ≡ version_of self.old }
+        ensures { Steps S.stands (λ s. spec.inject_step [] s chunk.now bound handler.now)
+            self.old result self.new }
     {
         let handler = copy_handler(alloc, handler)?;
         let chunk = chunk.copy(alloc)?;
         self.inject(alloc, chunk, bound, handler)
     }
 
-    /// The step of an event, by its case.
-    fn step_by_case(&mut self, alloc: Global, event: &Event) -> Result<Acts, NoMemory>
+    /// One step, as the definition has it for each state that the node stands for: in balance for each family, and
+    /// keeping what every node keeps. Where an allocation fails, the node stays. Conditions: an injected bound is at most 65,535 and
+    /// its handler none under version 1, and one that may handle or none under version 2; a device is at most 8.
+    pub fn step(&mut self, alloc: Global, event: &Event) -> Result<Acts, NoMemory>
         requires { comes_within (version_of self.old) event.now }
-        ensures ok { (s : NodeState) → NodeStands S.stands self.old s → IfOk result
-            (λ acts. IsStep S.stands (spec.node_step s event.now) acts self.new) }
-        ensures err { (s : NodeState) → NodeStands S.stands self.old s → OnErr result
-            (NodeStands S.stands self.new s) }
-        ensures same { version_of self.new ≡ version_of self.old }
+        ensures steps { Steps S.stands (λ s. spec.node_step s event.now)
+            self.old result self.new }
+        ensures balance { (f : FamilyOf) (s : NodeState) → StepBalances f (came f s event.now)
+            (stale f s event.now) s (spec.node_step s event.now) }
+        ensures keeps { (s : NodeState) → comes_fit s.version event.now → NodeFits s → NodeFits
+            (spec.node_step s event.now).node }
     {
         match event {
             Event::Inject(chunk, bound, handler) => {
@@ -767,23 +643,5 @@ impl<S: Services> Node<S> {
             Event::Tick => self.tick(alloc),
             Event::Take(dev) => self.take(alloc, *dev),
         }
-    }
-
-    /// One step, as the definition has it for each state that the node stands for: in balance for each family, and
-    /// keeping what every node keeps. Where an allocation fails, the node stays. Conditions: an injected bound is at most 65,535 and
-    /// its handler none under version 1, and one that may handle or none under version 2; a device is at most 8.
-    pub fn step(&mut self, alloc: Global, event: &Event) -> Result<Acts, NoMemory>
-        requires { comes_within (version_of self.old) event.now }
-        ensures ok { (s : NodeState) → NodeStands S.stands self.old s → IfOk result
-            (λ acts. IsStep S.stands (spec.node_step s event.now) acts self.new) }
-        ensures err { (s : NodeState) → NodeStands S.stands self.old s → OnErr result
-            (NodeStands S.stands self.new s) }
-        ensures same { version_of self.new ≡ version_of self.old }
-        ensures balance { (f : FamilyOf) (s : NodeState) → StepBalances f (came f s event.now)
-            (stale f s event.now) s (spec.node_step s event.now) }
-        ensures keeps { (s : NodeState) → comes_fit s.version event.now → NodeFits s → NodeFits
-            (spec.node_step s event.now).node }
-    {
-        self.step_by_case(alloc, event)
     }
 }

@@ -21,9 +21,10 @@ use Rattle.service_api.specs.declared.advert.Advert.{Advert}
 use Rattle.plan_base.specs.declared.memory.NoMemory.{NoMemory}
 use Rattle.node_core_spec.specs.Node.{mark_of}
 use Rattle.node_core_parts.specs.Carried.{MayBear, MayGoOn, asks_within}
+use Rattle.node_core_parts.specs.Reading.{ComesTo}
 
 -- what is read in a version is what the definition reads
-pub read_found : (v : Version) (bytes : List ℕ) (r : Result Stamped FrameFault) → IfOk r (λ x. AcceptsBy v bytes (stamped_plain x)) → IfOk r (λ x. read_by v bytes ≡ Ok (stamped_plain x))
+read_found : (v : Version) (bytes : List ℕ) (r : Result Stamped FrameFault) → IfOk r (λ x. AcceptsBy v bytes (stamped_plain x)) → IfOk r (λ x. read_by v bytes ≡ Ok (stamped_plain x))
 read_found v bytes (Ok x) h = accepted_by v bytes (stamped_plain x) h
 read_found v bytes (Err e) h = h
 
@@ -48,7 +49,7 @@ asked_so (PlainFrame.Packet p) h = tt
 asked_so (PlainFrame.Advert a) h = tt
 asked_so (PlainFrame.Ask bound chunk) h = h.0
 
-pub read_within : (v : Version) (bytes : List ℕ) (r : Result Stamped FrameFault) → IfOk r (λ x. AcceptsBy v bytes (stamped_plain x)) → IfOk r (λ x. asks_within (plain_of x.frame))
+read_within : (v : Version) (bytes : List ℕ) (r : Result Stamped FrameFault) → IfOk r (λ x. AcceptsBy v bytes (stamped_plain x)) → IfOk r (λ x. asks_within (plain_of x.frame))
 read_within v bytes (Ok x) h = asked_so (plain_of x.frame) h.fits
 read_within v bytes (Err e) h = h
 
@@ -60,7 +61,7 @@ goes_on v boot bytes o (PlainFrame.Advert a) h = tt
 goes_on v boot bytes o (PlainFrame.Ask bound chunk) h = tt
 
 -- a packet that was read may go on
-pub read_carried : (v : Version) (bytes : List ℕ) (r : Result Stamped FrameFault) → IfOk r (λ x. AcceptsBy v bytes (stamped_plain x)) → (boot : ℕ) → IfOk r (λ x. MayGoOn (mark_of v boot) (plain_of x.frame))
+read_carried : (v : Version) (bytes : List ℕ) (r : Result Stamped FrameFault) → IfOk r (λ x. AcceptsBy v bytes (stamped_plain x)) → (boot : ℕ) → IfOk r (λ x. MayGoOn (mark_of v boot) (plain_of x.frame))
 read_carried v bytes (Ok x) h boot = goes_on v boot bytes x.stamp (plain_of x.frame) h
 read_carried v bytes (Err e) h boot = h
 
@@ -69,6 +70,17 @@ pub is_borne : (v : Version) (bytes : List ℕ) (x : PlainStamped) → AcceptsBy
 is_borne One bytes x h = h.read.0
 is_borne Two bytes x h = tt
 
-pub read_borne : (v : Version) (bytes : List ℕ) (r : Result Stamped FrameFault) → IfOk r (λ x. AcceptsBy v bytes (stamped_plain x)) → IfOk r (λ x. MayBear v x.stamp)
+read_borne : (v : Version) (bytes : List ℕ) (r : Result Stamped FrameFault) → IfOk r (λ x. AcceptsBy v bytes (stamped_plain x)) → IfOk r (λ x. MayBear v x.stamp)
 read_borne v bytes (Ok x) h = is_borne v bytes (stamped_plain x) h
 read_borne v bytes (Err e) h = h
+
+-- a frame that was read in a version, or refused in it
+pub comes_so : (v : Version) (bytes : List ℕ) (r : Result Stamped FrameFault) → IfOk r (λ x. AcceptsBy v bytes (stamped_plain x))
+    → IfErr r (λ e. (e ≡ FrameFault.NoMemory) ⊎ (read_by v bytes ≡ Err e)) → ComesTo v bytes r
+comes_so v bytes r h e = record {
+  found = read_found v bytes r h;
+  fault = e;
+  within = read_within v bytes r h;
+  carried = read_carried v bytes r h;
+  borne = read_borne v bytes r h;
+}

@@ -3,6 +3,7 @@ pub mod Drops
 pub mod Heard
 pub mod Leaving
 pub mod Queued
+pub mod Reading
 pub mod Turns
 pub mod Visiting
 pub mod Windows

@@ -10,6 +10,8 @@ use Rattle.node_core_spec.specs.declared.acts.Act.TheVariants.{Noted, Ended}
 use Rattle.node_core_spec.specs.Node.{handled_acts, visit_sends}
 use Rattle.plan_eval_settle.specs.declared.settling.Settled.{Settled}
 use Rattle.node_core_parts.specs.declared.turns.Turn.{Turn}
+use Rattle.node_core_parts.specs.declared.turns.Listing.{Listing}
+use Rattle.plan_meaning.specs.declared.sent.Sent.{Sent}
 
 -- no visit is open
 pub record IsResting (n : ServiceState) : Type 0 where
@@ -31,3 +33,13 @@ pub record IsOpen (m : Option Stamp) (before : List Act) (p : Packet) (left : �
       ≡ before ++ (map Noted s.visit.notes ++ (Ended p.family s.visit.outcome s.visit.evals s.visit.left ∷ handled_acts p.family s.handled left))
   pub sends : turn.sends ≡ visit_sends m s.visit
   pub room : vec_len turn.acts + length turn.sends ≤ vec_capacity turn.acts
+
+-- what a settled visit lists behind these acts, and what it sends
+pub record IsListing (s : Settled) (acts : List Act) (made : Listing × List Sent) : Type 0 where
+  pub before : made.0.before ≡ acts
+  pub notes : made.0.notes ≡ s.visit.notes
+  pub outcome : made.0.outcome ≡ s.visit.outcome
+  pub evals : made.0.evals ≡ s.visit.evals
+  pub rest : made.0.rest ≡ s.visit.left
+  pub handled : made.0.handled ≡ s.handled
+  pub outbox : made.1 ≡ s.visit.outbox

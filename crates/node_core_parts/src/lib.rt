@@ -31,5 +31,5 @@ pub use sends::{send_all, send_one};
 pub use step_acts::{
     acts_room, none_taken, one_act, only_acts, refusal_of, taken, ticked, two_room, with_act,
 };
-pub use turns::{Turn, is_spent, turn_of};
+pub use turns::{Turn, close, is_spent, turn_of};
 pub use windows::{judge, note};

@@ -4,6 +4,7 @@ ghost use Rattle.service_api.specs.Adverts.{AdvertFits};
 ghost use Rattle.packet_frame.specs.Spelled.{MayCarry};
 ghost use Rattle.node_core_spec.specs.Node as spec;
 ghost use Rattle.node_core_parts.specs.Carried.{Carries};
+ghost use Rattle.node_core_parts.specs.Leaving.{sending_of};
 
 use crate::leaving::{Leavings, OutgoingFrame};
 use checked_chunks::CheckedPacket;
@@ -66,36 +67,29 @@ pub(crate) fn visit_sendings(
     Ok(Items::from_vec(sends))
 }
 
-/// The sending of an advert to a neighbour. Condition: it keeps its limits.
-#[tactic(auto, using(crate::proofs::LeavingLaws::advert_leaves))]
-fn advert_sending(
-    alloc: Global,
-    mark: Option<Stamp>,
-    advert: &Advert,
-    link: (Host, Dev),
-) -> Result<OutgoingFrame, NoMemory>
-    requires { AdvertFits advert.now }
-    ensures { IfOk result (λ s. s ≡ spec.advert_sending mark advert.now link) }
+/// The sending of an advert's frame to a neighbour.
+fn advert_sending(frame: &EncodedFrame, link: (Host, Dev)) -> Result<OutgoingFrame, NoMemory>
+    ensures { IfOk result (λ s. s ≡ sending_of link.1 frame.now 0) }
 {
-    let dev = link.1;
-    let frame = EncodedFrame::of_advert(alloc, advert, mark)?;
-    Ok(OutgoingFrame::of(dev, frame, 0))
+    Ok(OutgoingFrame::of(link.1, frame.share()?, 0))
 }
 
-/// The sendings of an advert to neighbours. Condition: it keeps its limits.
+/// The sendings of an advert to neighbours, who share its rows. Condition: it keeps its limits.
+#[tactic(auto, using(crate::proofs::LeavingLaws::advert_leaves))]
 pub fn advert_sendings(
     alloc: Global,
     mark: Option<Stamp>,
-    advert: &Advert,
+    advert: Advert,
     neighbours: &[(Host, Dev)],
 ) -> Result<Leavings, NoMemory>
-    requires { AdvertFits advert.now }
-    ensures { IfOk result (λ sends. sends ≡ map (spec.advert_sending mark advert.now)
+    requires { AdvertFits advert }
+    ensures { IfOk result (λ sends. sends ≡ map (spec.advert_sending mark advert)
         neighbours.now) }
 {
+    let frame = EncodedFrame::of_advert(alloc, advert, mark)?;
     let mut sends = Items::from_vec(Vec::with_capacity(alloc, neighbours.len())?);
     for link in neighbours {
-        sends.add(advert_sending(alloc, mark, advert, *link)?)?;
+        sends.add(advert_sending(&frame, *link)?)?;
     }
     Ok(sends)
 }

@@ -1,5 +1,5 @@
 //! Reads frames as a node of a version does.
-ghost use Rattle.std.specs.Prelude.{◌≡◌, ◌⊎◌, ℕ, IfOk, IfErr, Ok, Err};
+ghost use Rattle.std.specs.Prelude.{◌≡◌, ◌⊎◌, IfOk, IfErr, Err};
 ghost use Rattle.wire_bytes.specs.Fields.{IsBytes};
 ghost use Rattle.plan_base.specs.declared.stamp.Version.TheVariants.{One, Two};
 ghost use Rattle.packet_frame.specs.declared.fault.FrameFault.{FrameFault};
@@ -7,8 +7,7 @@ ghost use Rattle.packet_frame.specs.Typed.{plain_of};
 ghost use Rattle.packet_frame.specs.Stamped.{AcceptsBy, stamped_plain};
 ghost use Rattle.packet_frame.specs.Decoding.{read_by};
 ghost use Rattle.packet_frame.specs.Spelled as spelled;
-ghost use Rattle.node_core_spec.specs.Node.{mark_of};
-ghost use Rattle.node_core_parts.specs.Carried.{MayBear, MayGoOn, asks_within};
+ghost use Rattle.node_core_parts.specs.Reading.{ComesTo};
 
 use checked_chunks::Checked;
 use node_core_spec::What;
@@ -46,20 +45,13 @@ fn read_second(alloc: Global, bytes: &[u8], known: Option<&Checked>) -> Result<S
 
 /// Reads a frame as a node of a version does; the answer is that of the definition, where memory is there, whatever program is
 /// known. An ask has a bound of at most 65,535, a packet may go on from such a node, and no frame bears a stamp under version 1.
-#[tactic(auto, using(crate::proofs::ReadingLaws::read_found, crate::proofs::ReadingLaws::read_within, crate::proofs::ReadingLaws::read_carried, crate::proofs::ReadingLaws::read_borne))]
 pub fn read_as(
     alloc: Global,
     bytes: &[u8],
     version: Version,
     known: Option<&Checked>,
 ) -> Result<Stamped, FrameFault>
-    ensures found { IfOk result (λ x. read_by version bytes.now ≡ Ok (stamped_plain x)) }
-    ensures fault { IfErr result (λ e. (e ≡ FrameFault.NoMemory) ⊎
-        (read_by version bytes.now ≡ Err e)) }
-    ensures within { IfOk result (λ x. asks_within (plain_of x.frame)) }
-    ensures carried { (boot : ℕ) → IfOk result (λ x. MayGoOn (mark_of version boot)
-        (plain_of x.frame)) }
-    ensures borne { IfOk result (λ x. MayBear version x.stamp) }
+    ensures { ComesTo version bytes.now result }
 {
     match version {
         Version::One => read_first(alloc, bytes, known),

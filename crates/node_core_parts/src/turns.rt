@@ -1,9 +1,9 @@
 //! A visit that was made and settled, of which nothing stands yet: what it lists, and what it sends.
-ghost use Rattle.std.specs.Prelude.{◌≡◌, ◌≤◌, ◌+◌, ◌∷◌, ◌++◌, map, All, length, vec_len, vec_capacity, IfOk};
+ghost use Rattle.std.specs.Prelude.{◌≡◌, ◌≤◌, ◌+◌, ◌∷◌, ◌++◌, map, All, length, vec_len, vec_capacity, IfOk, IsSome, IsTrue};
 ghost use Rattle.std.specs.Option.{option_to_list};
 ghost use Rattle.node_core_spec.specs.Node as spec;
 ghost use Rattle.node_core_spec.specs.declared.acts.Act.TheVariants.{Noted, Ended};
-ghost use Rattle.node_core_parts.specs.Turns.{is_spent as spent};
+ghost use Rattle.node_core_parts.specs.Turns.{is_spent as spent, closed_services, IsListing};
 ghost use Rattle.node_core_parts.specs.Carried.{Carries};
 
 use crate::leaving::Leavings;
@@ -14,7 +14,7 @@ use node_core_spec::{Act, ActList, TxQueue};
 use plan_base::{Family, Name, NoMemory, Stamp};
 use plan_eval_settle::Settled;
 use plan_meaning::{Outbox, Outcome, Visit};
-use service_api::Notes;
+use service_api::{Notes, Services};
 use std::alloc::{AllocError, Global};
 
 /// A settled visit that was made, of which nothing stands yet: the acts up to its sends with room for theirs, the sends as they
@@ -62,6 +62,19 @@ pub fn is_spent(outcome: &Outcome) -> bool
     match outcome {
         Outcome::WorkSpent => true,
         _ => false,
+    }
+}
+
+/// Makes the changes of a visit stand, or undoes them where its work was spent. Takes no memory.
+pub fn close<S: Services>(services: &mut S, is_spent: bool)
+    requires open { IsSome (S.stands services.old).begun }
+    requires ready { IsTrue (S.stands services.old).ready }
+    ensures { S.stands services.new ≡ closed_services is_spent (S.stands services.old) }
+{
+    if is_spent {
+        services.abandon();
+    } else {
+        services.keep();
     }
 }
 
@@ -123,13 +136,7 @@ impl Listing {
 
 /// What a settled visit lists after some acts, and what it sends.
 fn listing_of(settled: Settled, before: ActList) -> (Listing, Outbox)
-    ensures before { result.0.before ≡ before }
-    ensures notes { result.0.notes ≡ settled.visit.notes }
-    ensures outcome { result.0.outcome ≡ settled.visit.outcome }
-    ensures evals { result.0.evals ≡ settled.visit.evals }
-    ensures rest { result.0.rest ≡ settled.visit.left }
-    ensures handled { result.0.handled ≡ settled.handled }
-    ensures outbox { result.1 ≡ settled.visit.outbox }
+    ensures { IsListing settled before result }
 {
     let Settled { visit, handled } = settled;
     let Visit {

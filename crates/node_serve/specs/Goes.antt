@@ -5,7 +5,8 @@ use Rattle.network_config.specs.declared.serve.ServeConfig.{ServeConfig}
 use Rattle.network_config.specs.declared.event.Event.{Event}
 use Rattle.network_config.specs.NodeRules.{KeepsServe}
 use Rattle.node_io.specs.Clocks.{Tells}
-use Rattle.node_io.specs.Links.{HasPeer, next_heard}
+use Rattle.node_io.specs.FileStates.{FilesState}
+use Rattle.node_io.specs.Links.{LinkState, HasPeer, next_heard}
 use Rattle.service_api.specs.Services.{ServiceState}
 use Rattle.node_log.specs.Runs.{Running, Action, make, hear, turn, turns, peers_of}
 use Rattle.node_serve.specs.Shown.{Start, Shows, Stopped, Leaves, UsesOne, UsesUpTo}
@@ -31,9 +32,14 @@ pub record IsToPeer (cfg : ServeConfig) (d : Dev) : Type 0 where
   pub peer : HasPeer (peers_of cfg) d
 
 -- turns can be made: the node is serving by its rules, and there is room for what its link hears
-pub record CanTurn (cfg : ServeConfig) (d : Desk) (buffer : List ℕ) : Type 0 where
-  pub writing : IsTrue d.files.writing
-  pub bound : d.link.bound ≡ peers_of cfg
+pub record CanTurn (cfg : ServeConfig) (files : FilesState) (link : LinkState) (buffer : List ℕ) : Type 0 where
+  pub writing : IsTrue files.writing
+  pub bound : link.bound ≡ peers_of cfg
+  pub keeps : KeepsServe cfg
+  pub room : length buffer ≡ 16513
+
+-- a node can begin and make turns: it keeps its rules, and there is room for what its link hears
+pub record CanServe (cfg : ServeConfig) (buffer : List ℕ) : Type 0 where
   pub keeps : KeepsServe cfg
   pub room : length buffer ≡ 16513
 
@@ -73,6 +79,12 @@ pub record GoesTurn {S T : Type 0} (stands : S → ServiceState) (cfg : ServeCon
   pub told : Tells old.clock new.clock time
   pub goes : Goes stands cfg (turn cfg number time (next_heard (peers_of cfg) old.link.script)) server after (desk_of old) (desk_of new) result
   pub script : IsTrue old.link.observable → UsesOne old.link.script new.link.script result
+
+-- a turn was made so, and there is as much room as before for what the link hears
+pub record MakesTurn {S T : Type 0} (stands : S → ServiceState) (cfg : ServeConfig) (number : ℕ) (server after : Server S)
+    (old new : Serving) (buffer buffer_new : List ℕ) (result : Result T ServeFault) : Type 0 where
+  pub goes : GoesTurn stands cfg number server after old new result
+  pub room : length buffer_new ≡ length buffer
 
 -- so many turns were made, each with an arrival and an answer of the clock; where they failed, no more
 pub record GoesTurns {S T : Type 0} (stands : S → ServiceState) (cfg : ServeConfig) (count : ℕ) (server after : Server S)

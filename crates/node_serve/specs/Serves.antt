@@ -32,3 +32,7 @@ pub record Serves {T : Type 0} (cfg : ServeConfig) (node : NodeState) (turns : �
   pub binds : MayBindNode cfg old.link new.link result
   pub unbound : NoneUnbound (desk_of old) (desk_of new)
   pub runs : IsSeen (desk_of old) → IsTrue old.clock.observable → Ends cfg node turns old new result
+
+-- a server that stands for a run that is opened serves as its node
+abbrev pub ServesAs : {S T : Type 0} → (S → ServiceState) → ServeConfig → Server S → ℕ → Serving → Serving → Result T ServeFault → Type 0
+ServesAs stands cfg server turns old new result = (node : NodeState) → StandsFor stands server (opened_run node) → Serves cfg node turns old new result

@@ -13,16 +13,16 @@ ghost use Rattle.node_serve.specs.Goes.{Goes};
 use crate::fault::ServeFault;
 use crate::server::Server;
 use crate::steps::StepOutcome;
+use crate::taken::TakenFrame;
 use network_config::{Event, ServeConfig};
 use node_core_parts::are_bytes;
 use node_io::{Files, Sink};
-use packet_frame::EncodedFrame;
 use plan_base::Dev;
 use service_api::Services;
 use std::alloc::Global;
 
 /// The event of a frame that the node sent to itself.
-fn event_of_frame(frame: EncodedFrame) -> Event
+fn event_of_frame(frame: TakenFrame) -> Event
     ensures event { result ≡ event.Frame (dev_of 0) (stamped_bytes frame) }
     ensures keeps { (v : Version) → KeepsNodeEvent v result }
 {
@@ -39,7 +39,7 @@ impl<S: Services> Server<S> {
         cfg: &ServeConfig,
         files: &mut F,
         out: &mut K,
-        frame: Option<EncodedFrame>,
+        frame: Option<TakenFrame>,
     ) -> Result<(), ServeFault>
         requires { IsTrue (F.state files.old).writing }
         ensures { (l : LinkState) → Goes S.stands cfg.now (spec.come_back frame) self.old self.new

@@ -10,19 +10,15 @@ ghost use Rattle.node_serve.specs.Steps.{SendsTaken};
 use crate::fault::ServeFault;
 use crate::server::Server;
 use crate::steps::StepOutcome;
+use crate::taken::TakenFrame;
 use network_config::ServeConfig;
 use node_io::{Files, Link, Sink};
-use packet_frame::EncodedFrame;
 use plan_base::Dev;
 use service_api::Services;
 use std::alloc::Global;
 
 /// Sends a frame that was taken, where there is one. Condition: the device is among the peers.
-fn send_frame<L: Link>(
-    link: &mut L,
-    dev: Dev,
-    frame: &Option<EncodedFrame>,
-) -> Result<(), ServeFault>
+fn send_frame<L: Link>(link: &mut L, dev: Dev, frame: &Option<TakenFrame>) -> Result<(), ServeFault>
     requires { HasPeer (L.state link.old).bound dev }
     ensures { SendsTaken dev frame.now (L.state link.old) (L.state link.new) result }
 {

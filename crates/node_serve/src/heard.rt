@@ -61,8 +61,7 @@ impl<S: Services> Server<S> {
         out: &mut K,
         buf: &mut [u8],
     ) -> Result<(), ServeFault>
-        requires { CanTurn cfg.now
-            (desk (F.state files.old) (K.state out.old) (L.state link.old)) buf.old }
+        requires { CanTurn cfg.now (F.state files.old) (L.state link.old) buf.old }
         ensures { GoesHearing S.stands cfg.now self.old self.new
             (desk (F.state files.old) (K.state out.old) (L.state link.old))
             (desk (F.state files.new) (K.state out.new) (L.state link.new))

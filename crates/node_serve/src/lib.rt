@@ -11,6 +11,7 @@ mod run;
 mod server;
 mod serving;
 mod steps;
+mod taken;
 mod turns;
 
 pub use fault::ServeFault;

@@ -1,7 +1,6 @@
 //! Runs turns.
-ghost use Rattle.std.specs.Prelude.{◌≡◌, length};
-ghost use Rattle.node_serve.specs.Desks.{desk, serving};
-ghost use Rattle.node_serve.specs.Goes.{CanTurn, GoesTurn, GoesTurns};
+ghost use Rattle.node_serve.specs.Desks.{serving};
+ghost use Rattle.node_serve.specs.Goes.{CanTurn, MakesTurn, GoesTurns};
 
 use crate::fault::ServeFault;
 use crate::server::Server;
@@ -23,13 +22,11 @@ impl<S: Services> Server<S> {
         buf: &mut [u8],
         number: u32,
     ) -> Result<(), ServeFault>
-        requires { CanTurn cfg.now
-            (desk (F.state files.old) (K.state out.old) (L.state link.old)) buf.old }
-        ensures goes { GoesTurn S.stands cfg.now number self.old self.new
+        requires { CanTurn cfg.now (F.state files.old) (L.state link.old) buf.old }
+        ensures { MakesTurn S.stands cfg.now number self.old self.new
             (serving (F.state files.old) (K.state out.old) (L.state link.old) (C.state clock.old))
             (serving (F.state files.new) (K.state out.new) (L.state link.new) (C.state clock.new))
-            result }
-        ensures room { length buf.new ≡ length buf.old }
+            buf.old buf.new result }
     {
         let now = clock.now();
         if let Err(fault) = self.begin_turn(alloc, cfg, files, out, number, now) {
@@ -53,8 +50,7 @@ impl<S: Services> Server<S> {
         buf: &mut [u8],
         turns: u32,
     ) -> Result<(), ServeFault>
-        requires { CanTurn cfg.now
-            (desk (F.state files.old) (K.state out.old) (L.state link.old)) buf.old }
+        requires { CanTurn cfg.now (F.state files.old) (L.state link.old) buf.old }
         ensures { GoesTurns S.stands cfg.now turns self.old self.new
             (serving (F.state files.old) (K.state out.old) (L.state link.old) (C.state clock.old))
             (serving (F.state files.new) (K.state out.new) (L.state link.new) (C.state clock.new))

@@ -1,14 +1,14 @@
 //! The public call: serves by a configuration for so many turns.
-ghost use Rattle.std.specs.Prelude.{◌≡◌, ◌<◌, ◌^◌, IfOk, length};
+ghost use Rattle.std.specs.Prelude.{◌≡◌, ◌<◌, ◌^◌, IfOk};
 ghost use Rattle.network_config.specs.NodeRules.{KeepsServe};
 ghost use Rattle.node_core.specs.Turns.{IsResting};
-ghost use Rattle.node_core_spec.specs.State.{NodeState, new_node};
+ghost use Rattle.node_core_spec.specs.State.{new_node};
 ghost use Rattle.node_log.specs.Runs.{opened_run};
-ghost use Rattle.node_serve.specs.Desks.{desk, serving};
-ghost use Rattle.node_serve.specs.Goes.{CanTurn};
+ghost use Rattle.node_serve.specs.Desks.{serving};
+ghost use Rattle.node_serve.specs.Goes.{CanServe, CanTurn};
 ghost use Rattle.node_serve.specs.Moments as moments;
 ghost use Rattle.node_serve.specs.Moments.{KeepsTwo, ServesFrom};
-ghost use Rattle.node_serve.specs.Serves.{Finishes, Serves};
+ghost use Rattle.node_serve.specs.Serves.{Finishes, Serves, ServesAs};
 ghost use Rattle.node_serve.specs.Stays.{StandsFor};
 
 use crate::fault::ServeFault;
@@ -36,8 +36,7 @@ impl<S: Services> Server<S> {
         room: &mut [u8],
         turns: u32,
     ) -> Result<(), ServeFault>
-        requires { CanTurn cfg.now
-            (desk (F.state files.old) (K.state out.old) (L.state link.old)) room.old }
+        requires { CanTurn cfg.now (F.state files.old) (L.state link.old) room.old }
         ensures { Finishes S.stands cfg.now turns self.old
             (serving (F.state files.old) (K.state out.old) (L.state link.old) (C.state clock.old))
             (serving (F.state files.new) (K.state out.new) (L.state link.new) (C.state clock.new))
@@ -64,10 +63,8 @@ impl<S: Services> Server<S> {
         room: &mut [u8],
         turns: u32,
     ) -> Result<(), ServeFault>
-        requires keeps { KeepsServe cfg.now }
-        requires room { length room.old ≡ 16513 }
-        ensures { (node : NodeState) → StandsFor S.stands self.old (opened_run node)
-            → Serves cfg.now node turns
+        requires { CanServe cfg.now room.old }
+        ensures { ServesAs S.stands cfg.now self.old turns
             (serving (F.state files.old) (K.state out.old) (L.state link.old) (C.state clock.old))
             (serving (F.state files.new) (K.state out.new) (L.state link.new) (C.state clock.new))
             result }
@@ -99,7 +96,8 @@ fn open<S: Services + Drop>(
     })
 }
 
-/// Serves with this configuration as it stands: what `serve` does, behind the moment at which the node begins.
+/// Serves with this configuration as it stands: what `serve` does, behind the moment at which the node begins. What comes of
+/// it is the run of the node, or a prefix of it; only the log is made and written, and a fault comes only where its count rose.
 fn serve_as<S: Services + Drop, L: Link, C: Clock, F: Files, K: Sink>(
     alloc: Global,
     cfg: &ServeConfig,
@@ -112,7 +110,6 @@ fn serve_as<S: Services + Drop, L: Link, C: Clock, F: Files, K: Sink>(
 ) -> Result<(), ServeFault>
     requires keeps { KeepsServe cfg.now }
     requires services { IsResting (S.stands services) }
-    // The run of the node, or a prefix of it; only the log is made and written, and a fault comes only where its count rose.
     ensures { Serves cfg.now (new_node cfg.now.node (S.stands services)) turns
         (serving (F.state files.old) (K.state out.old) (L.state link.old) (C.state clock.old))
         (serving (F.state files.new) (K.state out.new) (L.state link.new) (C.state clock.new))
@@ -219,7 +216,7 @@ fn serve_booted<S: Services + Drop, L: Link, C: Clock, F: Files, K: Sink>(
 /// sends what is queued for its neighbours. Each step writes its line of the log, and then its lines of the trace. A step that
 /// finds no memory is logged as lost, changes nothing, and doesn't end the run. Conditions: the configuration keeps its rules,
 /// and no `begin` of the services is open. Where it fails, what was written and sent are prefixes of what the run writes and
-/// sends, and belong to steps that the log has.
+/// sends, and belong to steps that the log has. Only the log is made and written, and a fault comes only where its count rose.
 pub fn serve<S: Services + Drop, L: Link, C: Clock, F: Files, K: Sink>(
     alloc: Global,
     cfg: &ServeConfig,
@@ -232,7 +229,6 @@ pub fn serve<S: Services + Drop, L: Link, C: Clock, F: Files, K: Sink>(
 ) -> Result<(), ServeFault>
     requires keeps { KeepsServe cfg.now }
     requires services { IsResting (S.stands services) }
-    // The run of the node, or a prefix of it; only the log is made and written, and a fault comes only where its count rose.
     ensures { ServesFrom cfg.now (S.stands services) turns
         (serving (F.state files.old) (K.state out.old) (L.state link.old) (C.state clock.old))
         (serving (F.state files.new) (K.state out.new) (L.state link.new) (C.state clock.new))

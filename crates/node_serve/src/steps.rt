@@ -15,12 +15,12 @@ ghost use Rattle.node_serve.specs.Shown.{IsReadable};
 ghost use Rattle.node_serve.specs.Steps.{TookTexts, Written};
 ghost use Rattle.node_serve.specs.declared.steps.StepOutcome.TheVariants as stepped;
 
+use crate::taken::{TakenFrame, taken_frame};
 use network_config::{Event, NodeConfig};
 use node_core::Node;
 use node_core_spec::{Act, Acts};
 use node_files::{put_log_line, put_lost_line};
 use node_log::{lost_lines, step_lines};
-use packet_frame::EncodedFrame;
 use plan_base::{Bytes, Host, NoMemory};
 use service_api::Services;
 use std::alloc::Global;
@@ -31,10 +31,10 @@ pub(crate) enum StepOutcome {
     /// It found no memory, and nothing changed.
     Lost,
     /// It was made, and took this frame.
-    Took(Option<EncodedFrame>),
+    Took(Option<TakenFrame>),
 }
 
-/// A step with its texts: its line of the log, and its lines of the trace.
+/// A step with its texts: its line of the log, its lines of the trace, and the bytes of the frame that it took.
 pub(crate) struct StepTexts {
     pub(crate) line: Bytes,
     pub(crate) lines: Bytes,
@@ -133,6 +133,7 @@ fn took_texts(
 {
     let (line, lines) = made_texts(alloc, number, config, event, acts.list.as_slice())?;
     let Acts { list: _list, frame } = acts;
+    let frame = taken_frame(alloc, frame)?;
     Ok(StepTexts {
         line,
         lines,

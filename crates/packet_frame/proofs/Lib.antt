@@ -6,7 +6,6 @@ pub mod Rows
 pub mod Sizes
 pub mod WholeLaws
 pub mod StampedLaws
-pub mod Links
 pub mod StampedSizes
 pub mod OneAnswer
 pub mod Versions

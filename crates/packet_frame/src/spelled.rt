@@ -1,27 +1,23 @@
-//! A frame on its way: its bytes, with what need not be read again.
-ghost use Rattle.std.specs.Prelude.{◌≡◌, ◌≤◌, IsTrue, IfOk, IfSome, None};
+//! A frame on its way, as it is kept and as it is spelled.
+ghost use Rattle.std.specs.Prelude.{◌≡◌, ◌≢◌, ◌≤◌, ◌↔◌, IsTrue, IfOk, MatchOption, None};
 ghost use Rattle.plan_types_spec.specs.Handlers.{MayHandle};
 ghost use Rattle.service_api.specs.Adverts.{AdvertFits};
 ghost use Rattle.packet_frame.specs.declared.frame.PlainFrame.{PlainFrame};
 ghost use Rattle.packet_frame.specs.Stamped.{AcceptsBy};
 ghost use Rattle.packet_frame.specs.Typed.{plain_of};
-ghost use Rattle.plan_base.specs.declared.stamp.Version.TheVariants.{One, Two};
 ghost use Rattle.packet_frame.specs.Spelled as spec;
-ghost use Rattle.packet_frame.specs.Spelled.{frame_in, IsSpelled, IsBeside, IsFrame, MayCarry};
+ghost use Rattle.packet_frame.specs.Spelled.{MayCarry, MayLeave};
 
 use crate::checked::Frame;
-use crate::link::with_link;
 use crate::put::{put_advert, put_packet};
 use crate::put_stamped::{put_advert2, put_packet2};
 use checked_chunks::{CheckedChunk, CheckedPacket};
+use containers::Shared;
 use plan_base::{Bytes, Family, Name, NoMemory, Stamp, Version};
 use plan_base_copy::copy_handler;
 use service_api::Advert;
 use std::alloc::Global;
 use std::marker::Model;
-
-/// The most bytes of a frame beside which its packet stands.
-const SHORT_FRAME: usize = 1_024;
 
 /// What a frame on its way holds.
 #[derive(Clone, Copy)]
@@ -32,39 +28,19 @@ pub enum What {
     Advert,
 }
 
-/// What is cached with the bytes of a frame, so that they need not be read again: how they are read, what they hold, and
-/// where they are few, the frame itself.
-struct Beside {
-    version: Version,
-    stamp: Option<Stamp>,
-    what: What,
-    frame: Option<Frame>,
-}
-
-// (with its own `Drop`, as the frame below, so that what drops one need not prove again how a packet is dropped)
-impl Drop for Beside {
-    fn drop(self) {
-        let Beside {
-            version: _version,
-            stamp: _stamp,
-            what: _what,
-            frame: _frame,
-        } = self;
-    }
-}
-
-/// A packet with a typed chunk or an advert, kept as the bytes of its frame, which contracts see as that frame with its
-/// stamp. What is cached with them is boxed, since a queue has room for many frames and holds few.
+/// A packet with a typed chunk or an advert, with its stamp, whose bytes are spelled where they are wanted. Contracts see
+/// it as that frame.
 pub struct EncodedFrame {
-    bytes: Bytes,
-    beside: Box<Beside>,
+    stamp: Option<Stamp>,
+    frame: Shared<Frame>,
 }
 
+// (with its own `Drop`, so that what drops one need not prove again how a packet is dropped)
 impl Drop for EncodedFrame {
     fn drop(self) {
         let EncodedFrame {
-            bytes: _bytes,
-            beside: _beside,
+            stamp: _stamp,
+            frame: _frame,
         } = self;
     }
 }
@@ -72,17 +48,16 @@ impl Drop for EncodedFrame {
 impl Model for EncodedFrame {
     ghost use Rattle.packet_frame.specs.declared.frame.PlainStamped.{PlainStamped};
     ghost use Rattle.packet_frame.specs.contracts.frame.PlainStamped as whole;
-    ghost use Rattle.packet_frame.specs.Spelled.{frame_in, IsSpelled, IsBeside};
+    ghost use Rattle.packet_frame.specs.Typed.{plain_of};
+    ghost use Rattle.packet_frame.specs.Spelled.{MayLeave};
 
     ghost Value = { PlainStamped };
 
     ghost coded = { whole.the_row.coded };
 
-    ghost view = { λ s. frame_in s.beside.value.version s.bytes };
+    ghost view = { λ s. record { stamp = s.stamp; frame = plain_of s.frame } };
 
-    ghost invariant = { λ s. IsSpelled s.beside.value.version s.bytes s.beside.value.what
-        × IsBeside (frame_in s.beside.value.version s.bytes) s.beside.value.stamp
-        s.beside.value.frame };
+    ghost invariant = { λ s. MayLeave s.stamp (plain_of s.frame) };
 }
 
 /// The version of the frames that bear this stamp, or none. Takes no memory.
@@ -100,20 +75,18 @@ fn version_of(mark: Option<Stamp>) -> Version
 fn packet_bytes(
     alloc: Global,
     packet: &CheckedPacket,
-    bound: u32,
     mark: Option<Stamp>,
 ) -> Result<Bytes, NoMemory>
-    requires bound { bound ≤ 65535 }
-    requires handler { MayCarry mark packet.now.handler }
+    requires { MayCarry mark packet.now.handler }
     ensures { IfOk result (λ b. AcceptsBy (spec.version_of mark) b
-        (spec.packet_frame mark packet.now bound)) }
+        (record { stamp = mark; frame = PlainFrame.Packet packet.now })) }
 {
     // The chunk of a checked packet is typed, and its handler may handle.
     let _typed = packet.chunk();
     let _handler = packet.handler();
     match mark {
-        None => put_packet(alloc, packet, bound),
-        Some(stamp) => put_packet2(alloc, packet, bound, stamp),
+        None => put_packet(alloc, packet, packet.bound()),
+        Some(stamp) => put_packet2(alloc, packet, packet.bound(), stamp),
     }
 }
 
@@ -167,30 +140,9 @@ pub fn copy_packet(alloc: Global, packet: &CheckedPacket) -> Result<CheckedPacke
     }
 }
 
-/// The packet with another bound, where its frame has few bytes. Takes no memory.
-fn packet_beside(packet: CheckedPacket, bound: u32, bytes: &Bytes) -> Option<Frame>
-    requires { bound ≤ 65535 }
-    ensures { IsFrame (PlainFrame.Packet (record packet { bound = bound })) result }
-{
-    if bytes.len() > SHORT_FRAME {
-        return None;
-    }
-    Some(Frame::Packet(packet.with_bound(bound)))
-}
-
-/// What is cached with bytes, in a box.
-fn boxed(alloc: Global, beside: Beside) -> Result<Box<Beside>, NoMemory>
-    ensures { IfOk result (λ b. b.value ≡ beside) }
-{
-    match Box::new(alloc, beside) {
-        Ok(b) => Ok(b),
-        Err(_) => Err(NoMemory),
-    }
-}
-
 /// Whether this is the same version.
 fn is_same(a: Version, b: Version) -> bool
-    ensures { IsTrue result → a ≡ b }
+    ensures { IsTrue result ↔ (a ≡ b) }
 {
     match a {
         Version::One => match b {
@@ -227,45 +179,31 @@ impl EncodedFrame {
         requires handler { MayCarry mark packet.handler }
         ensures { IfOk result (λ s. s ≡ spec.packet_frame mark packet bound) }
     {
-        let bytes = packet_bytes(alloc, &packet, bound, mark)?;
-        let what = What::Packet(packet.family(), bound);
-        let frame = packet_beside(packet, bound, &bytes);
-        let beside = Beside {
-            version: version_of(mark),
-            stamp: mark,
-            what,
-            frame,
-        };
-        Ok(EncodedFrame {
-            bytes,
-            beside: boxed(alloc, beside)?,
-        })
+        let frame = Shared::new(alloc, Frame::Packet(packet.with_bound(bound)))?;
+        Ok(EncodedFrame { stamp: mark, frame })
     }
 
     /// The frame of an advert with this stamp, under version 2, or with none, under version 1. Condition: the advert keeps its
     /// limits.
     pub fn of_advert(
         alloc: Global,
-        advert: &Advert,
+        advert: Advert,
         mark: Option<Stamp>,
     ) -> Result<EncodedFrame, NoMemory>
-        requires { AdvertFits advert.now }
-        ensures { IfOk result (λ s. s ≡ record {
-          stamp = mark;
-          frame = PlainFrame.Advert
-              advert.now;
-        }) }
+        requires { AdvertFits advert }
+        ensures { IfOk result (λ s. s ≡ record { stamp = mark; frame = PlainFrame.Advert advert }) }
     {
-        let bytes = advert_bytes(alloc, advert, mark)?;
-        let beside = Beside {
-            version: version_of(mark),
-            stamp: mark,
-            what: What::Advert,
-            frame: None,
-        };
+        let frame = Shared::new(alloc, Frame::Advert(advert))?;
+        Ok(EncodedFrame { stamp: mark, frame })
+    }
+
+    /// The same frame, of which both are owners. Takes no memory, and fails only where the count of owners is full.
+    pub fn share(&self) -> Result<EncodedFrame, NoMemory>
+        ensures { IfOk result (λ s. s ≡ self.now) }
+    {
         Ok(EncodedFrame {
-            bytes,
-            beside: boxed(alloc, beside)?,
+            stamp: self.stamp,
+            frame: self.frame.share()?,
         })
     }
 
@@ -273,110 +211,68 @@ impl EncodedFrame {
     pub fn what(&self) -> What
         ensures { result ≡ spec.what_of self.now.frame }
     {
-        self.beside.what
+        match self.frame.get() {
+            Frame::Packet(packet) => What::Packet(packet.family(), packet.bound()),
+            _ => What::Advert,
+        }
     }
 
     /// Its stamp, where it bears one. Takes no memory.
     pub fn stamp(&self) -> Option<Stamp>
         ensures { result ≡ self.now.stamp }
     {
-        self.beside.stamp
+        self.stamp
     }
 
-    /// The frame itself, where it is cached with its bytes and they are read by this version. Takes no memory.
-    #[tactic(auto, using(crate::proofs::Reading::version_is))]
+    /// The frame itself, where its bytes are read by this version. Takes no memory.
     pub fn frame(&self, version: Version) -> Option<&Frame>
-        ensures frame { IfSome result (λ x. plain_of x.now ≡ self.now.frame) }
-        ensures version { IfSome result (λ x. version ≡ spec.version_of self.now.stamp) }
+        ensures frame { MatchOption result (version ≢ spec.version_of self.now.stamp)
+            (λ x. (plain_of x.now ≡ self.now.frame) × (version ≡ spec.version_of self.now.stamp)) }
+        ensures leaves { MayLeave self.now.stamp self.now.frame }
     {
-        if !is_same(version, self.beside.version) {
-            return None;
+        if is_same(version, self.version()) {
+            Some(self.frame.get())
+        } else {
+            None
         }
-        self.beside.frame.as_ref()
     }
 
     /// Whether it bears a stamp. Takes no memory.
-    #[tactic(auto, using(crate::proofs::Reading::one_bears, crate::proofs::Reading::two_bears))]
     pub fn is_stamped(&self) -> bool
         ensures { result ≡ spec.is_stamped self.now.stamp }
     {
-        match self.beside.version {
-            Version::One => false,
-            Version::Two => true,
+        match self.stamp {
+            None => false,
+            Some(_) => true,
         }
     }
 
     /// The version that its bytes are read by: the second where it bears a stamp. Takes no memory.
-    #[tactic(auto, using(crate::proofs::Reading::version_is))]
     pub fn version(&self) -> Version
         ensures { result ≡ spec.version_of self.now.stamp }
     {
-        self.beside.version
+        version_of(self.stamp)
     }
 
-    /// The bytes of the frame, at most 16,512. Takes no memory.
-    #[tactic(auto, using(crate::proofs::Reading::accepted_as))]
-    pub fn bytes(&self) -> &[u8]
-        ensures { AcceptsBy (spec.version_of self.now.stamp) result.now self.now }
+    /// The bytes of the frame, at most 16,512.
+    pub fn to_bytes(&self, alloc: Global) -> Result<Bytes, NoMemory>
+        ensures { IfOk result (λ b. AcceptsBy (spec.version_of self.now.stamp) b self.now) }
     {
-        self.bytes.as_slice()
-    }
-
-    /// The bytes of the frame, at most 16,512. Takes no memory.
-    #[tactic(auto, using(crate::proofs::Reading::accepted_as))]
-    pub fn into_bytes(self) -> Bytes
-        ensures { AcceptsBy (spec.version_of self.stamp) result self }
-    {
-        let EncodedFrame { bytes, beside } = self;
-        drop(beside);
-        bytes
+        match self.frame.get() {
+            Frame::Packet(packet) => packet_bytes(alloc, packet, self.stamp),
+            Frame::Advert(advert) => advert_bytes(alloc, advert, self.stamp),
+            Frame::Ask(_, _) => unreachable!(),
+        }
     }
 
     /// The frame with this number, where it bears a stamp. Takes no memory.
     pub fn with_number(self, link: u64) -> EncodedFrame
         ensures { result ≡ spec.numbered_frame link self }
     {
-        let EncodedFrame { bytes, beside } = self;
-        match beside.version {
-            Version::One => same_number(bytes, beside, link),
-            Version::Two => other_number(bytes, beside, link),
+        let EncodedFrame { stamp, frame } = self;
+        EncodedFrame {
+            stamp: stamp_with(link, stamp),
+            frame,
         }
-    }
-}
-
-/// What is cached with bytes, for those with this number.
-fn beside_numbered(beside: Box<Beside>, link: u64) -> Box<Beside>
-    ensures { result.value
-        ≡ record beside.value { stamp = spec.stamp_with link beside.value.stamp } }
-{
-    let mut numbered = beside;
-    let stamp = numbered.stamp;
-    numbered.stamp = stamp_with(link, stamp);
-    numbered
-}
-
-/// A frame of version 1, which has no number.
-#[tactic(auto, using(crate::proofs::Reading::one_numbered))]
-fn same_number(bytes: Bytes, beside: Box<Beside>, link: u64) -> EncodedFrame
-    requires version { beside.value.version ≡ One }
-    requires spelled { IsSpelled One bytes beside.value.what }
-    requires beside { IsBeside (frame_in One bytes) beside.value.stamp beside.value.frame }
-    ensures { result ≡ spec.numbered_frame link (frame_in One bytes) }
-{
-    let _link = link;
-    EncodedFrame { bytes, beside }
-}
-
-/// A frame of version 2 with this number.
-#[tactic(auto, using(crate::proofs::Reading::has_stamp, crate::proofs::Reading::two_numbered, crate::proofs::Reading::two_spelled))]
-fn other_number(bytes: Bytes, beside: Box<Beside>, link: u64) -> EncodedFrame
-    requires version { beside.value.version ≡ Two }
-    requires spelled { IsSpelled Two bytes beside.value.what }
-    requires beside { IsBeside (frame_in Two bytes) beside.value.stamp beside.value.frame }
-    ensures { result ≡ spec.numbered_frame link (frame_in Two bytes) }
-{
-    EncodedFrame {
-        bytes: with_link(bytes, link),
-        beside: beside_numbered(beside, link),
     }
 }

@@ -1,5 +1,5 @@
 -- The limits of rows after a tick and after a commit.
-use Rattle.std.proofs.Common.{◌≡◌, inl, inr, ℕ, ◌<◌, ◌≤◌, true, false, List, [], ◌∷◌, length, Option, Some, None, min, refl, sym, ap, ◌∙◌, subst, arith}
+use Rattle.std.proofs.Common.{◌≡◌, inl, inr, ℕ, ◌+◌, ◌-◌, ◌<◌, ◌≤◌, true, false, List, [], ◌∷◌, length, Option, Some, None, min, refl, sym, ap, ◌∙◌, subst, arith}
 use Rattle.std.specs.Prelude.{nat_le}
 use Rattle.std.proofs.lemmas.Bool.{leb-true}
 use Rattle.std.proofs.lemmas.Bool.Decides.{nat_tests}
@@ -9,6 +9,7 @@ use Rattle.service_api.specs.declared.row.Row.{Row}
 use Rattle.service_api.specs.Rows.{row_size, rows_size, is_live, living, fits}
 use Rattle.resident_tables.specs.declared.counts.Counts.{Counts}
 use Rattle.resident_tables.specs.Counted.{counts_of, within, bytes_after}
+use Rattle.resident_tables.specs.Expiries.{size_gone, expired_size}
 use Rattle.resident_tables.specs.Layers.{Layer, over, put_all, without_all, IsOver, IsCounted}
 use Rattle.resident_tables.proofs.Lists.{true_or_false}
 use Rattle.resident_tables.proofs.Steps.{kept_first, gone_first}
@@ -35,8 +36,27 @@ living_fits now xs h =
 pub few_rows : (xs : List Row) → fits xs ≡ true → length xs < 4294967296
 few_rows xs h = let b = leb-true (length xs) 1024 (and_left (nat_le (length xs) 1024) (nat_le (rows_size xs) 1048576) h) in omega arith
 
-pub whole_total : (xs : List Row) (n : ℕ) → fits xs ≡ true → n ≡ min (rows_size xs) 18446744073709551615 → n ≡ rows_size xs
-whole_total xs n h e = let b = leb-true (rows_size xs) 1048576 (and_right (nat_le (length xs) 1024) (nat_le (rows_size xs) 1048576) h) in omega arith
+sizes_apart : (now : ℕ) (xs : List Row) → rows_size (living now xs) + expired_size now xs ≡ rows_size xs
+sizes_apart now [] = refl
+sizes_apart now (x ∷ xs) =
+    let ih = sizes_apart now xs in
+    let s = sum_by-cons row_size x xs in
+    let g = sum_by-cons (size_gone now) x xs in
+    elim (true_or_false (is_live now x)) [
+      | inl e ↦ let k : size_gone now x ≡ 0 = rw e refl in let t = sum_by-cons row_size x (living now xs) in rw (kept_first now x xs e) (omega arith)
+      | inr e ↦ let k : size_gone now x ≡ row_size x = rw e refl in rw (gone_first now x xs e) (omega arith)
+    ]
+
+-- what is left of the bytes of rows once those are gone that go
+module _ (now : ℕ) (xs : List Row) (bytes gone : ℕ) (fit : fits xs ≡ true) (b : bytes ≡ rows_size xs) (g : gone ≡ min (expired_size now xs) 18446744073709551615) where
+  gone_is : gone ≡ expired_size now xs
+  gone_is = let a = sizes_apart now xs in let w = leb-true (rows_size xs) 1048576 (and_right (nat_le (length xs) 1024) (nat_le (rows_size xs) 1048576) fit) in omega arith
+
+  pub gone_within : gone ≤ bytes
+  gone_within = let a = sizes_apart now xs in let e = gone_is in omega arith
+
+  pub bytes_left : bytes - gone ≡ rows_size (living now xs)
+  bytes_left = let a = sizes_apart now xs in let e = gone_is in omega arith
 
 -- ---- the counts of a layer
 

@@ -1,7 +1,7 @@
 //! Moves of rows: puts, removals and copies, and what all rows say of bytes and ticks.
 ghost use Rattle.std.specs.Prelude.{◌≡◌, ◌≤◌, [], ◌∷◌, ◌++◌, min, IfOk, OnOk, OnErr};
-ghost use Rattle.service_api.specs.Rows.{put_row, without_row, rows_size};
-ghost use Rattle.resident_tables.specs.Expiries.{least_expiry};
+ghost use Rattle.service_api.specs.Rows.{put_row, without_row};
+ghost use Rattle.resident_tables.specs.Expiries.{least_expiry, size_gone, expired_size};
 ghost use Rattle.resident_tables.specs.Layers.{without_all};
 ghost use Rattle.resident_tables.specs.PartRows.{part_row};
 
@@ -70,13 +70,20 @@ pub fn drop_gone(rows: &mut KeyedList<Row>, gone: &[Gone])
     }
 }
 
-/// The bytes of all rows, or 2^64 - 1 where there are more.
-pub fn total_size(rows: &[Row]) -> u64
-    ensures { result ≡ min (rows_size rows.now) 18446744073709551615 }
+/// The bytes of a row where it isn't there any more at the tick `now`, or 2^64 - 1 where there are more.
+fn size_gone(row: &Row, now: u64) -> u64
+    ensures { result ≡ min (size_gone now row.now) 18446744073709551615 }
+{
+    if row.is_live(now) { 0 } else { row.size() }
+}
+
+/// The bytes of the rows that aren't there any more at the tick `now`, or 2^64 - 1 where there are more.
+pub fn expired_size(rows: &[Row], now: u64) -> u64
+    ensures { result ≡ min (expired_size now rows.now) 18446744073709551615 }
 {
     let mut total = 0u64;
     for row in rows {
-        total = total.saturating_add(row.size());
+        total = total.saturating_add(size_gone(row, now));
     }
     total
 }

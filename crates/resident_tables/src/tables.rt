@@ -11,7 +11,7 @@ ghost use Rattle.resident_tables.specs.Tables.{row_of, IsPut, IsGot};
 use crate::counts::{Counts, bytes_after};
 use crate::fault::TableFault;
 use crate::list::KeyedList;
-use crate::moves::{copy_rows, least_expiry, put_parts, total_size};
+use crate::moves::{copy_rows, expired_size, least_expiry, put_parts};
 use crate::next::take_key;
 use crate::overlay::Overlay;
 use crate::parts::Parts;
@@ -200,8 +200,9 @@ impl Tables {
         if now < self.earliest {
             return;
         }
+        let gone = expired_size(self.rows.as_slice(), now);
         self.rows.drop_expired(now);
-        self.bytes = total_size(self.rows.as_slice());
+        self.bytes -= gone;
         self.earliest = least_expiry(self.rows.as_slice(), u64::MAX);
     }
 

@@ -22,29 +22,20 @@ loop-event-init g c =
       waits = record { done = []; written = writes_none (g.K.Sink.state c.args.out.now); is = text_none s.frames (opening s.topology) s.events ∙ sym c.new-text.ensures };
     }
 
-pub run_event-requires-clause-fits : goal.run_event-requires-clause-fits
-run_event-requires-clause-fits g c =
+pub run_event-requires : goal.run_event-requires
+run_event-requires g c =
     let s = c.args.schedule in
     let turn = YieldsList-turn (YieldsList-from_vec {s = c.into_iter-event-iterator.result} s.events (search rules)
     (search rules)) c.loop-event.yielded c.loop-event.event-iterator c.loop-event.yielded_by c.next.result c.next.new.self c.in-Some.event c.in-Some.is c.next.ensures.steps in
     let v = s.topology.version in
     let own = subst (event_fits v) (sym turn.1) (All-get_or (event_fits v) s.events (length c.loop-event.yielded) c.in-Some.event turn.0 (events_fit s c.requires.rules)) in
     let same = c.loop-event.invariant.world.is.version ∙ version_at s c.requires.rules (length c.loop-event.yielded) in
-    subst (λ u. event_fits u c.in-Some.event) (sym same) own
-
-pub run_event-requires-clause-few : goal.run_event-requires-clause-few
-run_event-requires-clause-few g c =
-    let s = c.args.schedule in
-    let turn = YieldsList-turn (YieldsList-from_vec {s = c.into_iter-event-iterator.result} s.events (search rules)
-    (search rules)) c.loop-event.yielded c.loop-event.event-iterator c.loop-event.yielded_by c.next.result c.next.new.self c.in-Some.event c.in-Some.is c.next.ensures.steps in
-    omega (arith, turn.0, c.loop-event.invariant.made, c.requires.rules.few)
-
-pub run_event-requires-clause-counts : goal.run_event-requires-clause-counts
-run_event-requires-clause-counts g c =
-    let s = c.args.schedule in
-    let turn = YieldsList-turn (YieldsList-from_vec {s = c.into_iter-event-iterator.result} s.events (search rules)
-    (search rules)) c.loop-event.yielded c.loop-event.event-iterator c.loop-event.yielded_by c.next.result c.next.new.self c.in-Some.event c.in-Some.is c.next.ensures.steps in
-    countable g.S.Services.stands c.loop-event.world s (length c.loop-event.yielded) c.in-Some.event c.loop-event.ledger turn.0 turn.1 c.requires.rules c.loop-event.invariant.world c.loop-event.invariant.ledger
+    record {
+      fits = subst (λ u. event_fits u c.in-Some.event) (sym same) own;
+      few = omega (arith, turn.0, c.loop-event.invariant.made, c.requires.rules.few);
+      room = countable g.S.Services.stands c.loop-event.world s (length c.loop-event.yielded) c.in-Some.event c.loop-event.ledger turn.0 turn.1 c.requires.rules c.loop-event.invariant.world
+          c.loop-event.invariant.ledger;
+    }
 
 pub loop-event-preserved : goal.loop-event-preserved
 loop-event-preserved g c =
@@ -59,9 +50,9 @@ loop-event-preserved g c =
     let out = g.K.Sink.state in
     let count = length_push c.loop-event.yielded e in
     record {
-      world = stands_next w s.events n e turn.0 turn.1 g.S.Services.stands c.run_event.new.world _ count (done.world _ i.world);
-      ledger = counts_next w s.events n e turn.0 turn.1 c.run_event.new.ledger _ count (done.ledger _ _ i.world (all_leave s n e c.requires.rules) i.ledger);
-      made = done.made ∙ ap (λ n. n + 1) i.made ∙ sym count;
+      world = stands_next w s.events n e turn.0 turn.1 g.S.Services.stands c.run_event.new.world _ count (done.counts.world _ i.world);
+      ledger = counts_next w s.events n e turn.0 turn.1 c.run_event.new.ledger _ count (done.counts.ledger _ _ i.world (all_leave s n e c.requires.rules) i.ledger);
+      made = done.counts.made ∙ ap (λ n. n + 1) i.made ∙ sym count;
       waits = waits_next w s.events n e turn.0 turn.1 s.frames (out c.args.out.now) (out c.loop-event.out) (out c.run_event.new.out) c.loop-event.text _ _ count i.waits (done.waits _ i.world);
     }
 

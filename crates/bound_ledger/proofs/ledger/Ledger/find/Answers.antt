@@ -12,8 +12,8 @@ returns-in_err-place-clause-row c = ap (option_map (λ p. p.1)) c.from_residual.
 pub returns-clause-row : goal.returns-clause-row
 returns-clause-row c = c.in_ok-place.ensures.row ∙ ap (row_of c.args.f) c.self.view_is
 
-pub returns-clause-within : goal.returns-clause-within
-returns-clause-within c = slice_get_within (rows_at c.self.inside.rows.entries) c.in_ok-place.place (c.args.f, c.in_ok-place.row) c.in_ok-place.ensures.place
-
-pub returns-clause-balanced : goal.returns-clause-balanced
-returns-clause-balanced c = row_balanced c.args.f c.in_ok-place.row c.self.inside.rows.entries c.self.invariant c.in_ok-place.ensures.row
+pub returns-clause-fits : goal.returns-clause-fits
+returns-clause-fits c = (
+  slice_get_within (rows_at c.self.inside.rows.entries) c.in_ok-place.place (c.args.f, c.in_ok-place.row) c.in_ok-place.ensures.place,
+  row_balanced c.args.f c.in_ok-place.row c.self.inside.rows.entries c.self.invariant c.in_ok-place.ensures.row,
+)
