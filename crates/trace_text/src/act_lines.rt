@@ -49,23 +49,22 @@ fn put_last(out: &mut Bytes, word: &[u8], n: u32) -> Result<(), NoMemory>
     ensures { OnOk result (out.new ≡ out.old ++ (word.now ++ (decimal n ++ codes "\n"))) }
 {
     let mut text = ShortText::new();
-    text.byte(b'\n');
-    text.number(u64::from(n));
     text.word(word);
+    text.number(u64::from(n));
+    text.byte(b'\n');
     text.put(out)
 }
 
-/// What a visit left, and the end of its line, before no text.
+/// What a visit left, and the end of its line.
 fn write_rest(text: &mut ShortText, evals: u32, left: u32)
-    requires { text.old ≡ [] }
-    ensures text { text.new ≡ spec.rest_text evals left ++ codes "\n" }
-    ensures room { length text.new ≤ 54 }
+    requires { length text.old + 54 ≤ 192 }
+    ensures { text.new ≡ text.old ++ (spec.rest_text evals left ++ codes "\n") }
 {
-    text.byte(b'\n');
-    text.number(u64::from(left));
-    text.word(b" left ");
-    text.number(u64::from(evals));
     text.word(b" evals ");
+    text.number(u64::from(evals));
+    text.word(b" left ");
+    text.number(u64::from(left));
+    text.byte(b'\n');
 }
 
 /// What a visit left, at the end of its line.
@@ -89,10 +88,10 @@ fn put_front(
     ensures { OnOk result (out.new ≡ out.old ++ front_of event word.now host f) }
 {
     let mut text = ShortText::new();
+    text.head(event, word, host);
     text.byte(b' ');
     text.family(f);
     text.byte(b' ');
-    text.head(event, word, host);
     text.put(out)
 }
 
@@ -123,8 +122,8 @@ fn put_print(
         (spec.head_text (codes "print") host ++ (codes " " ++ value_text value.now))) }
 {
     let mut text = ShortText::new();
-    text.byte(b' ');
     text.head(event, b"print", host);
+    text.byte(b' ');
     text.put(out)?;
     print_value(alloc, value, out)?;
     out.add(b'\n')?;
@@ -144,10 +143,10 @@ fn put_port(
         (decimal port ++ (codes " " ++ value_text value.now))))) }
 {
     let mut text = ShortText::new();
+    text.head(event, b"port", host);
     text.byte(b' ');
     text.number(u64::from(port));
     text.byte(b' ');
-    text.head(event, b"port", host);
     text.put(out)?;
     print_value(alloc, value, out)?;
     out.add(b'\n')?;
@@ -213,11 +212,11 @@ fn put_done(
         (spec.family_text f ++ (codes " " ++ (codes "()" ++ spec.rest_text evals left)))))) }
 {
     let mut text = ShortText::new();
-    write_rest(&mut text, evals, left);
-    text.word(b" ()");
-    text.family(f);
-    text.byte(b' ');
     text.head(event, b"value", host);
+    text.byte(b' ');
+    text.family(f);
+    text.word(b" ()");
+    write_rest(&mut text, evals, left);
     text.put(out)
 }
 
@@ -236,12 +235,12 @@ fn put_integer(
         (spec.family_text f ++ (codes " " ++ (int_text n ++ spec.rest_text evals left)))))) }
 {
     let mut text = ShortText::new();
-    write_rest(&mut text, evals, left);
-    text.integer(n);
+    text.head(event, b"value", host);
     text.byte(b' ');
     text.family(f);
     text.byte(b' ');
-    text.head(event, b"value", host);
+    text.integer(n);
+    write_rest(&mut text, evals, left);
     text.put(out)
 }
 
@@ -289,12 +288,12 @@ fn put_spent(out: &mut Bytes, event: u64, host: Host, f: Family, left: u32) -> R
         (spec.family_text f ++ (codes " left " ++ decimal left))))) }
 {
     let mut text = ShortText::new();
-    text.byte(b'\n');
-    text.number(u64::from(left));
-    text.word(b" left ");
-    text.family(f);
-    text.byte(b' ');
     text.head(event, b"spent", host);
+    text.byte(b' ');
+    text.family(f);
+    text.word(b" left ");
+    text.number(u64::from(left));
+    text.byte(b'\n');
     text.put(out)
 }
 
@@ -341,9 +340,9 @@ fn put_injected(
         (spec.head_text (codes "inject") host ++ spec.bound_text f bound)) }
 {
     let mut text = ShortText::new();
-    text.byte(b'\n');
-    text.bound(f, bound);
     text.head(event, b"inject", host);
+    text.bound(f, bound);
+    text.byte(b'\n');
     text.put(out)
 }
 
@@ -361,9 +360,9 @@ fn put_on_device(
         (spec.head_text word.now host ++ spec.device_text dev)) }
 {
     let mut text = ShortText::new();
-    text.byte(b'\n');
-    text.device(dev);
     text.head(event, word, host);
+    text.device(dev);
+    text.byte(b'\n');
     text.put(out)
 }
 
@@ -380,9 +379,9 @@ fn put_plain(
         (spec.head_text word.now host ++ end.now)) }
 {
     let mut text = ShortText::new();
-    text.byte(b'\n');
-    text.word(end);
     text.head(event, word, host);
+    text.word(end);
+    text.byte(b'\n');
     text.put(out)
 }
 
@@ -398,8 +397,8 @@ fn put_bad(
         (spec.head_text (codes "drop") host ++ (codes " BadFrame " ++ reason_text refusal.now))) }
 {
     let mut text = ShortText::new();
-    text.word(b" BadFrame ");
     text.head(event, b"drop", host);
+    text.word(b" BadFrame ");
     text.put(out)?;
     put_reason(alloc, refusal, out)?;
     out.add(b'\n')?;
@@ -411,18 +410,18 @@ fn put_ticked(out: &mut Bytes, event: u64, host: Host, now: u64) -> Result<(), N
         (spec.head_text (codes "tick") host ++ (codes " now " ++ decimal now))) }
 {
     let mut text = ShortText::new();
-    text.byte(b'\n');
-    text.number(now);
-    text.word(b" now ");
     text.head(event, b"tick", host);
+    text.word(b" now ");
+    text.number(now);
+    text.byte(b'\n');
     text.put(out)
 }
 
-/// What was sent, before a text: the family of a packet, or that it is an advert.
+/// What was sent: the family of a packet, or that it is an advert.
 fn write_sent(text: &mut ShortText, what: What)
-    requires { 41 + length text.old ≤ 192 }
-    ensures text { text.new ≡ spec.sent_text what ++ text.old }
-    ensures room { length text.new ≤ 41 + length text.old }
+    requires { length text.old + 41 ≤ 192 }
+    ensures text { text.new ≡ text.old ++ spec.sent_text what }
+    ensures room { length text.new ≤ length text.old + 41 }
 {
     match what {
         What::Packet(f, _) => text.family(f),
@@ -443,10 +442,10 @@ fn put_queued(
         spec.bound_text f bound))) }
 {
     let mut text = ShortText::new();
-    text.byte(b'\n');
-    text.bound(f, bound);
-    text.device(dev);
     text.head(event, b"queue", host);
+    text.device(dev);
+    text.bound(f, bound);
+    text.byte(b'\n');
     text.put(out)
 }
 
@@ -463,11 +462,11 @@ fn put_dropped(
         (spec.reason_text reason ++ spec.bound_text f bound)))) }
 {
     let mut text = ShortText::new();
-    text.byte(b'\n');
-    text.bound(f, bound);
-    text.word(reason_word(reason));
-    text.byte(b' ');
     text.head(event, b"drop", host);
+    text.byte(b' ');
+    text.word(reason_word(reason));
+    text.bound(f, bound);
+    text.byte(b'\n');
     text.put(out)
 }
 
@@ -483,11 +482,11 @@ fn took_word(took: Took) -> &'static [u8]
     }
 }
 
-/// What a stale frame held, before a text: the family of a packet with its bound, or that it is an advert.
+/// What a stale frame held: the family of a packet with its bound, or that it is an advert.
 fn write_held(text: &mut ShortText, what: What)
-    requires { 69 + length text.old ≤ 192 }
-    ensures text { text.new ≡ spec.stale_text what ++ text.old }
-    ensures room { length text.new ≤ 69 + length text.old }
+    requires { length text.old + 69 ≤ 192 }
+    ensures text { text.new ≡ text.old ++ spec.stale_text what }
+    ensures room { length text.new ≤ length text.old + 69 }
 {
     match what {
         What::Packet(f, bound) => text.bound(f, bound),
@@ -507,11 +506,11 @@ fn put_stale(
         (spec.took_text took ++ spec.stale_text what)))) }
 {
     let mut text = ShortText::new();
-    text.byte(b'\n');
-    write_held(&mut text, what);
-    text.word(took_word(took));
-    text.byte(b' ');
     text.head(event, b"drop", host);
+    text.byte(b' ');
+    text.word(took_word(took));
+    write_held(&mut text, what);
+    text.byte(b'\n');
     text.put(out)
 }
 
@@ -521,11 +520,11 @@ fn put_taken(out: &mut Bytes, event: u64, host: Host, dev: Dev, what: What) -> R
         (codes " " ++ spec.sent_text what)))) }
 {
     let mut text = ShortText::new();
-    text.byte(b'\n');
-    write_sent(&mut text, what);
-    text.byte(b' ');
-    text.device(dev);
     text.head(event, b"send", host);
+    text.device(dev);
+    text.byte(b' ');
+    write_sent(&mut text, what);
+    text.byte(b'\n');
     text.put(out)
 }
 

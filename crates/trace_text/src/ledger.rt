@@ -7,16 +7,16 @@ use crate::short::ShortText;
 use bound_ledger::Row;
 use plan_base::{Bytes, Family, NoMemory};
 
-/// Writes a word and a count of a row before a text. Condition: there is room for the word and 20 bytes more.
+/// Appends a word and a count of a row to a text. Condition: there is room for the word and 20 bytes more.
 // The length of the word is part of its type, so that it is moved at once.
 #[inline(always)]
 fn write_count<const N: usize>(text: &mut ShortText, word: &[u8; N], n: u64)
-    requires { 20 + length word.now + length text.old ≤ 192 }
-    ensures text { text.new ≡ (word.now ++ decimal n) ++ text.old }
-    ensures room { length text.new ≤ 20 + length word.now + length text.old }
+    requires { length text.old + length word.now + 20 ≤ 192 }
+    ensures text { text.new ≡ text.old ++ (word.now ++ decimal n) }
+    ensures room { length text.new ≤ length text.old + length word.now + 20 }
 {
-    text.number(n);
     text.word(word);
+    text.number(n);
 }
 
 /// Appends a row of a ledger.
@@ -24,13 +24,13 @@ pub fn put_row(out: &mut Bytes, f: Family, row: Row) -> Result<(), NoMemory>
     ensures { OnOk result (out.new ≡ out.old ++ printed_row (f, row)) }
 {
     let mut text = ShortText::new();
-    text.byte(b'\n');
-    write_count(&mut text, b" left ", row.left);
-    write_count(&mut text, b" live ", row.live);
-    write_count(&mut text, b" evals ", row.evals);
-    write_count(&mut text, b" hops ", row.hops);
-    write_count(&mut text, b" granted ", row.granted);
     text.family(f);
+    write_count(&mut text, b" granted ", row.granted);
+    write_count(&mut text, b" hops ", row.hops);
+    write_count(&mut text, b" evals ", row.evals);
+    write_count(&mut text, b" live ", row.live);
+    write_count(&mut text, b" left ", row.left);
+    text.byte(b'\n');
     text.put(out)?;
     Ok(())
 }

@@ -1,5 +1,5 @@
 //! Writes the lines of a network's events.
-ghost use Rattle.std.specs.Prelude.{◌≡◌, ◌+◌, ◌≤◌, ◌++◌, codes, length, map, OnOk};
+ghost use Rattle.std.specs.Prelude.{◌≡◌, ◌+◌, ◌≤◌, [], ◌++◌, codes, length, map, OnOk};
 ghost use Rattle.std.specs.Fmt.{decimal};
 ghost use Rattle.node_core_spec.specs.Texts.{head_text, bound_text};
 ghost use Rattle.trace_text.specs.Lines.{line_of};
@@ -11,19 +11,21 @@ use crate::short::ShortText;
 use hex::encode;
 use net_world_spec::Line;
 use node_core_spec::What;
+use packet_frame::FrameBytes;
 use plan_base::{Bytes, Family, Host, NoMemory};
 use std::alloc::Global;
 
 /// The front of a line: the number of its event, a word and a number.
 fn write_numbered(text: &mut ShortText, event: u32, word: &[u8], number: u32)
-    requires { 41 + length word.now + length text.old ≤ 192 }
-    ensures { text.new ≡ decimal event ++ (codes " " ++
-        (word.now ++ (decimal number ++ text.old))) }
+    requires none { text.old ≡ [] }
+    requires word { length word.now ≤ 10 }
+    ensures text { text.new ≡ decimal event ++ (codes " " ++ (word.now ++ decimal number)) }
+    ensures room { length text.new ≤ 51 }
 {
-    text.number(u64::from(number));
-    text.word(word);
-    text.byte(b' ');
     text.number(u64::from(event));
+    text.byte(b' ');
+    text.word(word);
+    text.number(u64::from(number));
 }
 
 /// A line of a word and a number.
@@ -32,19 +34,25 @@ fn put_numbered(out: &mut Bytes, event: u32, word: &[u8], number: u32) -> Result
     ensures { OnOk result (out.new ≡ out.old ++ line_of event (word.now ++ decimal number)) }
 {
     let mut text = ShortText::new();
-    text.byte(b'\n');
     write_numbered(&mut text, event, word, number);
+    text.byte(b'\n');
     text.put(out)?;
     Ok(())
 }
 
 /// A frame in hex, where frames are shown.
-fn put_shown(alloc: Global, out: &mut Bytes, frames: bool, frame: &Bytes) -> Result<(), NoMemory>
+fn put_shown(
+    alloc: Global,
+    out: &mut Bytes,
+    frames: bool,
+    frame: &FrameBytes,
+) -> Result<(), NoMemory>
     ensures { OnOk result (out.new ≡ out.old ++ spec.shown_text frames frame.now) }
 {
     if frames {
+        let bytes = frame.spell(alloc)?;
         out.add(b' ')?;
-        out.add_all(encode(alloc, frame.as_slice())?.as_bytes())?;
+        out.add_all(encode(alloc, bytes.as_slice())?.as_bytes())?;
     }
     Ok(())
 }
@@ -55,7 +63,7 @@ fn put_wired(
     frames: bool,
     event: u32,
     number: u32,
-    frame: &Bytes,
+    frame: &FrameBytes,
 ) -> Result<(), NoMemory>
     ensures { OnOk result (out.new ≡ out.old ++ line_of event
         (codes "wire " ++ (decimal number ++ spec.shown_text frames frame.now))) }
@@ -79,18 +87,18 @@ fn put_forged(
         (head_text (codes "forged") host ++ bound_text f bound)) }
 {
     let mut text = ShortText::new();
-    text.byte(b'\n');
-    text.bound(f, bound);
     text.head(u64::from(event), b"forged", host);
+    text.bound(f, bound);
+    text.byte(b'\n');
     text.put(out)?;
     Ok(())
 }
 
-/// What was lost, before a text.
+/// What was lost.
 fn write_lost(text: &mut ShortText, what: What)
-    requires { 69 + length text.old ≤ 192 }
-    ensures text { text.new ≡ spec.lost_text what ++ text.old }
-    ensures room { length text.new ≤ 69 + length text.old }
+    requires { length text.old + 69 ≤ 192 }
+    ensures text { text.new ≡ text.old ++ spec.lost_text what }
+    ensures room { length text.new ≤ length text.old + 69 }
 {
     match what {
         What::Packet(f, bound) => text.bound(f, bound),
@@ -103,10 +111,10 @@ fn put_lost(out: &mut Bytes, event: u32, what: What) -> Result<(), NoMemory>
         (codes "lost" ++ spec.lost_text what)) }
 {
     let mut text = ShortText::new();
-    text.byte(b'\n');
-    write_lost(&mut text, what);
-    text.word(b" lost");
     text.number(u64::from(event));
+    text.word(b" lost");
+    write_lost(&mut text, what);
+    text.byte(b'\n');
     text.put(out)?;
     Ok(())
 }
@@ -115,8 +123,8 @@ fn put_nothing(out: &mut Bytes, event: u32) -> Result<(), NoMemory>
     ensures { OnOk result (out.new ≡ out.old ++ line_of event (codes "nothing")) }
 {
     let mut text = ShortText::new();
-    text.word(b" nothing\n");
     text.number(u64::from(event));
+    text.word(b" nothing\n");
     text.put(out)?;
     Ok(())
 }

@@ -1,32 +1,32 @@
-//! A short text, written from its end.
-ghost use Rattle.std.specs.Prelude.{◌≡◌, ◌+◌, ◌≤◌, ◌<◌, [], ◌∷◌, ◌++◌, length, drop, OnOk, OnErr};
+//! A short text, in which a line is put together.
+ghost use Rattle.std.specs.Prelude.{◌≡◌, ◌+◌, ◌≤◌, ◌<◌, [], ◌∷◌, ◌++◌, length, OnOk, OnErr};
 ghost use Rattle.std.specs.Fmt.{decimal};
 ghost use Rattle.plan_printer_spec.specs.Literals.{int_text};
 ghost use Rattle.node_core_spec.specs.Texts.{family_text, bound_text, device_text};
 ghost use Rattle.trace_text.specs.Lines.{head_of};
 
-use itoa::write_digits;
+use itoa::Buffer;
 use plan_base::{Bytes, Dev, Family, Host, NoMemory};
 use std::marker::Model;
 
-/// A text of at most 192 bytes, which is written from its end to its beginning, without memory.
+/// A text of at most 192 bytes, which is written without memory.
 #[derive(Drop)]
 pub struct ShortText {
     all: [u8; 192],
-    start: usize,
+    len: usize,
 }
 
 impl Model for ShortText {
-    ghost use Rattle.std.specs.Prelude.{List, ℕ, ◌≤◌, drop};
+    ghost use Rattle.std.specs.Prelude.{List, ℕ, ◌≤◌, take};
     ghost use Rattle.std.specs.Coded.{coded_list, coded_ℕ};
 
     ghost Value = { List ℕ };
 
     ghost coded = { coded_list coded_ℕ };
 
-    ghost view = { λ t. drop t.start t.all };
+    ghost view = { λ t. take t.len t.all };
 
-    ghost invariant = { λ t. t.start ≤ 192 };
+    ghost invariant = { λ t. t.len ≤ 192 };
 }
 
 impl ShortText {
@@ -37,110 +37,112 @@ impl ShortText {
     {
         ShortText {
             all: [0; 192],
-            start: 192,
+            len: 0,
         }
     }
 
-    /// Writes a byte before the text. Condition: there is room.
+    /// Appends a byte. Condition: there is room.
     #[inline(always)]
     pub fn byte(&mut self, byte: u8)
-        requires { 1 + length self.old ≤ 192 }
-        ensures { self.new ≡ byte ∷ self.old }
+        requires { length self.old + 1 ≤ 192 }
+        ensures { self.new ≡ self.old ++ byte ∷ [] }
     {
-        self.start -= 1;
-        self.all[self.start] = byte;
+        self.all[self.len] = byte;
+        self.len += 1;
     }
 
-    /// Writes a word before the text. Condition: there is room.
+    /// Appends a word. Condition: there is room.
     #[inline(always)]
     pub fn word(&mut self, word: &[u8])
-        requires { length word.now + length self.old ≤ 192 }
-        ensures { self.new ≡ word.now ++ self.old }
+        requires { length self.old + length word.now ≤ 192 }
+        ensures { self.new ≡ self.old ++ word.now }
     {
-        let end = self.start;
-        self.start -= word.len();
-        self.all[self.start..end].copy_from_slice(word);
+        let start = self.len;
+        self.len += word.len();
+        self.all[start..self.len].copy_from_slice(word);
     }
 
-    /// Writes a number in decimal before the text. Condition: there is room for 20 digits.
+    /// Appends a number in decimal. Condition: there is room for 20 digits.
     #[inline(always)]
     #[tactic(auto, using(std::proofs::lemmas::Fmt::decimal_digit))]
     pub fn number(&mut self, n: u64)
-        requires { 20 + length self.old ≤ 192 }
-        ensures text { self.new ≡ decimal n ++ self.old }
-        ensures room { length self.new ≤ 20 + length self.old }
+        requires { length self.old + 20 ≤ 192 }
+        ensures text { self.new ≡ self.old ++ decimal n }
+        ensures room { length self.new ≤ length self.old + 20 }
     {
+        // (most numbers of a trace have one digit)
         if n < 10 {
             self.byte(b'0' + n as u8);
             return;
         }
-        self.start = write_digits(n, &mut self.all, self.start);
+        let mut digits = Buffer::new();
+        self.word(digits.format(n).as_bytes());
     }
 
-    /// Writes a number with its sign before the text, `~` before a negative one. Condition: there is room for 21 bytes.
+    /// Appends a number with its sign, `~` before a negative one. Condition: there is room for 21 bytes.
     #[inline(always)]
     #[tactic(auto, unfolding(plan_printer_spec::specs::Literals::int_text))]
     pub fn integer(&mut self, n: i64)
-        requires { 21 + length self.old ≤ 192 }
-        ensures text { self.new ≡ int_text n ++ self.old }
-        ensures room { length self.new ≤ 21 + length self.old }
+        requires { length self.old + 21 ≤ 192 }
+        ensures text { self.new ≡ self.old ++ int_text n }
+        ensures room { length self.new ≤ length self.old + 21 }
     {
         if n >= 0 {
             self.number(n as u64);
             return;
         }
-        self.number(n.unsigned_abs());
         self.byte(b'~');
+        self.number(n.unsigned_abs());
     }
 
-    /// Writes a family before the text. Condition: there is room for 41 bytes.
+    /// Appends a family. Condition: there is room for 41 bytes.
     #[inline(always)]
     pub fn family(&mut self, f: Family)
-        requires { 41 + length self.old ≤ 192 }
-        ensures text { self.new ≡ family_text f ++ self.old }
-        ensures room { length self.new ≤ 41 + length self.old }
+        requires { length self.old + 41 ≤ 192 }
+        ensures text { self.new ≡ self.old ++ family_text f }
+        ensures room { length self.new ≤ length self.old + 41 }
     {
-        self.number(f.serial);
-        self.byte(b'.');
         self.number(u64::from(f.source.0));
+        self.byte(b'.');
+        self.number(f.serial);
     }
 
-    /// Writes a family with its bound before the text. Condition: there is room for 69 bytes.
+    /// Appends a family with its bound. Condition: there is room for 69 bytes.
     #[inline(always)]
     pub fn bound(&mut self, f: Family, bound: u32)
-        requires { 69 + length self.old ≤ 192 }
-        ensures text { self.new ≡ bound_text f bound ++ self.old }
-        ensures room { length self.new ≤ 69 + length self.old }
+        requires { length self.old + 69 ≤ 192 }
+        ensures text { self.new ≡ self.old ++ bound_text f bound }
+        ensures room { length self.new ≤ length self.old + 69 }
     {
-        self.number(u64::from(bound));
-        self.word(b" bound ");
-        self.family(f);
         self.byte(b' ');
+        self.family(f);
+        self.word(b" bound ");
+        self.number(u64::from(bound));
     }
 
-    /// Writes a device before the text. Condition: there is room for 22 bytes.
+    /// Appends a device. Condition: there is room for 22 bytes.
     #[inline(always)]
     pub fn device(&mut self, dev: Dev)
-        requires { 22 + length self.old ≤ 192 }
-        ensures text { self.new ≡ device_text dev ++ self.old }
-        ensures room { length self.new ≤ 22 + length self.old }
+        requires { length self.old + 22 ≤ 192 }
+        ensures text { self.new ≡ self.old ++ device_text dev }
+        ensures room { length self.new ≤ length self.old + 22 }
     {
-        self.number(u64::from(dev.0));
         self.word(b" %");
+        self.number(u64::from(dev.0));
     }
 
-    /// Writes the number of an event and the head of its line before the text. Condition: there is room for the word and 43
-    /// bytes more.
+    /// Appends the number of an event and the head of its line. Condition: there is room for the word and 43 bytes more.
     #[inline(always)]
     pub fn head(&mut self, event: u64, word: &[u8], host: Host)
-        requires { 43 + length word.now + length self.old ≤ 192 }
-        ensures { self.new ≡ head_of event word.now host ++ self.old }
+        requires { length self.old + length word.now + 43 ≤ 192 }
+        ensures text { self.new ≡ self.old ++ head_of event word.now host }
+        ensures room { length self.new ≤ length self.old + length word.now + 43 }
     {
-        self.number(u64::from(host.0));
-        self.word(b" @");
-        self.word(word);
-        self.byte(b' ');
         self.number(event);
+        self.byte(b' ');
+        self.word(word);
+        self.word(b" @");
+        self.number(u64::from(host.0));
     }
 
     /// Appends the text. Where an allocation fails, `out` stays.
@@ -148,7 +150,7 @@ impl ShortText {
         ensures whole { OnOk result (out.new ≡ out.old ++ self.now) }
         ensures stays { OnErr result (out.new ≡ out.old) }
     {
-        out.add_all(&self.all[self.start..])?;
+        out.add_all(&self.all[..self.len])?;
         Ok(())
     }
 }
