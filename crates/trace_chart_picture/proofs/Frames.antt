@@ -1,5 +1,5 @@
 -- The frame of a number, looked for from the last one on.
-use Rattle.std.proofs.Common.{◌≡◌, ◌≢◌, ℕ, zero, suc, ◌<◌, eqb, List, [], ◌∷◌, length, drop, get_or, Some, None, refl, ap, subst, add-one, arith, ne_eqb, eq-eqb}
+use Rattle.std.proofs.Common.{◌≡◌, ◌≢◌, ℕ, zero, suc, ◌<◌, List, [], ◌∷◌, length, drop, get_or, Some, None, refl, ap, subst, add-one, arith, ne_eqb, eq-eqb}
 use Rattle.trace_chart_picture.specs.declared.walk.Journey.{Journey}
 use Rattle.trace_chart_picture.specs.Walks.{frame_of}
 

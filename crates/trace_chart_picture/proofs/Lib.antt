@@ -1,4 +1,16 @@
+pub mod Again
+pub mod Agreeing
 pub mod Clean
 pub mod Columns
 pub mod Counts
+pub mod Crossing
+pub mod Places
+pub mod Digits
 pub mod Frames
+pub mod Fronts
+pub mod Insides
+pub mod NoTrace
+pub mod OneTrace
+pub mod Rows
+pub mod Wrong
+pub mod Within

@@ -5,7 +5,7 @@ use Rattle.trace_chart_picture.specs.declared.line.Line.{Line}
 use Rattle.trace_chart_picture.specs.declared.line.Entry.{Entry}
 use Rattle.trace_chart_picture.specs.declared.line.Trace.{Trace}
 use Rattle.trace_chart_picture.specs.Counts.{frames, losses, visits}
-use Rattle.trace_chart_picture.specs.Traces.{trace_text}
+use Rattle.trace_chart_picture.specs.Reads.{IsTraceOf}
 use Rattle.trace_chart_picture.specs.declared.drawing.Kind.{Kind}
 use Rattle.trace_chart_picture.specs.declared.drawing.Mark.{Mark}
 use Rattle.trace_chart_picture.specs.declared.drawing.Drawing.{Drawing}
@@ -35,10 +35,10 @@ pub record Draws (t : Trace) (d : Drawing) : Type 0 where
   pub crosses : count_by is_cross (kinds_of d.marks) ≡ losses (lines_of t.entries)
   pub ends : count_by is_end (kinds_of d.marks) ≡ visits (lines_of t.entries)
 
--- the bytes are a trace, and the picture is a drawing of it, written out
+-- the bytes are those of one trace, and the picture is a drawing of it, written out
 pub record IsChart (bytes picture : List ℕ) : Type 0 where
   pub trace : Trace
   pub drawing : Drawing
-  pub read : trace_text trace ≡ bytes
+  pub read : IsTraceOf bytes trace
   pub drawn : Draws trace drawing
   pub written : picture ≡ picture_text drawing

@@ -1,6 +1,9 @@
 pub mod Counts
 pub mod Lines
 pub mod Traces
+pub mod Cuts
+pub mod Guesses
+pub mod Reads
 pub mod Kinds
 pub mod Signs
 pub mod Escapes
@@ -13,4 +16,6 @@ pub mod Turned
 pub mod Places
 pub mod Styles
 pub mod Pictures
+pub mod Inside
+pub mod Strokes
 pub mod Charts

@@ -1,9 +1,12 @@
 //! Reads an entry of a trace.
-ghost use Rattle.std.specs.Prelude.{◌≡◌, ◌≤◌, length, IfOk, IfSome};
+ghost use Rattle.std.specs.Prelude.{◌≡◌, ◌≢◌, IfOk, IfSome, None};
 ghost use Rattle.std.specs.Str.{bytes_eq};
+ghost use Rattle.trace_chart_picture.specs.Guesses.{named_of, guessed_entry, guessed_row};
 ghost use Rattle.trace_chart_picture.specs.Lines as spec;
+ghost use Rattle.trace_chart_picture.specs.Reads as reads;
 ghost use Rattle.trace_chart_picture.specs.Traces as whole;
 
+use crate::cuts::{behind_two, first, rest};
 use crate::line::{Entry, Row};
 use crate::number::long;
 use crate::rest::{family_of, line_of};
@@ -12,55 +15,13 @@ use plan_base::{Bytes, NoMemory};
 use std::alloc::Global;
 use std::str;
 
-/// The text up to the first such sign, and what stands behind it: nothing where there is none.
-pub(crate) fn cut_at(text: &[u8], sign: u8) -> (&[u8], &[u8]) {
-    match text.iter().position(|b| *b == sign) {
-        Some(at) => {
-            let (word, rest) = text.split_at(at);
-            (word, rest.get(1..).unwrap_or(rest))
-        }
-        None => (text, b""),
-    }
-}
-
-/// The text up to the first blank, and what stands behind it: nothing where there is no blank.
-pub(crate) fn cut(text: &[u8]) -> (&[u8], &[u8]) {
-    cut_at(text, b' ')
-}
-
-/// What stands in front of the last blank, and the text behind it: nothing in front where there is
-/// no blank.
-pub(crate) fn cut_last(text: &[u8]) -> (&[u8], &[u8]) {
-    match text.iter().rposition(|b| *b == b' ') {
-        Some(at) => {
-            let (front, word) = text.split_at(at);
-            (front, word.get(1..).unwrap_or(word))
-        }
-        None => (b"", text),
-    }
-}
-
-/// What stands behind so many words.
-pub(crate) fn behind(text: &[u8], words: u32) -> &[u8] {
-    let mut rest = text;
-    for _ in 0..words {
-        let (_, more) = cut(rest);
-        rest = more;
-    }
-    rest
-}
-
-/// The word at a place, from 0.
-pub(crate) fn word_at(text: &[u8], place: u32) -> &[u8] {
-    let (word, _) = cut(behind(text, place));
-    word
-}
-
 /// The entry that a line may be.
-fn guess_entry(alloc: Global, line: &[u8]) -> Result<Entry, NoMemory> {
-    let (number, rest) = cut(line);
-    let event = long(number);
-    let line = line_of(alloc, rest)?;
+#[tactic(auto, unfolding(crate::specs::Guesses::guessed_entry))]
+fn guess_entry(alloc: Global, line: &[u8]) -> Result<Entry, NoMemory>
+    ensures { IfOk result (λ e. e ≡ guessed_entry line.now) }
+{
+    let event = long(first(line));
+    let line = line_of(alloc, rest(line))?;
     Ok(Entry { event, line })
 }
 
@@ -73,9 +34,11 @@ fn is_entry(alloc: Global, entry: &Entry, line: &[u8]) -> Result<bool, NoMemory>
     Ok(text.as_slice() == line)
 }
 
-/// This entry if the line is its text.
+/// This entry if the line is its text. Condition: it is the one that the line may be.
 fn if_entry(alloc: Global, entry: Entry, line: &[u8]) -> Result<Option<Entry>, NoMemory>
-    ensures { IfOk result (λ r. IfSome r (λ e. spec.entry_text e ≡ line.now)) }
+    requires { entry ≡ guessed_entry line.now }
+    ensures is { IfOk result (λ r. IfSome r (λ e. reads.IsReadAs line.now e)) }
+    ensures other { IfOk result (λ r. r ≡ None → reads.IsNoEntry line.now) }
 {
     match is_entry(alloc, &entry, line) {
         Ok(true) => Ok(Some(entry)),
@@ -84,9 +47,11 @@ fn if_entry(alloc: Global, entry: Entry, line: &[u8]) -> Result<Option<Entry>, N
     }
 }
 
-/// The entry whose text a line is. It is guessed, printed and compared.
+/// The entry whose text a line is, where it is one's. It is guessed, printed and compared.
+#[tactic(auto, using(crate::proofs::Again::no_text))]
 pub(crate) fn read_entry(alloc: Global, line: &[u8]) -> Result<Option<Entry>, NoMemory>
-    ensures { IfOk result (λ r. IfSome r (λ e. spec.entry_text e ≡ line.now)) }
+    ensures is { IfOk result (λ r. IfSome r (λ e. reads.IsReadAs line.now e)) }
+    ensures other { IfOk result (λ r. r ≡ None → reads.IsNoEntry line.now) }
 {
     if str::from_utf8(line).is_err() {
         return Ok(None);
@@ -95,15 +60,29 @@ pub(crate) fn read_entry(alloc: Global, line: &[u8]) -> Result<Option<Entry>, No
     if_entry(alloc, entry, line)
 }
 
+/// The number behind a word.
+fn named(text: &[u8]) -> u64
+    ensures { result ≡ named_of text.now }
+{
+    long(first(rest(text)))
+}
+
 /// The row that a line may be.
-fn guess_row(line: &[u8]) -> Row {
+#[tactic(auto, unfolding(crate::specs::Guesses::guessed_row))]
+fn guess_row(line: &[u8]) -> Row
+    ensures { result ≡ guessed_row line.now }
+{
+    let granted = rest(line);
+    let hops = behind_two(granted);
+    let evals = behind_two(hops);
+    let live = behind_two(evals);
     Row {
-        family: family_of(word_at(line, 0)),
-        granted: long(word_at(line, 2)),
-        hops: long(word_at(line, 4)),
-        evals: long(word_at(line, 6)),
-        live: long(word_at(line, 8)),
-        left: long(word_at(line, 10)),
+        family: family_of(first(line)),
+        granted: named(granted),
+        hops: named(hops),
+        evals: named(evals),
+        live: named(live),
+        left: named(behind_two(live)),
     }
 }
 
@@ -116,9 +95,11 @@ fn is_row(alloc: Global, row: Row, line: &[u8]) -> Result<bool, NoMemory>
     Ok(text.as_slice() == line)
 }
 
-/// The row whose text a line is. It is guessed, printed and compared.
+/// The row whose text a line is, where it is one's. It is guessed, printed and compared.
+#[tactic(auto, using(crate::proofs::Rows::no_row, crate::proofs::Rows::only_row))]
 pub(crate) fn read_row(alloc: Global, line: &[u8]) -> Result<Option<Row>, NoMemory>
-    ensures { IfOk result (λ r. IfSome r (λ row. whole.row_text row ≡ line.now)) }
+    ensures is { IfOk result (λ r. IfSome r (λ row. reads.IsReadRow line.now row)) }
+    ensures other { IfOk result (λ r. r ≡ None → reads.IsNoRow line.now) }
 {
     let row = guess_row(line);
     if is_row(alloc, row, line)? {

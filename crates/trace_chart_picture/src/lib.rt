@@ -2,11 +2,13 @@
 #![tactic(auto)]
 
 mod charts;
+mod cuts;
 mod drawing;
 mod entry;
 mod escape;
 mod events;
 mod lanes;
+mod laws;
 mod ledger;
 mod line;
 mod marks;
@@ -26,6 +28,7 @@ mod write;
 pub use charts::{ChartFault, MOST_BYTES, chart};
 pub use drawing::{Drawing, Kind, Lane, LineStyle, MOST_HOSTS, Mark, Point};
 pub use escape::put_escaped;
+pub use laws::{marks_lie_inside, strokes_agree};
 pub use line::{Entry, Line, Reason, Row, Trace, What};
 pub use marks::{DrawFault, draw};
 pub use number::put_number;

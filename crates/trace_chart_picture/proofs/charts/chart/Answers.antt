@@ -4,7 +4,7 @@ pub returns-clause-chart : goal.returns-clause-chart
 returns-clause-chart c = record {
   trace = c.in_ok-trace.trace;
   drawing = c.in_ok-drawing.drawing;
-  read = c.in_ok-trace.ensures;
+  read = c.in_ok-trace.ensures.read;
   drawn = c.in_ok-drawing.ensures.drawn;
   written = c.in_ok-picture.ensures;
 }
